@@ -1,0 +1,3 @@
+pub mod NeverHeap
+pub mod Admitted
+pub mod Types

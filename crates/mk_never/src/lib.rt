@@ -1,13 +1,13 @@
-// A library with one function.
+//! The heap that never reuses storage: what a program may rely on, as plain data and as a machine of
+//! one thread. It has no addresses, no pages, no quarantine and no marks.
 #![tactic(auto)]
 
-ghost use Rattle.std.specs.Prelude.{◌≡◌};
-ghost use Rattle.mk_never.specs.Echo.{echo_of};
+mod never_heap;
+mod operations;
+mod types;
+mod values;
 
-// The `ensures` clause is the contract: what `echo` returns is `echo_of` of its argument, a definition
-// in `specs/Echo.antt`, which a caller's clause can cite too.
-pub fn echo(x: usize) -> usize
-    ensures { result ≡ echo_of x }
-{
-    x
-}
+pub use never_heap::{NeverHeap, NoMemory};
+pub use operations::{Op, Reply};
+pub use types::{Kind, TypeTable};
+pub use values::Value;

@@ -1,0 +1,125 @@
+-- Which operations the heap that never reuses storage is asked: what a checked program keeps to.
+use Rattle.std.specs.Prelude.{◌≡◌, ℕ, ◌+◌, ◌*◌, ◌<◌, List, [], ◌∷◌, length, slice_index_or, slice_get, IfSome}
+use Rattle.mk_never.specs.declared.types.Kind.{Kind}
+use Rattle.mk_never.specs.declared.types.Kind.TheVariants.{Num as Number, To}
+use Rattle.mk_never.specs.declared.values.Value.{Value}
+use Rattle.mk_never.specs.declared.values.Value.TheVariants.{Null, Num, Ptr}
+use Rattle.mk_never.specs.declared.operations.Op.{Op}
+use Rattle.mk_never.specs.declared.operations.Op.TheVariants.{New, Free, GetNum, SetNum, GetPtr, SetPtr, CasPtr, Lea, Move, Clear, GetGlobal, SetGlobal, Same, IsNull}
+use Rattle.mk_never.specs.Types.{kinds_of}
+use Rattle.mk_never.specs.NeverHeap.{NeverState, Call, register_at, allocation_at, words_of, after_op}
+
+-- The operation's registers, global and type are in range.
+abbrev pub OperandsAreInRange : NeverState → Op → Type 0
+OperandsAreInRange n (New d ty full) = (d < 8) × (ty < length n.types)
+OperandsAreInRange n (Free p) = p < 8
+OperandsAreInRange n (GetNum q i) = q < 8
+OperandsAreInRange n (SetNum q i m) = q < 8
+OperandsAreInRange n (GetPtr d q i) = (d < 8) × (q < 8)
+OperandsAreInRange n (SetPtr q i p) = (q < 8) × (p < 8)
+OperandsAreInRange n (CasPtr q i p r) = (q < 8) × (p < 8) × (r < 8)
+OperandsAreInRange n (Lea d q i) = (d < 8) × (q < 8)
+OperandsAreInRange n (Move d q) = (d < 8) × (q < 8)
+OperandsAreInRange n (Clear d) = d < 8
+OperandsAreInRange n (GetGlobal d g) = (d < 8) × (g < length n.globals)
+OperandsAreInRange n (SetGlobal g p) = (g < length n.globals) × (p < 8)
+OperandsAreInRange n (Same p q) = (p < 8) × (q < 8)
+OperandsAreInRange n (IsNull p) = p < 8
+
+-- The caller has its registers.
+abbrev pub IsCaller : NeverState → ℕ → Type 0
+IsCaller n caller = 8 * caller + 7 < length n.registers
+
+-- Where the value is a pointer, the word i words on is inside its allocation, and P holds of the word's kind.
+abbrev pub Meets : NeverState → Value → ℕ → (Kind → Type 0) → Type 0
+Meets n Null i P = Unit {0}
+Meets n (Num m) i P = Unit {0}
+Meets n (Ptr number ty offset) i P =
+    (offset + i < length (words_of n number)) × P (slice_index_or (kinds_of n.types (allocation_at n number).ty) (offset + i) Number)
+
+abbrev pub IsNumber : Kind → Type 0
+IsNumber Number = Unit {0}
+IsNumber (To ty offset) = ⊥
+
+abbrev pub IsPointer : Kind → Type 0
+IsPointer Number = ⊥
+IsPointer (To ty offset) = Unit {0}
+
+-- The access is admitted by the type and the offset of the pointer in its register, where that isn't null.
+abbrev pub AccessIsAdmitted : NeverState → ℕ → Op → Type 0
+AccessIsAdmitted n c (New d ty full) = Unit {0}
+AccessIsAdmitted n c (Free p) = Unit {0}
+AccessIsAdmitted n c (GetNum q i) = Meets n (register_at n c q) i IsNumber
+AccessIsAdmitted n c (SetNum q i m) = Meets n (register_at n c q) i IsNumber
+AccessIsAdmitted n c (GetPtr d q i) = Meets n (register_at n c q) i IsPointer
+AccessIsAdmitted n c (SetPtr q i p) = Meets n (register_at n c q) i IsPointer
+AccessIsAdmitted n c (CasPtr q i p r) = Meets n (register_at n c q) i IsPointer
+AccessIsAdmitted n c (Lea d q i) = Meets n (register_at n c q) i (λ kind. Unit {0})
+AccessIsAdmitted n c (Move d q) = Unit {0}
+AccessIsAdmitted n c (Clear d) = Unit {0}
+AccessIsAdmitted n c (GetGlobal d g) = Unit {0}
+AccessIsAdmitted n c (SetGlobal g p) = Unit {0}
+AccessIsAdmitted n c (Same p q) = Unit {0}
+AccessIsAdmitted n c (IsNull p) = Unit {0}
+
+-- Null, or a pointer of the word's type and offset
+abbrev pub IsOfKind : Value → Kind → Type 0
+IsOfKind Null Number = ⊥
+IsOfKind Null (To ty offset) = Unit {0}
+IsOfKind (Num m) kind = ⊥
+IsOfKind (Ptr number ty offset) Number = ⊥
+IsOfKind (Ptr number ty offset) (To ty' offset') = (ty ≡ ty') × (offset ≡ offset')
+
+-- Null, or a pointer to its allocation's first word
+abbrev pub IsBase : Value → Type 0
+IsBase Null = Unit {0}
+IsBase (Num m) = ⊥
+IsBase (Ptr number ty offset) = offset ≡ 0
+
+-- What the operation stores has the type and the offset of the place, and what it frees is a whole allocation.
+-- Global g has the type at place g of the list; a global behind the list has none.
+abbrev pub StoreIsAdmitted : List ℕ → NeverState → ℕ → Op → Type 0
+StoreIsAdmitted globals n c (New d ty full) = Unit {0}
+StoreIsAdmitted globals n c (Free p) = IsBase (register_at n c p)
+StoreIsAdmitted globals n c (GetNum q i) = Unit {0}
+StoreIsAdmitted globals n c (SetNum q i m) = Unit {0}
+StoreIsAdmitted globals n c (GetPtr d q i) = Unit {0}
+StoreIsAdmitted globals n c (SetPtr q i p) = Meets n (register_at n c q) i (IsOfKind (register_at n c p))
+StoreIsAdmitted globals n c (CasPtr q i p r) =
+    Meets n (register_at n c q) i (λ kind. IsOfKind (register_at n c p) kind × IsOfKind (register_at n c r) kind)
+StoreIsAdmitted globals n c (Lea d q i) = Unit {0}
+StoreIsAdmitted globals n c (Move d q) = Unit {0}
+StoreIsAdmitted globals n c (Clear d) = Unit {0}
+StoreIsAdmitted globals n c (GetGlobal d g) = Unit {0}
+StoreIsAdmitted globals n c (SetGlobal g p) = IfSome (slice_get globals g) (λ ty. IsOfKind (register_at n c p) (To ty 0))
+StoreIsAdmitted globals n c (Same p q) = Unit {0}
+StoreIsAdmitted globals n c (IsNull p) = Unit {0}
+
+-- what is asked of an operation at its place
+pub record IsAdmitted (globals : List ℕ) (n : NeverState) (caller : ℕ) (op : Op) : Type 0 where
+  pub of_a_caller : IsCaller n caller
+  pub in_range : OperandsAreInRange n op
+  pub access : AccessIsAdmitted n caller op
+  pub store : StoreIsAdmitted globals n caller op
+
+-- Each operation is admitted at its place.
+abbrev pub AreAdmitted : List ℕ → NeverState → List Call → Type 0
+AreAdmitted globals n [] = Unit {0}
+AreAdmitted globals n (x ∷ xs) = IsAdmitted globals n x.caller x.op × AreAdmitted globals (after_op n x.caller x.op) xs
+
+-- the operations that the machine has so far
+abbrev pub IsBuilt : Op → Type 0
+IsBuilt (New d ty full) = Unit {0}
+IsBuilt (Free p) = ⊥
+IsBuilt (GetNum q i) = Unit {0}
+IsBuilt (SetNum q i m) = Unit {0}
+IsBuilt (GetPtr d q i) = ⊥
+IsBuilt (SetPtr q i p) = ⊥
+IsBuilt (CasPtr q i p r) = ⊥
+IsBuilt (Lea d q i) = ⊥
+IsBuilt (Move d q) = ⊥
+IsBuilt (Clear d) = ⊥
+IsBuilt (GetGlobal d g) = ⊥
+IsBuilt (SetGlobal g p) = ⊥
+IsBuilt (Same p q) = ⊥
+IsBuilt (IsNull p) = ⊥

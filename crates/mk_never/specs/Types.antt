@@ -1,0 +1,22 @@
+-- Types: lists of kinds, one kind a word.
+use Rattle.std.specs.Prelude.{ℕ, Bool, List, [], length, nat_lt, slice_index_or, map}
+use Rattle.mk_never.specs.declared.types.Kind.{Kind}
+use Rattle.mk_never.specs.declared.types.Kind.TheVariants.{Num, To}
+use Rattle.mk_never.specs.declared.values.Value.{Value}
+use Rattle.mk_never.specs.declared.values.Value.TheVariants.{Null, Num as Number}
+
+-- the kinds of a type's words
+abbrev pub kinds_of : List (List Kind) → ℕ → List Kind
+kinds_of types ty = slice_index_or types ty []
+
+-- of more than 32 words
+abbrev pub is_large : {A : Type 0} → List A → Bool
+is_large words = nat_lt 32 (length words)
+
+-- what a word of a new object is: a number 0, or no pointer
+abbrev pub zero_of : Kind → Value
+zero_of Num = Number 0
+zero_of (To ty offset) = Null
+
+abbrev pub zero_words : List Kind → List Value
+zero_words kinds = map zero_of kinds

@@ -1,0 +1,79 @@
+//! Types: what each word of an object holds.
+ghost use Rattle.std.specs.Prelude.{◌≡◌, ◌<◌, length, [], ◌∷◌, ◌++◌, IfOk, OnOk, OnErr};
+ghost use Rattle.mk_never.specs.Types.{kinds_of};
+
+use crate::NoMemory;
+use std::alloc::Global;
+use std::marker::Model;
+
+/// What a word of a type holds.
+#[derive(Clone, Copy, Debug, PartialEq, Eq)]
+pub enum Kind {
+    /// A number.
+    Num,
+    /// A pointer to a word of a type, counted from the type's first word, 0.
+    To { ty: u64, offset: u64 },
+}
+
+/// The types of a program, numbered from 0, each a list of kinds, one kind a word.
+#[derive(Drop)]
+pub struct TypeTable {
+    types: Vec<Vec<Kind>>,
+}
+
+impl Model for TypeTable {
+    ghost use Rattle.std.specs.Prelude.{List, map};
+    ghost use Rattle.mk_never.specs.declared.types.Kind.{Kind};
+
+    ghost Value = { List (List Kind) };
+
+    ghost view = { λ t. map (λ kinds. kinds.items) t.types.items };
+}
+
+impl TypeTable {
+    /// No types. The allocator is kept for `add`; no memory is taken.
+    pub fn new(alloc: Global) -> TypeTable
+        ensures { result ≡ [] }
+    {
+        TypeTable {
+            types: Vec::new(alloc),
+        }
+    }
+
+    /// Appends a type, whose number is the count of the types before it.
+    pub fn add(&mut self, kinds: Vec<Kind>) -> Result<(), NoMemory>
+        ensures added { OnOk result (self.new ≡ self.old ++ kinds.items ∷ []) }
+        ensures unchanged { OnErr result (self.new ≡ self.old) }
+    {
+        self.types.push(kinds).map_err(|_| NoMemory)
+    }
+
+    /// The kinds of a type.
+    pub fn kinds(&self, ty: u64) -> &[Kind]
+        requires { ty < length self.now }
+        ensures { result.now ≡ kinds_of self.now ty }
+    {
+        self.types[ty as usize].as_slice()
+    }
+
+    /// How many types there are.
+    pub fn count(&self) -> u64
+        ensures { result ≡ length self.now }
+    {
+        self.types.len() as u64
+    }
+
+    /// The same types, in memory of their own.
+    pub fn try_clone(&self, alloc: Global) -> Result<TypeTable, NoMemory>
+        ensures { IfOk result (λ copy. copy ≡ self.now) }
+    {
+        let mut copy = TypeTable::new(alloc);
+        for ty in 0..self.count() {
+            let Ok(kinds) = self.kinds(ty).to_vec(alloc) else {
+                return Err(NoMemory);
+            };
+            copy.add(kinds)?;
+        }
+        Ok(copy)
+    }
+}
