@@ -1,0 +1,5 @@
+pub mod Bytes
+pub mod Faults
+pub mod MemSink
+pub mod MemSource
+pub mod Stream

@@ -1,13 +1,24 @@
-// A library with one function.
+//! Where bytes come from and where they go: sources and sinks that count their faults.
 #![tactic(auto)]
 
-ghost use Rattle.std.specs.Prelude.{◌≡◌};
-ghost use Rattle.mk_io.specs.Echo.{echo_of};
+mod memory;
+mod reading;
+mod sinks;
+mod sources;
+mod streams;
+mod writing;
 
-// The `ensures` clause is the contract: what `echo` returns is `echo_of` of its argument, a definition
-// in `specs/Echo.antt`, which a caller's clause can cite too.
-pub fn echo(x: usize) -> usize
-    ensures { result ≡ echo_of x }
-{
-    x
-}
+pub use memory::{MemSink, MemSource};
+pub use reading::{INPUT_LIMIT, ReadStop, read_all};
+pub use sinks::Sink;
+pub use sources::Source;
+pub use streams::{StdinSource, StdoutSink};
+pub use writing::write_all;
+
+/// A call of a source or a sink that failed, and moved no byte.
+#[derive(Clone, Copy, Debug, PartialEq, Eq)]
+pub struct Failed;
+
+/// There was no memory for what was asked.
+#[derive(Clone, Copy, Debug, PartialEq, Eq)]
+pub struct NoMemory;

@@ -157,7 +157,7 @@ after_op n c (GetPtr d q i) =
 after_op n c (SetPtr q i p) = left_at (target_of n (register_at n c q) i) n (λ a w. with_word n a w (register_at n c p))
 after_op n c (CasPtr q i p r) =
     left_at (target_of n (register_at n c q) i) n
-      (λ a w. if is_same (word_at n a w) (register_at n c p) then with_word n a w (register_at n c r) else n)
+    (λ a w. if is_same (word_at n a w) (register_at n c p) then with_word n a w (register_at n c r) else n)
 after_op n c (Lea d q i) = with_register n c d (moved_on (register_at n c q) i)
 after_op n c (Move d q) = with_register n c d (register_at n c q)
 after_op n c (Clear d) = with_register n c d Null

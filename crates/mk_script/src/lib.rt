@@ -1,13 +1,16 @@
-// A library with one function.
+//! The script language: its items, and the reader of its texts.
 #![tactic(auto)]
 
-ghost use Rattle.std.specs.Prelude.{◌≡◌};
-ghost use Rattle.mk_script.specs.Echo.{echo_of};
+mod forms;
+mod items;
+mod names;
+mod narrow_form;
+mod numbers;
+mod parsing;
+mod program;
+mod splitting;
 
-// The `ensures` clause is the contract: what `echo` returns is `echo_of` of its argument, a definition
-// in `specs/Echo.antt`, which a caller's clause can cite too.
-pub fn echo(x: usize) -> usize
-    ensures { result ≡ echo_of x }
-{
-    x
-}
+pub use items::{At, Item, TypeWord, TypeWords};
+pub use names::Name;
+pub use parsing::parse;
+pub use program::Program;

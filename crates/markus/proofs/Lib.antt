@@ -1,0 +1,4 @@
+pub mod Continues
+pub mod Stands
+pub mod Whole
+pub mod Within

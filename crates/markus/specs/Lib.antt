@@ -1,0 +1,4 @@
+pub mod Commands
+pub mod Plain
+pub mod RunText
+pub mod Statuses

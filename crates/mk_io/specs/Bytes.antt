@@ -1,0 +1,39 @@
+-- The bytes that a source has left, and those that a sink has taken. `None` stands for one that
+-- does not tell them: of it these words claim nothing.
+use Rattle.std.specs.Prelude.{◌≡◌, ℕ, ◌<◌, ◌≤◌, List, [], ◌++◌, length, take, drop, Some, IfSome}
+use Rattle.std.specs.declared.option.Option.{Option}
+
+-- how many bytes an input may have: one MiB
+abbrev pub longest_input : ℕ
+longest_input = 1048576
+
+-- a source had these bytes at the front of what was left, and has now what comes after them
+abbrev pub Takes : Option (List ℕ) → Option (List ℕ) → List ℕ → Type 0
+Takes old new bytes =
+    IfSome old (λ left.
+    (take (length bytes) left ≡ bytes) × (new ≡ Some (drop (length bytes) left)))
+
+-- a source had at least this many bytes left, and has now what comes after them
+abbrev pub TakesCount : Option (List ℕ) → Option (List ℕ) → ℕ → Type 0
+TakesCount old new count =
+    IfSome old (λ left. (count ≤ length left) × (new ≡ Some (drop count left)))
+
+-- the same of some number of bytes up to a limit
+abbrev pub TakesAtMost : Option (List ℕ) → Option (List ℕ) → ℕ → Type 0
+TakesAtMost old new limit = (count : ℕ) × (count ≤ limit) × TakesCount old new count
+
+-- a source had exactly these bytes left, and has none now
+abbrev pub TakesAll : Option (List ℕ) → Option (List ℕ) → List ℕ → Type 0
+TakesAll old new bytes = IfSome old (λ left. (bytes ≡ left) × (new ≡ Some []))
+
+-- a source has no byte left
+abbrev pub IsAtEnd : Option (List ℕ) → Type 0
+IsAtEnd told = IfSome told (λ left. left ≡ [])
+
+-- a sink has now what it had taken, with these bytes at the end
+abbrev pub Appends : Option (List ℕ) → Option (List ℕ) → List ℕ → Type 0
+Appends old new bytes = IfSome old (λ taken. new ≡ Some (taken ++ bytes))
+
+-- a sink has now what it had taken, with some of these bytes at the end, from the front and not all
+abbrev pub AppendsPart : Option (List ℕ) → Option (List ℕ) → List ℕ → Type 0
+AppendsPart old new bytes = (n : ℕ) × (n < length bytes) × Appends old new (take n bytes)

@@ -1,0 +1,32 @@
+// What bytes are read from.
+ghost use Rattle.std.specs.Prelude.{◌≡◌, ℕ, List, ◌<◌, ◌≤◌, length, take, IfOk, OnOk, OnErr};
+ghost use Rattle.std.specs.declared.option.Option.{Option};
+ghost use Rattle.mk_io.specs.Bytes.{Takes, IsAtEnd};
+ghost use Rattle.mk_io.specs.Faults.{Rose};
+
+use crate::Failed;
+
+/// What bytes are read from, a part at a time.
+///
+/// The ghost member `left` is the bytes that are still to come, or `None` where the source doesn't
+/// tell them: then the clauses on content say nothing. `faults` counts the calls that failed.
+pub trait Source {
+    ghost left: { Self → Option (List ℕ) };
+
+    ghost faults: { Self → ℕ };
+
+    /// Reads some bytes to the front of `buf`, and returns how many. What stands behind them in
+    /// `buf` is left open.
+    ///
+    /// No byte, where `buf` has room for one, is the end of input.
+    fn read(&mut self, buf: &mut [u8]) -> Result<usize, Failed>
+        ensures within { IfOk result (λ n. n ≤ length buf.new) }
+        ensures bytes { IfOk result (λ n. Takes (left self.old) (left self.new) (take n buf.new)) }
+        ensures end { IfOk result (λ n. n ≡ 0 → 0 < length buf.new → IsAtEnd (left self.old)) }
+
+        // A call that fails takes nothing, and is counted. No other is.
+        ensures err { OnErr result (left self.new ≡ left self.old) }
+        ensures fault { OnErr result (Rose (faults self.old) (faults self.new)) }
+        ensures no_fault { OnOk result (faults self.new ≡ faults self.old) }
+        ensures never_falls { faults self.old ≤ faults self.new };
+}

@@ -1,0 +1,4 @@
+mod Digits
+mod LastPiece
+pub mod Narrow
+mod Operands

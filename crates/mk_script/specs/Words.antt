@@ -1,0 +1,24 @@
+-- A text as lines, and a line as words.
+use Rattle.std.specs.Prelude.{ℕ, Bool, not, List, [], ◌∷◌, length, map, filter, ◌==◌, if◌then◌else◌}
+use Rattle.std.specs.Borrow.{Bor}
+use Rattle.std.specs.List.{slice_split}
+
+-- lines or words that are borrowed, as texts
+abbrev pub texts_of : List (Bor (List ℕ)) → List (List ℕ)
+texts_of texts = map (λ text. text.now) texts
+
+abbrev pub without_empty_last : List (List ℕ) → List (List ℕ)
+without_empty_last [] = []
+without_empty_last (x ∷ []) = if length x == 0 then [] else x ∷ []
+without_empty_last (x ∷ y ∷ more) = x ∷ without_empty_last (y ∷ more)
+
+-- The lines of a text: each is ended by a newline, and the last may lack it.
+abbrev pub lines_of : List ℕ → List (List ℕ)
+lines_of text = without_empty_last (slice_split (λ byte. byte == 10) text)
+
+abbrev pub is_empty : List ℕ → Bool
+is_empty word = length word == 0
+
+-- The words of a line: what stands between spaces. No other byte separates words.
+abbrev pub words_of : List ℕ → List (List ℕ)
+words_of line = filter (λ word. not (is_empty word)) (slice_split (λ byte. byte == 32) line)

@@ -1,0 +1,113 @@
+//! What a line of a script text says.
+
+use crate::Name;
+use std::marker::Model;
+
+/// Where a pointer points: a word of a type, counted from the type's first word, 0.
+#[derive(Drop)]
+pub struct At {
+    pub name: Name,
+    pub offset: u64,
+}
+
+/// A word of a type.
+#[derive(Drop)]
+pub enum TypeWord {
+    Number,
+    Pointer(At),
+}
+
+/// The words of a type, one by one.
+#[derive(Drop)]
+pub struct TypeWords {
+    words: Vec<TypeWord>,
+}
+
+impl Model for TypeWords {
+    ghost use Rattle.std.specs.Prelude.{List};
+    ghost use Rattle.mk_script.specs.declared.items.TypeWord.{TypeWord};
+
+    ghost Value = { List TypeWord };
+
+    ghost view = { λ t. t.words.items };
+}
+
+impl TypeWords {
+    ghost use Rattle.std.specs.Prelude.{◌≡◌};
+
+    /// The same words.
+    pub fn from_vec(words: Vec<TypeWord>) -> TypeWords
+        ensures { result ≡ words.items }
+    {
+        TypeWords { words }
+    }
+
+    /// The same words.
+    pub fn into_vec(self) -> Vec<TypeWord>
+        ensures { result.items ≡ self }
+    {
+        let TypeWords { words } = self;
+        words
+    }
+
+    /// The words.
+    pub fn as_slice(&self) -> &[TypeWord]
+        ensures { result.now ≡ self.now }
+    {
+        self.words.as_slice()
+    }
+}
+
+/// A line of a script text. Registers, types and scripts are named as in the text.
+#[derive(Drop)]
+pub enum Item {
+    /// `heap PAGES RESIDENT`
+    Heap {
+        pages: u64,
+        resident: u64,
+    },
+    /// `type T F ..`
+    TypeLine {
+        name: Name,
+        words: TypeWords,
+    },
+    /// `script S`
+    Script {
+        name: Name,
+    },
+    /// `ptr P AT`
+    Ptr {
+        name: Name,
+        at: At,
+    },
+    /// `num N`
+    Num {
+        name: Name,
+    },
+    /// `new P T`
+    New {
+        pointer: Name,
+        ty: Name,
+    },
+    /// `getn N Q i`
+    Getn {
+        number: Name,
+        pointer: Name,
+        index: u64,
+    },
+    /// `setn Q i N`
+    Setn {
+        pointer: Name,
+        index: u64,
+        number: Name,
+    },
+    /// `const N k`
+    Const {
+        number: Name,
+        value: u64,
+    },
+    /// `print N`
+    Print {
+        number: Name,
+    },
+}

@@ -1,0 +1,75 @@
+//! Names of types, scripts and registers.
+ghost use Rattle.std.specs.Prelude.{◌≡◌};
+ghost use Rattle.mk_script.specs.Names.{name_of};
+ghost use Rattle.mk_script.specs.Names as spec;
+ghost use Rattle.std.specs.List.{list_all};
+ghost use Rattle.std.specs.Str.{bytes_eq};
+
+use std::marker::Model;
+
+/// A name: 1 to 16 letters, digits or `_` of ASCII, the first of them a letter.
+#[derive(Drop)]
+pub struct Name {
+    bytes: [u8; 16],
+    length: usize,
+}
+
+impl Model for Name {
+    ghost use Rattle.std.specs.Prelude.{ℕ, List, take, ◌≤◌};
+
+    ghost Value = { List ℕ };
+
+    ghost view = { λ n. take n.length n.bytes };
+
+    ghost invariant = { λ n. n.length ≤ 16 };
+}
+
+fn is_name_byte(byte: u8) -> bool
+    ensures { result ≡ spec.is_name_byte byte }
+{
+    byte.is_ascii_alphanumeric() || byte == b'_'
+}
+
+fn are_name_bytes(word: &[u8]) -> bool
+    ensures { result ≡ list_all spec.is_name_byte word.now }
+{
+    word.iter().all(|byte| is_name_byte(*byte))
+}
+
+fn is_name(word: &[u8]) -> bool
+    ensures { result ≡ spec.is_name word.now }
+{
+    let [first, ..] = word else {
+        return false;
+    };
+    word.len() <= 16 && first.is_ascii_alphabetic() && are_name_bytes(word)
+}
+
+impl Name {
+    /// The name that the word is.
+    pub fn from_word(word: &[u8]) -> Option<Name>
+        ensures { result ≡ name_of word.now }
+    {
+        if !is_name(word) {
+            return None;
+        }
+        let mut bytes = [0; 16];
+        let length = word.len();
+        bytes[..length].copy_from_slice(word);
+        Some(Name { bytes, length })
+    }
+
+    /// Its bytes.
+    pub fn as_bytes(&self) -> &[u8]
+        ensures { result.now ≡ self.now }
+    {
+        &self.bytes[..self.length]
+    }
+
+    /// Whether it is the other name.
+    pub fn is(&self, other: &Name) -> bool
+        ensures { result ≡ bytes_eq self.now other.now }
+    {
+        self.as_bytes() == other.as_bytes()
+    }
+}
