@@ -106,20 +106,3 @@ pub record IsAdmitted (globals : List ℕ) (n : NeverState) (caller : ℕ) (op :
 abbrev pub AreAdmitted : List ℕ → NeverState → List Call → Type 0
 AreAdmitted globals n [] = Unit {0}
 AreAdmitted globals n (x ∷ xs) = IsAdmitted globals n x.caller x.op × AreAdmitted globals (after_op n x.caller x.op) xs
-
--- the operations that the machine has so far
-abbrev pub IsBuilt : Op → Type 0
-IsBuilt (New d ty full) = Unit {0}
-IsBuilt (Free p) = ⊥
-IsBuilt (GetNum q i) = Unit {0}
-IsBuilt (SetNum q i m) = Unit {0}
-IsBuilt (GetPtr d q i) = ⊥
-IsBuilt (SetPtr q i p) = ⊥
-IsBuilt (CasPtr q i p r) = ⊥
-IsBuilt (Lea d q i) = ⊥
-IsBuilt (Move d q) = ⊥
-IsBuilt (Clear d) = ⊥
-IsBuilt (GetGlobal d g) = ⊥
-IsBuilt (SetGlobal g p) = ⊥
-IsBuilt (Same p q) = ⊥
-IsBuilt (IsNull p) = ⊥

@@ -1,11 +1,13 @@
 //! The heap that never reuses storage, as a machine of one thread.
 ghost use Rattle.std.specs.Prelude.{◌≡◌, ◌+◌, ◌*◌, ◌^◌, ◌<◌, length, if◌then◌else◌, IfOk, OnOk, OnErr};
 ghost use Rattle.mk_never.specs.Types.{kinds_of, zero_of, zero_words, is_large};
-ghost use Rattle.mk_never.specs.NeverHeap.{start_of, register_at, with_register, word_at, words_of, with_word, with_new, with_freed, target_of, allocation_at, is_unmapped, number_of, is_same, bit, reply_of, after_op};
-ghost use Rattle.mk_never.specs.Admitted.{IsCaller, OperandsAreInRange, AccessIsAdmitted, IsBuilt, Meets};
+ghost use Rattle.mk_never.specs.NeverHeap.{start_of, register_at, with_register, word_at, words_of, with_word, with_new, with_freed, target_of, allocation_at, is_unmapped, number_of, is_same, bit};
+ghost use Rattle.mk_never.specs.Admitted.{IsCaller, Meets};
+
+mod applying;
 
 use crate::values::Target;
-use crate::{Kind, Op, Reply, TypeTable, Value};
+use crate::{Kind, Reply, TypeTable, Value};
 use std::alloc::Global;
 use std::marker::Model;
 
@@ -156,6 +158,33 @@ impl NeverHeap {
         object.words[place as usize] = value;
     }
 
+    /// The word `i` words behind a word of an object.
+    fn place_behind(&self, number: u64, offset: u64, i: u64) -> u64
+        requires { offset + i < length (words_of self.now number) }
+        ensures { result ≡ offset + i }
+    {
+        let object = &self.objects[number as usize];
+        let _words = object.words.len();
+        offset + i
+    }
+
+    /// Marks an object as freed, where there is one.
+    fn set_freed(&mut self, number: u64) -> Reply
+        ensures reply { result ≡ (if (allocation_at self.old number).freed then Reply.Double else Reply.Done) }
+        ensures left { self.new ≡ with_freed self.old number }
+    {
+        let number = number as usize;
+        if number >= self.objects.len() {
+            return Reply::Done;
+        }
+        let object = &mut self.objects[number];
+        if object.freed {
+            return Reply::Double;
+        }
+        object.freed = true;
+        Reply::Done
+    }
+
     /// What the access through the value reaches, `i` words on.
     fn target(&self, value: Value, i: u64) -> Target
         requires { Meets self.now value i (λ kind. Unit {0}) }
@@ -192,75 +221,6 @@ impl NeverHeap {
         match self.objects.push(object) {
             Ok(()) => Ok(()),
             Err(_) => Err(NoMemory),
-        }
-    }
-
-    /// Does the operation of a caller. `NoMemory` comes from a `New` alone.
-    pub fn apply(&mut self, caller: u64, op: Op) -> Result<Reply, NoMemory>
-        requires caller { IsCaller self.old caller }
-        requires in_range { OperandsAreInRange self.old op }
-        requires access { AccessIsAdmitted self.old caller op }
-        requires built { IsBuilt op }
-        ensures reply { IfOk result (λ reply. reply ≡ reply_of self.old caller op) }
-        ensures left { OnOk result (self.new ≡ after_op self.old caller op) }
-        ensures unchanged { OnErr result (self.new ≡ self.old) }
-    {
-        match op {
-            Op::New { d, ty, full } => self.new_object(caller, d, ty, full),
-            Op::GetNum { q, i } => Ok(self.get_num(caller, q, i)),
-            Op::SetNum { q, i, n } => Ok(self.set_num(caller, q, i, n)),
-            _ => unreachable!(),
-        }
-    }
-
-    fn new_object(&mut self, caller: u64, d: u8, ty: u64, full: bool) -> Result<Reply, NoMemory>
-        requires caller { IsCaller self.old caller }
-        requires in_range { OperandsAreInRange self.old (Op.New d ty full) }
-        ensures reply { IfOk result (λ reply. reply ≡ reply_of self.old caller (Op.New d ty full)) }
-        ensures left { OnOk result (self.new ≡ after_op self.old caller (Op.New d ty full)) }
-        ensures unchanged { OnErr result (self.new ≡ self.old) }
-    {
-        if full {
-            return Ok(Reply::Full);
-        }
-        let number = self.objects.len() as u64;
-        self.allocate(ty)?;
-        let object = Value::Ptr {
-            number,
-            ty,
-            offset: 0,
-        };
-        self.set_register(caller, d, object);
-        Ok(Reply::Done)
-    }
-
-    fn get_num(&self, caller: u64, q: u8, i: u64) -> Reply
-        requires caller { IsCaller self.now caller }
-        requires in_range { OperandsAreInRange self.now (Op.GetNum q i) }
-        requires access { AccessIsAdmitted self.now caller (Op.GetNum q i) }
-        ensures { result ≡ reply_of self.now caller (Op.GetNum q i) }
-    {
-        match self.target(self.register(caller, q), i) {
-            Target::Nothing => Reply::Null,
-            Target::Unmapped => Reply::Fault,
-            Target::WordOf { number, place } => Reply::Num(number_in(self.word(number, place))),
-        }
-    }
-
-    fn set_num(&mut self, caller: u64, q: u8, i: u64, n: u64) -> Reply
-        requires caller { IsCaller self.old caller }
-        requires in_range { OperandsAreInRange self.old (Op.SetNum q i n) }
-        requires access { AccessIsAdmitted self.old caller (Op.SetNum q i n) }
-        ensures reply { result ≡ reply_of self.old caller (Op.SetNum q i n) }
-        ensures left { self.new ≡ after_op self.old caller (Op.SetNum q i n) }
-    {
-        match self.target(self.register(caller, q), i) {
-            Target::Nothing => Reply::Null,
-            Target::Unmapped => Reply::Fault,
-            Target::WordOf { number, place } => {
-                self.set_word(number, place, Value::Num(n));
-                Reply::Done
-            }
         }
     }
 }
