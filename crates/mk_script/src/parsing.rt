@@ -16,7 +16,7 @@ pub const TEXT_LIMIT: usize = 1_048_576;
 
 /// The program of a text, where the text is of the narrow form: one type of 1 to 32 numbers, one script
 /// with one pointer register and at most one number register, and lines `new`, `setn`, `getn`, `const`
-/// and `print`.
+/// and `print`. `None` for each other text, and for one of more than 1,048,576 bytes.
 pub fn parse(alloc: Global, bytes: &[u8]) -> Result<Option<Program>, NoMemory>
     ensures { IfOk result (λ found. found ≡ program_of bytes.now) }
 {
