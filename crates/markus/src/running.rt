@@ -178,6 +178,7 @@ pub fn run_script(alloc: Global, program: &Program) -> Result<Vec<u8>, NoMemory>
 {
     let parts = parts_of(program.items());
     let mut running = begin(alloc, parts.pages, parts.words, parts.name)?;
+    // Before them stand `heap`, `type`, `script` and `ptr`, a line each.
     running.run_lines(alloc, 5, parts.lines)?;
     Ok(running.text)
 }
