@@ -128,19 +128,21 @@ fn tells_each_status(rt: HostRuntime) -> Result<(), Fail> {
 fn never_reuses_in_memory(rt: HostRuntime) -> Result<(), Fail> {
     let alloc = rt.alloc();
     let mut types = TypeTable::new(alloc);
-    types
-        .add([Kind::Num].to_vec(alloc)?)
-        .map_err(|_| AllocError)?;
-    let mut heap = NeverHeap::start(alloc, &types, 1).map_err(|_| AllocError)?;
-    let load = Op::GetNum { q: 0, i: 0 };
-    assert_eq!(rt; heap.apply(0, load).expect(&rt, "memory"), Reply::Null);
+    let kinds = [Kind::Num].to_vec(alloc)?;
+    types.add(kinds).expect(&rt, "memory");
+    let mut heap = NeverHeap::start(alloc, &types, 1).expect(&rt, "memory");
     let new = Op::New {
         d: 0,
         ty: 0,
         full: false,
     };
-    assert_eq!(rt; heap.apply(0, new).expect(&rt, "memory"), Reply::Done);
     let store = Op::SetNum { q: 0, i: 0, n: 7 };
+    let free = Op::Free { p: 0 };
+    let load = Op::GetNum { q: 0, i: 0 };
+    assert_eq!(rt; heap.apply(0, new).expect(&rt, "memory"), Reply::Done);
     assert_eq!(rt; heap.apply(0, store).expect(&rt, "memory"), Reply::Done);
+    assert_eq!(rt; heap.apply(0, free).expect(&rt, "memory"), Reply::Done);
+    assert_eq!(rt; heap.apply(0, load).expect(&rt, "memory"), Reply::Num(7));
+    assert_eq!(rt; heap.apply(0, free).expect(&rt, "memory"), Reply::Double);
     Ok(())
 }

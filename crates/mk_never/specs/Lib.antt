@@ -1,3 +1,5 @@
 pub mod NeverHeap
 pub mod Admitted
 pub mod Types
+pub mod Laws
+pub mod Typed

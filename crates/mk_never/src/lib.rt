@@ -2,6 +2,7 @@
 //! one thread. It has no addresses, no pages, no quarantine and no marks.
 #![tactic(auto)]
 
+pub mod laws;
 mod never_heap;
 mod operations;
 mod types;

@@ -1,0 +1,9 @@
+pub mod Edits
+pub mod Later
+pub mod Fresh
+pub mod Registers
+pub mod Sameness
+pub mod Stores
+pub mod Soundness
+pub mod Typing
+pub mod TypedCalls

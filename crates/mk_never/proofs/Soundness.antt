@@ -1,0 +1,70 @@
+-- Sound values stay sound, and suit the kinds that they are of.
+use Rattle.std.proofs.Common.{◌≡◌, ℕ, zero, suc, ◌+◌, ◌<◌, List, [], ◌∷◌, length, map, get_or, sym, subst, ◌∙◌, inl, inr, arith}
+use Rattle.mk_never.specs.declared.types.Kind.{Kind}
+use Rattle.mk_never.specs.declared.types.Kind.TheVariants.{Num as Number, To}
+use Rattle.mk_never.specs.declared.values.Value.{Value}
+use Rattle.mk_never.specs.declared.values.Value.TheVariants.{Null, Num, Ptr}
+use Rattle.mk_never.specs.Types.{kinds_of, zero_of}
+use Rattle.mk_never.specs.NeverHeap.{NeverState, Allocation, allocation_at, words_of, moved_on}
+use Rattle.mk_never.specs.Admitted.{Meets, IsNumber, IsPointer, IsOfKind}
+use Rattle.mk_never.specs.Laws.{Continues}
+use Rattle.mk_never.specs.Typed.{IsPlaceIn, IsSound, Suits, IsTypedAllocation}
+
+-- In a type that has words, a place is one of them.
+pub place_is_inside : (kinds : List Kind) (offset : ℕ) → IsPlaceIn kinds offset → 0 < length kinds → offset < length kinds
+place_is_inside kinds offset (inl first) some = omega arith
+place_is_inside kinds offset (inr inside) some = inside
+
+pub sound_kept : (n m : NeverState) → Continues n m → (v : Value) → IsSound n v → IsSound m v
+sound_kept n m stays Null sound = tt
+sound_kept n m stays (Num k) sound = sound
+sound_kept n m stays (Ptr number ty offset) sound = (
+  (let there : number < length n.allocations = sound.0 in omega (arith, stays.count)),
+  sound.1 ∙ sym (stays.ty number sound.0),
+  subst (λ types. IsPlaceIn (kinds_of types ty) offset) (sym stays.types) sound.2,
+)
+
+pub suits_kept : (n m : NeverState) → Continues n m → (v : Value) (kind : Kind) → Suits n v kind → Suits m v kind
+suits_kept n m stays v Number suits = suits
+suits_kept n m stays v (To ty offset) suits = (sound_kept n m stays v suits.0, suits.1)
+
+pub allocation_kept : (n m : NeverState) → Continues n m → (a : Allocation) → IsTypedAllocation n a → IsTypedAllocation m a
+allocation_kept n m stays a typed =
+    record {
+      ty = subst (λ types. a.ty < length types) (sym stays.types) typed.ty;
+      size = subst (λ types. length a.words ≡ length (kinds_of types a.ty)) (sym stays.types) typed.size;
+      words = λ place h. subst (λ types. Suits m (get_or a.words place Null) (get_or (kinds_of types a.ty) place Number)) (sym stays.types)
+          (suits_kept n m stays _ _ (typed.words place h));
+    }
+
+pub number_suits : (n : NeverState) (m : ℕ) (kind : Kind) → IsNumber kind → Suits n (Num m) kind
+number_suits n m Number is = tt
+number_suits n m (To ty offset) is = absurd is
+
+pub pointer_suits : (n : NeverState) (v : Value) (kind : Kind) → IsSound n v → IsOfKind v kind → Suits n v kind
+pointer_suits n Null Number sound of_kind = absurd of_kind
+pointer_suits n (Num m) Number sound of_kind = absurd of_kind
+pointer_suits n (Ptr number ty offset) Number sound of_kind = absurd of_kind
+pointer_suits n v (To ty offset) sound of_kind = (sound, of_kind)
+
+pub suited_is_sound : (n : NeverState) (v : Value) (kind : Kind) → IsPointer kind → Suits n v kind → IsSound n v
+suited_is_sound n v Number is suits = absurd is
+suited_is_sound n v (To ty offset) is suits = suits.0
+
+-- a zero word suits its kind
+pub zero_suits : (n : NeverState) (kinds : List Kind) (place : ℕ) → place < length (map zero_of kinds) → Suits n (get_or (map zero_of kinds) place Null) (get_or kinds place Number)
+zero_suits n [] place h = absurd (omega arith)
+zero_suits n (Number ∷ kinds) zero h = tt
+zero_suits n (To ty offset ∷ kinds) zero h = (tt, tt)
+zero_suits n (kind ∷ kinds) (suc place) h = zero_suits n kinds place (omega arith)
+
+-- a pointer moved to a word of its allocation is sound
+pub moved_is_sound : (n : NeverState) (v : Value) (i : ℕ) (P : Kind → Type 0) → ((number : ℕ) → number < length n.allocations → IsTypedAllocation n (allocation_at n number))
+    → IsSound n v → Meets n v i P → IsSound n (moved_on v i)
+moved_is_sound n Null i P typed sound meets = tt
+moved_is_sound n (Num m) i P typed sound meets = tt
+moved_is_sound n (Ptr number ty offset) i P typed sound meets =
+    let size = (typed number sound.0).size in
+    let inside : offset + i < length (words_of n number) = meets.0 in
+    let inside' : offset + i < length (kinds_of n.types (allocation_at n number).ty) = omega arith in
+    (sound.0, sound.1, inr (subst (λ ty. offset + i < length (kinds_of n.types ty)) (sym sound.1) inside'))

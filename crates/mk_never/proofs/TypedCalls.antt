@@ -1,0 +1,97 @@
+-- Admitted calls leave a typed state.
+use Rattle.std.proofs.Common.{◌≡◌, ℕ, zero, suc, ◌+◌, ◌*◌, Bool, List, [], ◌∷◌, Option, None, Some, replicate, get_or, refl, sym, subst, arith}
+use Rattle.std.specs.Prelude.{IfSome, slice_get}
+use Rattle.mk_never.specs.declared.types.Kind.{Kind}
+use Rattle.mk_never.specs.declared.types.Kind.TheVariants.{To}
+use Rattle.mk_never.specs.declared.values.Value.TheVariants.{Null, Num}
+use Rattle.mk_never.specs.declared.operations.Op.{Op}
+use Rattle.mk_never.specs.declared.operations.Op.TheVariants.{New, Free, GetNum, SetNum, GetPtr, SetPtr, CasPtr, Lea, Move, Clear, GetGlobal, SetGlobal, Same, IsNull}
+use Rattle.mk_never.specs.NeverHeap.{NeverState, Call, register_at, allocation_at, word_at, with_new, is_same, start_of, after_op}
+use Rattle.mk_never.specs.Admitted.{IsNumber, IsPointer, IsOfKind, OperandsAreInRange, AccessIsAdmitted, StoreIsAdmitted, IsAdmitted}
+use Rattle.mk_never.specs.Typed.{IsSound, kind_in, IsTypedAllocation, IsTyped, KeepsTyped, StaysTyped}
+use Rattle.mk_never.proofs.Edits.{if_by}
+use Rattle.mk_never.proofs.Soundness.{number_suits, pointer_suits, suited_is_sound, moved_is_sound}
+use Rattle.mk_never.proofs.Typing.{typed_register, typed_global, typed_word, typed_new, typed_free, typed_access, new_is_sound}
+
+module _ (listed : List ℕ) (n : NeverState) (c : ℕ) (typed : IsTyped listed n) where
+  -- what an operation of these operands needs, and what it leaves
+  abbrev Keeps : Op → Type 0
+  Keeps op = OperandsAreInRange n op → AccessIsAdmitted n c op → StoreIsAdmitted listed n c op → IsTyped listed (after_op n c op)
+
+  register_is_sound : (r : ℕ) → IsSound n (register_at n c r)
+  register_is_sound r = typed.registers (8 * c + r)
+
+  new_keeps : (d ty : ℕ) (full : Bool) → Keeps (New d ty full)
+  new_keeps d ty full in_range access store =
+      if_by (λ m. IsTyped listed m) full _ _ (λ e. typed)
+      (λ e. typed_register listed (with_new n ty) (typed_new listed n typed ty in_range.1) c d _ (new_is_sound n ty))
+
+  set_num_keeps : (q i m : ℕ) → Keeps (SetNum q i m)
+  set_num_keeps q i m in_range access store =
+      typed_access listed n typed (register_at n c q) i IsNumber n _ access typed
+      (λ number place there inside is. typed_word listed n typed number place (Num m) there (number_suits n m _ is))
+
+  get_ptr_keeps : (d q i : ℕ) → Keeps (GetPtr d q i)
+  get_ptr_keeps d q i in_range access store =
+      typed_access listed n typed (register_at n c q) i IsPointer _ _ access (typed_register listed n typed c d Null tt)
+      (λ number place there inside is. let a : IsTypedAllocation n (allocation_at n number) = typed.allocations number there in
+      typed_register listed n typed c d _ (suited_is_sound n _ (kind_in n (allocation_at n number) place) is (a.words place inside)))
+
+  set_ptr_keeps : (q i p : ℕ) → Keeps (SetPtr q i p)
+  set_ptr_keeps q i p in_range access store =
+      typed_access listed n typed (register_at n c q) i (IsOfKind (register_at n c p)) n _ store typed
+      (λ number place there inside is. typed_word listed n typed number place _ there (pointer_suits n _ _ (register_is_sound p) is))
+
+  cas_ptr_keeps : (q i p r : ℕ) → Keeps (CasPtr q i p r)
+  cas_ptr_keeps q i p r in_range access store =
+      typed_access listed n typed (register_at n c q) i (λ kind. IsOfKind (register_at n c p) kind × IsOfKind (register_at n c r) kind) n _ store typed
+      (λ number place there inside is. if_by (λ m. IsTyped listed m) (is_same (word_at n number place) (register_at n c p)) _ _
+      (λ e. typed_word listed n typed number place _ there (pointer_suits n _ _ (register_is_sound r) is.1)) (λ e. typed))
+
+  lea_keeps : (d q i : ℕ) → Keeps (Lea d q i)
+  lea_keeps d q i in_range access store =
+      typed_register listed n typed c d _ (moved_is_sound n (register_at n c q) i (λ kind. Unit {0}) typed.allocations (register_is_sound q) access)
+
+  pub op_keeps : (op : Op) → Keeps op
+  op_keeps (New d ty full) = new_keeps d ty full
+  op_keeps (Free p) = λ in_range access store. typed_free listed n typed (register_at n c p) (register_is_sound p)
+  op_keeps (GetNum q i) = λ in_range access store. typed
+  op_keeps (SetNum q i m) = set_num_keeps q i m
+  op_keeps (GetPtr d q i) = get_ptr_keeps d q i
+  op_keeps (SetPtr q i p) = set_ptr_keeps q i p
+  op_keeps (CasPtr q i p r) = cas_ptr_keeps q i p r
+  op_keeps (Lea d q i) = lea_keeps d q i
+  op_keeps (Move d q) = λ in_range access store. typed_register listed n typed c d _ (register_is_sound q)
+  op_keeps (Clear d) = λ in_range access store. typed_register listed n typed c d Null tt
+  op_keeps (GetGlobal d g) = λ in_range access store. typed_register listed n typed c d _ (typed.globals g)
+  op_keeps (SetGlobal g p) = λ in_range access store. typed_global listed n typed g _ (register_is_sound p) store
+  op_keeps (Same p q) = λ in_range access store. typed
+  op_keeps (IsNull p) = λ in_range access store. typed
+
+pub calls_keep : (listed : List ℕ) (n : NeverState) (calls : List Call) → KeepsTyped listed n calls
+calls_keep listed n [] typed admitted = typed
+calls_keep listed n (x ∷ xs) typed admitted =
+    let first : IsAdmitted listed n x.caller x.op = admitted.0 in
+    calls_keep listed (after_op n x.caller x.op) xs (op_keeps listed n x.caller typed x.op first.in_range first.access first.store) admitted.1
+
+null_at : (count k : ℕ) → get_or (replicate count Null) k Null ≡ Null
+null_at zero k = refl
+null_at (suc count) zero = refl
+null_at (suc count) (suc k) = null_at count k
+
+always : (o : Option ℕ) → IfSome o (λ ty. Unit {0})
+always None = tt
+always (Some ty) = tt
+
+pub start_is_typed : (listed : List ℕ) (types : List (List Kind)) (callers : ℕ) → IsTyped listed (start_of types callers)
+start_is_typed listed types callers =
+    let n = start_of types callers in
+    record {
+      allocations = λ number h. absurd (omega arith);
+      registers = λ k. subst (λ v. IsSound n v) (sym (null_at (8 * callers) k)) tt;
+      globals = λ g. subst (λ v. IsSound n v) (sym (null_at 64 g)) tt;
+      listed = λ g. subst (λ v. IfSome (slice_get listed g) (λ ty. IsOfKind v (To ty 0))) (sym (null_at 64 g)) (always (slice_get listed g));
+    }
+
+pub stays_typed : (listed : List ℕ) (types : List (List Kind)) (callers : ℕ) (calls : List Call) → StaysTyped listed types callers calls
+stays_typed listed types callers calls admitted = calls_keep listed (start_of types callers) calls (start_is_typed listed types callers) admitted

@@ -1,0 +1,154 @@
+-- Laws of the heap that never reuses storage, of any list of calls from any state.
+use Rattle.std.specs.Prelude.{◌≡◌, ◌≢◌, ◌↔◌, ℕ, ◌+◌, ◌<◌, ◌≤◌, List, [], ◌∷◌, length, false, IsTrue}
+use Rattle.mk_never.specs.declared.values.Value.{Value}
+use Rattle.mk_never.specs.declared.values.Value.TheVariants.{Null, Num, Ptr}
+use Rattle.mk_never.specs.declared.values.Target.TheVariants.{WordOf}
+use Rattle.mk_never.specs.declared.operations.Op.{Op}
+use Rattle.mk_never.specs.declared.operations.Op.TheVariants.{New, Free, GetNum, SetNum, GetPtr, SetPtr, CasPtr, Lea, Move, Clear, GetGlobal, SetGlobal, Same, IsNull}
+use Rattle.mk_never.specs.declared.operations.Reply.TheVariants.{Num as Number, Val}
+use Rattle.mk_never.specs.Types.{kinds_of, zero_words}
+use Rattle.mk_never.specs.NeverHeap.{NeverState, Call, register_at, allocation_at, words_of, word_at, target_of, number_of, reply_of, after_op, after_calls}
+use Rattle.mk_never.specs.Admitted.{IsCaller, AccessIsAdmitted}
+
+-- Each allocation of n is in m, of the same type and as many words, and what is freed in n is freed in m.
+-- m has the types of n, as many registers and as many globals.
+pub record Continues (n m : NeverState) : Type 0 where
+  pub types : m.types ≡ n.types
+  pub registers : length m.registers ≡ length n.registers
+  pub globals : length m.globals ≡ length n.globals
+  pub count : length n.allocations ≤ length m.allocations
+  pub ty : (number : ℕ) → number < length n.allocations → (allocation_at m number).ty ≡ (allocation_at n number).ty
+  pub size : (number : ℕ) → number < length n.allocations → length (words_of m number) ≡ length (words_of n number)
+  pub freed : (number : ℕ) → IsTrue (allocation_at n number).freed → IsTrue (allocation_at m number).freed
+
+-- An allocation's type and the number of its words are as they were.
+abbrev pub TypeStays : NeverState → NeverState → ℕ → Type 0
+TypeStays n m number =
+    ((allocation_at m number).ty ≡ (allocation_at n number).ty) × (length (words_of m number) ≡ length (words_of n number))
+
+-- What is freed is still freed.
+abbrev pub FreedStays : NeverState → NeverState → ℕ → Type 0
+FreedStays n m number = IsTrue (allocation_at n number).freed → IsTrue (allocation_at m number).freed
+
+-- A Same tells whether its two registers hold one value.
+abbrev pub SameTells : NeverState → ℕ → ℕ → ℕ → Type 0
+SameTells n caller p q = (reply_of n caller (Same p q) ≡ Number 1) ↔ (register_at n caller p ≡ register_at n caller q)
+
+-- m has a new allocation of the type, whose number is the count of those of n: zero words, not freed.
+-- The register points to its first word.
+pub record AddsNew (n m : NeverState) (caller r ty : ℕ) : Type 0 where
+  pub count : length m.allocations ≡ length n.allocations + 1
+  pub made : allocation_at m (length n.allocations) ≡ record { ty = ty; words = zero_words (kinds_of n.types ty); freed = false }
+  pub register : register_at m caller r ≡ Ptr (length n.allocations) ty 0
+
+-- A New that isn't refused adds an allocation.
+abbrev pub NewAdds : NeverState → ℕ → ℕ → ℕ → Type 0
+NewAdds n caller d ty = IsCaller n caller → d < 8 → AddsNew n (after_op n caller (New d ty false)) caller d ty
+
+-- The register that the operation sets, if any, is one of its caller's eight.
+abbrev pub DestinationIsInRange : Op → Type 0
+DestinationIsInRange (New d ty full) = d < 8
+DestinationIsInRange (Free p) = Unit {0}
+DestinationIsInRange (GetNum q i) = Unit {0}
+DestinationIsInRange (SetNum q i m) = Unit {0}
+DestinationIsInRange (GetPtr d q i) = d < 8
+DestinationIsInRange (SetPtr q i p) = Unit {0}
+DestinationIsInRange (CasPtr q i p r) = Unit {0}
+DestinationIsInRange (Lea d q i) = d < 8
+DestinationIsInRange (Move d q) = d < 8
+DestinationIsInRange (Clear d) = d < 8
+DestinationIsInRange (GetGlobal d g) = d < 8
+DestinationIsInRange (SetGlobal g p) = Unit {0}
+DestinationIsInRange (Same p q) = Unit {0}
+DestinationIsInRange (IsNull p) = Unit {0}
+
+-- No call is the caller's, and each sets registers of its own caller alone.
+abbrev pub AreByOthers : ℕ → List Call → Type 0
+AreByOthers caller [] = Unit {0}
+AreByOthers caller (x ∷ xs) = (x.caller ≢ caller) × DestinationIsInRange x.op × AreByOthers caller xs
+
+-- No call is the caller's.
+abbrev pub AreNotBy : ℕ → List Call → Type 0
+AreNotBy caller [] = Unit {0}
+AreNotBy caller (x ∷ xs) = (x.caller ≢ caller) × AreNotBy caller xs
+
+-- The caller's registers are as they were.
+abbrev pub KeepsRegisters : ℕ → NeverState → NeverState → Type 0
+KeepsRegisters caller n m = (r : ℕ) → r < 8 → register_at m caller r ≡ register_at n caller r
+
+-- An access through the value, i words on, gets to this word.
+abbrev pub Reaches : NeverState → Value → ℕ → ℕ → ℕ → Type 0
+Reaches n value i number place = target_of n value i ≡ WordOf number place
+
+-- The operation stores to this word: a compare and exchange only where it exchanges.
+abbrev pub StoresTo : NeverState → ℕ → Op → ℕ → ℕ → Type 0
+StoresTo n c (New d ty full) number place = ⊥
+StoresTo n c (Free p) number place = ⊥
+StoresTo n c (GetNum q i) number place = ⊥
+StoresTo n c (SetNum q i m) number place = Reaches n (register_at n c q) i number place
+StoresTo n c (GetPtr d q i) number place = ⊥
+StoresTo n c (SetPtr q i p) number place = Reaches n (register_at n c q) i number place
+StoresTo n c (CasPtr q i p r) number place =
+    Reaches n (register_at n c q) i number place × (word_at n number place ≡ register_at n c p)
+StoresTo n c (Lea d q i) number place = ⊥
+StoresTo n c (Move d q) number place = ⊥
+StoresTo n c (Clear d) number place = ⊥
+StoresTo n c (GetGlobal d g) number place = ⊥
+StoresTo n c (SetGlobal g p) number place = ⊥
+StoresTo n c (Same p q) number place = ⊥
+StoresTo n c (IsNull p) number place = ⊥
+
+-- what a storing operation stores
+abbrev pub stored_value : NeverState → ℕ → Op → Value
+stored_value n c (New d ty full) = Null
+stored_value n c (Free p) = Null
+stored_value n c (GetNum q i) = Null
+stored_value n c (SetNum q i m) = Num m
+stored_value n c (GetPtr d q i) = Null
+stored_value n c (SetPtr q i p) = register_at n c p
+stored_value n c (CasPtr q i p r) = register_at n c r
+stored_value n c (Lea d q i) = Null
+stored_value n c (Move d q) = Null
+stored_value n c (Clear d) = Null
+stored_value n c (GetGlobal d g) = Null
+stored_value n c (SetGlobal g p) = Null
+stored_value n c (Same p q) = Null
+stored_value n c (IsNull p) = Null
+
+-- No call stores to this word.
+abbrev pub NoneStoresTo : NeverState → List Call → ℕ → ℕ → Type 0
+NoneStoresTo n [] number place = Unit {0}
+NoneStoresTo n (x ∷ xs) number place =
+    (StoresTo n x.caller x.op number place → ⊥) × NoneStoresTo (after_op n x.caller x.op) xs number place
+
+-- A store that is admitted is to a word that exists.
+abbrev pub StoreIsInside : NeverState → ℕ → Op → ℕ → ℕ → Type 0
+StoreIsInside n caller op number place =
+    AccessIsAdmitted n caller op → StoresTo n caller op number place → place < length (words_of n number)
+
+-- A load that gets to the word replies with the value. One into a register leaves it there.
+pub record LoadsGive (n : NeverState) (number place : ℕ) (value : Value) : Type 0 where
+  pub a_number : (caller q i : ℕ) → Reaches n (register_at n caller q) i number place
+      → reply_of n caller (GetNum q i) ≡ Number (number_of value)
+  pub a_pointer : (caller d q i : ℕ) → Reaches n (register_at n caller q) i number place
+      → reply_of n caller (GetPtr d q i) ≡ Val value
+  pub a_register : (caller d q i : ℕ) → IsCaller n caller → d < 8 → Reaches n (register_at n caller q) i number place
+      → register_at (after_op n caller (GetPtr d q i)) caller d ≡ value
+
+-- Calls that store nowhere in the word leave it.
+abbrev pub UnstoredStays : NeverState → List Call → ℕ → ℕ → Type 0
+UnstoredStays n calls number place =
+    number < length n.allocations → NoneStoresTo n calls number place
+    → word_at (after_calls n calls) number place ≡ word_at n number place
+
+-- A store leaves its value in the word.
+abbrev pub StoreLeaves : NeverState → ℕ → Op → ℕ → ℕ → Type 0
+StoreLeaves n caller op number place =
+    place < length (words_of n number) → StoresTo n caller op number place
+    → word_at (after_op n caller op) number place ≡ stored_value n caller op
+
+-- After a store, and any calls that don't store to the word, a load from it gives the value that was stored.
+abbrev pub LoadGivesStored : NeverState → ℕ → Op → List Call → ℕ → ℕ → Type 0
+LoadGivesStored n caller op calls number place =
+    place < length (words_of n number) → StoresTo n caller op number place → NoneStoresTo (after_op n caller op) calls number place
+    → LoadsGive (after_calls (after_op n caller op) calls) number place (stored_value n caller op)

@@ -1,0 +1,75 @@
+//! Laws of the heap that never reuses storage: what holds of any calls, one after the other. Each is the
+//! contract of a function that does nothing.
+ghost use Rattle.std.specs.Prelude.{◌≡◌, ◌≢◌, ◌↔◌, ℕ, ◌<◌, ◌≤◌, List, length, false, IsTrue};
+ghost use Rattle.mk_never.specs.NeverHeap.{NeverState, Call, start_of, after_calls, is_same};
+ghost use Rattle.mk_never.specs.Admitted.{AreAdmitted};
+ghost use Rattle.mk_never.specs.Laws.{Continues, TypeStays, FreedStays, SameTells, NewAdds, AreByOthers, AreNotBy, KeepsRegisters, UnstoredStays, StoreIsInside, StoreLeaves, LoadGivesStored};
+ghost use Rattle.mk_never.specs.Typed.{IsTyped, KeepsTyped, StaysTyped};
+
+use crate::{Kind, Op, Value};
+
+/// Words, registers and globals hold what their types say, along admitted calls. A pointer that they hold
+/// names an allocation that exists, of the pointer's type, and a word of it; where a type has no words, its
+/// place 0.
+#[tactic(auto, using(crate::proofs::TypedCalls::start_is_typed, crate::proofs::TypedCalls::calls_keep, crate::proofs::TypedCalls::stays_typed))]
+pub fn the_state_stays_typed()
+    ensures start { (globals : List ℕ) (types : List (List Kind)) (callers : ℕ) → IsTyped globals (start_of types callers) }
+    ensures kept { (globals : List ℕ) (n : NeverState) (calls : List Call) → KeepsTyped globals n calls }
+    ensures along { (globals : List ℕ) (types : List (List Kind)) (callers : ℕ) (calls : List Call)
+        → StaysTyped globals types callers calls }
+{}
+
+/// What was granted stays, whatever is called.
+#[tactic(auto, using(crate::proofs::Later::calls_stay))]
+pub fn allocations_stay()
+    ensures { (n : NeverState) (calls : List Call) → Continues n (after_calls n calls) }
+{}
+
+/// An allocation's type and the number of its words never change.
+#[tactic(auto, using(crate::proofs::Later::types_stay))]
+pub fn types_stay()
+    ensures { (n : NeverState) (calls : List Call) (number : ℕ) → number < length n.allocations
+        → TypeStays n (after_calls n calls) number }
+{}
+
+/// What is freed stays freed.
+#[tactic(auto, using(crate::proofs::Later::freed_stays_freed))]
+pub fn freed_stays_freed()
+    ensures { (n : NeverState) (calls : List Call) (number : ℕ) → FreedStays n (after_calls n calls) number }
+{}
+
+/// What a `New` gives has the next number, which no allocation had in any state before.
+#[tactic(auto, using(crate::proofs::Fresh::new_adds, crate::proofs::Fresh::count_never_falls))]
+pub fn a_new_is_new()
+    ensures next { (n : NeverState) (caller d ty : ℕ) → NewAdds n caller d ty }
+    ensures count_never_falls { (n : NeverState) (calls : List Call) → length n.allocations ≤ length (after_calls n calls).allocations }
+{}
+
+/// The calls of others leave a caller's registers. They need no more than that each sets one of its own
+/// caller's eight, as admitted calls do.
+#[tactic(auto, using(crate::proofs::Registers::calls_keep, crate::proofs::Registers::admitted_keep))]
+pub fn others_leave_registers()
+    ensures in_range { (n : NeverState) (caller : ℕ) (calls : List Call) → AreByOthers caller calls
+        → KeepsRegisters caller n (after_calls n calls) }
+    ensures admitted { (globals : List ℕ) (n : NeverState) (caller : ℕ) (calls : List Call) → AreAdmitted globals n calls
+        → AreNotBy caller calls → KeepsRegisters caller n (after_calls n calls) }
+{}
+
+/// A comparison tells whether two values are equal, so it tells two allocations apart.
+#[tactic(auto, using(crate::proofs::Sameness::same_compares, crate::proofs::Sameness::apart, crate::proofs::Sameness::same_tells))]
+pub fn same_compares_values()
+    ensures values { (v w : Value) → IsTrue (is_same v w) ↔ (v ≡ w) }
+    ensures apart { (number number' ty ty' offset offset' : ℕ) → number ≢ number'
+        → is_same (Value.Ptr number ty offset) (Value.Ptr number' ty' offset') ≡ false }
+    ensures reply { (n : NeverState) (caller p q : ℕ) → SameTells n caller p q }
+{}
+
+/// A word changes by stores to it alone, and a load from it gives what was last stored.
+#[tactic(auto, using(crate::proofs::Stores::calls_keep, crate::proofs::Stores::store_is_inside, crate::proofs::Stores::store_leaves, crate::proofs::Stores::load_gives_stored))]
+pub fn a_load_gives_what_was_last_stored()
+    ensures unstored { (n : NeverState) (calls : List Call) (number place : ℕ) → UnstoredStays n calls number place }
+    ensures inside { (n : NeverState) (caller : ℕ) (op : Op) (number place : ℕ) → StoreIsInside n caller op number place }
+    ensures stored { (n : NeverState) (caller : ℕ) (op : Op) (number place : ℕ) → StoreLeaves n caller op number place }
+    ensures loaded { (n : NeverState) (caller : ℕ) (op : Op) (calls : List Call) (number place : ℕ)
+        → LoadGivesStored n caller op calls number place }
+{}
