@@ -1,0 +1,46 @@
+//! The sizes of objects.
+ghost use Rattle.std.specs.Prelude.{◌≡◌, ℕ, ◌<◌, ◌≤◌, ◌↔◌, ◌⊎◌, IfSome, IsNone};
+ghost use Rattle.mk_geom.specs.Classes.{class_for, class_words_of, cells_of, run_pages_of};
+
+pub(crate) const PAGE_WORDS: u64 = 64;
+
+/// The words of a cell, by class.
+const CLASS_WORDS: [u64; 8] = [2, 4, 6, 8, 12, 16, 24, 32];
+
+/// The size class of an object of so many words. An object of more than 32 is large, and has no class.
+pub fn class_of(words: u64) -> Option<u64>
+    ensures exact { result ≡ class_for words }
+    ensures in_range { IfSome result (λ class. class < 8) }
+    ensures holds { IfSome result (λ class. words ≤ class_words_of class) }
+    ensures least { IfSome result (λ class. (lower : ℕ) → lower < class → class_words_of lower < words) }
+    ensures none { IsNone result ↔ ((words ≡ 0) ⊎ (32 < words)) }
+{
+    if words == 0 {
+        return None;
+    }
+    let class = CLASS_WORDS.iter().position(|size| words <= *size)?;
+    Some(class as u64)
+}
+
+/// The words of a cell of the class.
+pub fn class_words(class: u64) -> u64
+    requires { class < 8 }
+    ensures { result ≡ class_words_of class }
+{
+    CLASS_WORDS[class as usize]
+}
+
+/// The cells of a block of the class.
+pub fn cells(class: u64) -> u64
+    requires { class < 8 }
+    ensures { result ≡ cells_of class }
+{
+    PAGE_WORDS / class_words(class)
+}
+
+/// The pages of a run for an object of so many words.
+pub fn run_pages(words: u64) -> u64
+    ensures { result ≡ run_pages_of words }
+{
+    words.div_ceil(PAGE_WORDS)
+}
