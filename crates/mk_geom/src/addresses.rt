@@ -1,6 +1,6 @@
 //! What an address points into.
-ghost use Rattle.std.specs.Prelude.{◌≡◌};
-ghost use Rattle.mk_geom.specs.Addresses.{cell_at};
+ghost use Rattle.std.specs.Prelude.{◌≡◌, ◌<◌};
+ghost use Rattle.mk_geom.specs.Addresses.{cell_at, cell_of_block};
 
 use crate::classes::PAGE_WORDS;
 use crate::{Header, cells, class_words, decode};
@@ -34,8 +34,7 @@ pub fn lookup(pages: u64, header: u64, address: u64) -> Option<Cell>
     match decode(header)? {
         Header::Free => None,
         Header::Block(class) | Header::LeafBlock(class) => {
-            let index = offset / WORD_BYTES % PAGE_WORDS / class_words(class);
-            (index < cells(class)).then_some(Cell { page, index })
+            cell_of_word(class, page, offset / WORD_BYTES % PAGE_WORDS)
         }
         Header::Run { .. } | Header::LeafRun { .. } => Some(Cell { page, index: 0 }),
         Header::Later { distance, .. } => {
@@ -44,3 +43,14 @@ pub fn lookup(pages: u64, header: u64, address: u64) -> Option<Cell>
         }
     }
 }
+
+fn cell_of_word(class: u64, page: u64, word: u64) -> Option<Cell>
+    requires { class < 8 }
+    ensures { result ≡ cell_of_block class page word }
+{
+    let index = word / class_words(class);
+    (index < cells(class)).then_some(Cell { page, index })
+}
+
+#[cfg(test)]
+mod tests;

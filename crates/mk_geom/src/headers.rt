@@ -67,3 +67,6 @@ pub fn decode(word: u64) -> Option<Header>
         _ => None,
     }
 }
+
+#[cfg(test)]
+mod tests;
