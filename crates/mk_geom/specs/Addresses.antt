@@ -6,8 +6,9 @@ use Rattle.mk_geom.specs.declared.headers.Header.TheVariants.{Free, Block, Run, 
 use Rattle.mk_geom.specs.Classes.{class_words_of, cells_of}
 use Rattle.mk_geom.specs.Headers.{header_of}
 
-abbrev pub is_address_of : ℕ → ℕ → Bool
-is_address_of pages address = nat_le 65536 address && nat_lt address (65536 + 512 * pages)
+-- inside a heap of so many pages
+abbrev pub is_heap_address : ℕ → ℕ → Bool
+is_heap_address pages address = nat_le 65536 address && nat_lt address (65536 + 512 * pages)
 
 abbrev pub page_at_address : ℕ → ℕ
 page_at_address address = (address - 65536) / 512
@@ -40,6 +41,6 @@ cell_under (LeafRun pages) page word = run_before 0 page
 -- what the address points into, in a heap of so many pages, where its page has this header word
 abbrev pub cell_at : ℕ → ℕ → ℕ → Option Cell
 cell_at pages header address =
-    if is_address_of pages address
+    if is_heap_address pages address
     then option_and_then (λ h. cell_under h (page_at_address address) (word_at_address address)) (header_of header)
     else None
