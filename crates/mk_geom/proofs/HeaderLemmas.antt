@@ -1,0 +1,26 @@
+-- The header words and the headers that are in range are the same.
+use Rattle.std.proofs.Common.{◌≡◌, ℕ, true, false, Some, arith}
+use Rattle.std.proofs.lemmas.Grind.{common_steps}
+use Rattle.mk_geom.specs.declared.headers.Header.{Header}
+use Rattle.mk_geom.specs.declared.headers.Header.TheVariants.{Free, Block, Run, Later, LeafBlock, LeafRun}
+use Rattle.mk_geom.specs.Headers.{IsInRange, word_of, header_of}
+
+pub header_of-word_of : (h : Header) → IsInRange h → header_of (word_of h) ≡ Some h
+header_of-word_of Free in_range = grind (arith, common_steps)
+header_of-word_of (Block class) in_range = grind (arith, common_steps)
+header_of-word_of (Run pages true) in_range = grind (arith, common_steps)
+header_of-word_of (Run pages false) in_range = grind (arith, common_steps)
+header_of-word_of (Later distance true) in_range = grind (arith, common_steps)
+header_of-word_of (Later distance false) in_range = grind (arith, common_steps)
+header_of-word_of (LeafBlock class) in_range = grind (arith, common_steps)
+header_of-word_of (LeafRun pages) in_range = grind (arith, common_steps)
+
+pub word_of-header_of : (word : ℕ) (h : Header) → header_of word ≡ Some h → IsInRange h × (word_of h ≡ word)
+word_of-header_of word Free is = grind (arith, common_steps)
+word_of-header_of word (Block class) is = grind (arith, common_steps)
+word_of-header_of word (Run pages true) is = grind (arith, common_steps)
+word_of-header_of word (Run pages false) is = grind (arith, common_steps)
+word_of-header_of word (Later distance true) is = grind (arith, common_steps)
+word_of-header_of word (Later distance false) is = grind (arith, common_steps)
+word_of-header_of word (LeafBlock class) is = grind (arith, common_steps)
+word_of-header_of word (LeafRun pages) is = grind (arith, common_steps)

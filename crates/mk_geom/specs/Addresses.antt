@@ -1,0 +1,46 @@
+-- Addresses: the heap's word w has address 65536 + 8 * w, and a page has 64 words.
+use Rattle.std.specs.Prelude.{ℕ, ◌+◌, ◌-◌, ◌*◌, ◌/◌, ◌%◌, Bool, ◌&&◌, nat_le, nat_lt, Option, Some, None, option_and_then, if◌then◌else◌}
+use Rattle.mk_geom.specs.declared.addresses.Cell.{Cell}
+use Rattle.mk_geom.specs.declared.headers.Header.{Header}
+use Rattle.mk_geom.specs.declared.headers.Header.TheVariants.{Free, Block, Run, Later, LeafBlock, LeafRun}
+use Rattle.mk_geom.specs.Classes.{class_words_of, cells_of}
+use Rattle.mk_geom.specs.Headers.{header_of}
+
+-- inside a heap of so many pages
+abbrev pub is_heap_address : ℕ → ℕ → Bool
+is_heap_address pages address = nat_le 65536 address && nat_lt address (65536 + 512 * pages)
+
+abbrev pub page_at_address : ℕ → ℕ
+page_at_address address = (address - 65536) / 512
+
+-- the word of its page that an address is in
+abbrev pub word_at_address : ℕ → ℕ
+word_at_address address = (address - 65536) / 8 % 64
+
+-- the cell of a block that has the word; none where the word lies behind the last cell
+abbrev pub cell_of_block : ℕ → ℕ → ℕ → Option Cell
+cell_of_block class page word =
+    if nat_lt word (cells_of class * class_words_of class)
+    then Some (record { page = page; index = word / class_words_of class })
+    else None
+
+-- the run whose head lies so many pages before the page
+abbrev pub run_before : ℕ → ℕ → Option Cell
+run_before distance page =
+    if nat_le distance page then Some (record { page = page - distance; index = 0 }) else None
+
+-- the cell or run that has a word of a page of this header
+abbrev pub cell_under : Header → ℕ → ℕ → Option Cell
+cell_under Free page word = None
+cell_under (Block class) page word = cell_of_block class page word
+cell_under (Run pages mapped) page word = run_before 0 page
+cell_under (Later distance mapped) page word = run_before distance page
+cell_under (LeafBlock class) page word = cell_of_block class page word
+cell_under (LeafRun pages) page word = run_before 0 page
+
+-- what the address points into, in a heap of so many pages, where its page has this header word
+abbrev pub cell_at : ℕ → ℕ → ℕ → Option Cell
+cell_at pages header address =
+    if is_heap_address pages address
+    then option_and_then (λ h. cell_under h (page_at_address address) (word_at_address address)) (header_of header)
+    else None

@@ -1,0 +1,117 @@
+//! The sizes of objects.
+ghost use Rattle.std.specs.Prelude.{◌≡◌, ℕ, ◌<◌, ◌≤◌, ◌↔◌, ◌⊎◌, IfSome, IsNone, nat_le, position};
+ghost use Rattle.mk_geom.specs.Classes.{class_for, class_words_of, cells_of, run_pages_of};
+
+pub(crate) const PAGE_WORDS: u64 = 64;
+
+/// The words of a cell, by class.
+const CLASS_WORDS: [u64; 8] = [2, 4, 6, 8, 12, 16, 24, 32];
+
+/// The size class of an object of so many words. An object of more than 32 is large, and has no class.
+pub fn class_of(words: u64) -> Option<u64>
+    ensures exact { result ≡ class_for words }
+    ensures in_range { IfSome result (λ class. class < 8) }
+    ensures holds { IfSome result (λ class. words ≤ class_words_of class) }
+    ensures least { IfSome result (λ class. (lower : ℕ) → lower < class → class_words_of lower < words) }
+    ensures none { IsNone result ↔ ((words ≡ 0) ⊎ (32 < words)) }
+{
+    if words == 0 {
+        return None;
+    }
+    let class = first_to_hold(&CLASS_WORDS, words)?;
+    Some(class as u64)
+}
+
+fn first_to_hold(sizes: &[u64], words: u64) -> Option<usize>
+    ensures { result ≡ position (λ size. nat_le words size) sizes.now }
+{
+    sizes.iter().position(|size| words <= *size)
+}
+
+/// The words of a cell of the class.
+pub fn class_words(class: u64) -> u64
+    requires { class < 8 }
+    ensures { result ≡ class_words_of class }
+{
+    CLASS_WORDS[class as usize]
+}
+
+/// The cells of a block of the class.
+pub fn cells(class: u64) -> u64
+    requires { class < 8 }
+    ensures { result ≡ cells_of class }
+{
+    PAGE_WORDS / class_words(class)
+}
+
+/// The pages of a run for an object of so many words.
+pub fn run_pages(words: u64) -> u64
+    ensures { result ≡ run_pages_of words }
+{
+    words.div_ceil(PAGE_WORDS)
+}
+
+#[cfg(test)]
+mod tests {
+    use super::*;
+
+    #[test]
+    fn small_objects_have_the_least_class_that_holds_them(rt: HostRuntime) {
+        for (words, expected) in [
+            (0, None),
+            (1, Some(0)),
+            (2, Some(0)),
+            (3, Some(1)),
+            (4, Some(1)),
+            (5, Some(2)),
+            (6, Some(2)),
+            (7, Some(3)),
+            (8, Some(3)),
+            (9, Some(4)),
+            (12, Some(4)),
+            (13, Some(5)),
+            (16, Some(5)),
+            (17, Some(6)),
+            (24, Some(6)),
+            (25, Some(7)),
+            (32, Some(7)),
+            (33, None),
+            (u64::MAX, None),
+        ] {
+            assert_eq!(rt; class_of(words), expected, "{words} words");
+        }
+    }
+
+    #[test]
+    fn blocks_have_no_cut_cells(rt: HostRuntime) {
+        let table = [
+            (2, 32),
+            (4, 16),
+            (6, 10),
+            (8, 8),
+            (12, 5),
+            (16, 4),
+            (24, 2),
+            (32, 2),
+        ];
+        for class in 0..8 {
+            let (words, count) = table[class as usize];
+            assert_eq!(rt; class_words(class), words, "class {class}");
+            assert_eq!(rt; cells(class), count, "class {class}");
+        }
+    }
+
+    #[test]
+    fn runs_have_whole_pages(rt: HostRuntime) {
+        for (words, expected) in [
+            (0, 0),
+            (33, 1),
+            (64, 1),
+            (65, 2),
+            (128, 2),
+            (u64::MAX, 1 << 58),
+        ] {
+            assert_eq!(rt; run_pages(words), expected, "{words} words");
+        }
+    }
+}

@@ -1,0 +1,11 @@
+//! The heap's geometry: size classes, the header word of a page, and what an address points into.
+//! A word has 64 bits, a page 64 words.
+#![tactic(auto)]
+
+mod addresses;
+mod classes;
+mod headers;
+
+pub use addresses::{Cell, lookup};
+pub use classes::{cells, class_of, class_words, run_pages};
+pub use headers::{Header, decode, encode};
