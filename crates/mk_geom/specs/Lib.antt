@@ -1,3 +1,6 @@
 pub mod Classes
 pub mod Headers
+pub mod PageUses
+pub mod PageWords
+pub mod Storages
 pub mod Addresses

@@ -5,7 +5,9 @@
 mod addresses;
 mod classes;
 mod headers;
+mod pages;
 
 pub use addresses::{Cell, lookup};
 pub use classes::{cells, class_of, class_words, run_pages};
 pub use headers::{Header, decode, encode};
+pub use pages::{Census, Page, Place};
