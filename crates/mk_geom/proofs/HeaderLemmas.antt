@@ -1,5 +1,5 @@
 -- The header words and the headers that are in range are the same.
-use Rattle.std.proofs.Common.{◌≡◌, ℕ, Bool, true, false, Option, Some, arith}
+use Rattle.std.proofs.Common.{◌≡◌, ℕ, true, false, Some, arith}
 use Rattle.std.proofs.lemmas.Grind.{common_steps}
 use Rattle.mk_geom.specs.declared.headers.Header.{Header}
 use Rattle.mk_geom.specs.declared.headers.Header.TheVariants.{Free, Block, Run, Later, LeafBlock, LeafRun}

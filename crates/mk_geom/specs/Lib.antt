@@ -4,3 +4,4 @@ pub mod PageUses
 pub mod PageWords
 pub mod Storages
 pub mod Addresses
+pub mod Laws

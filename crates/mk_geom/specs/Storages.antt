@@ -1,11 +1,11 @@
 -- The storage of objects: what stands on the pages of a heap, read off a plain list.
-use Rattle.std.specs.Prelude.{◌≡◌, ◌≢◌, ℕ, zero, suc, ◌+◌, ◌-◌, ◌*◌, ◌/◌, ◌%◌, ◌<◌, ◌≤◌, Bool, true, false, not, ◌&&◌, ◌==◌, nat_le, if◌then◌else◌, List, [], ◌∷◌, length, map, find, sum_by, slice_index_or, All, Option, Some, None, IsSome, unwrap_or, ◌⊎◌}
+use Rattle.std.specs.Prelude.{◌≡◌, ◌≢◌, ℕ, zero, suc, ◌+◌, ◌-◌, ◌*◌, ◌/◌, ◌%◌, ◌<◌, ◌≤◌, Bool, true, false, ◌&&◌, ◌==◌, nat_le, if◌then◌else◌, List, [], ◌∷◌, length, map, find, slice_index_or, All, Option, Some, None, IsSome, unwrap_or, ◌⊎◌}
 use Rattle.std.specs.List.{range_with_len, list_any}
 use Rattle.mk_geom.specs.declared.pages.Page.{Page}
 use Rattle.mk_geom.specs.declared.pages.Place.{Place}
 use Rattle.mk_geom.specs.declared.pages.Census.{Census}
 use Rattle.mk_geom.specs.declared.headers.Header.{Header}
-use Rattle.mk_geom.specs.declared.headers.Header.TheVariants.{Free, Block, Run, Later, LeafBlock, LeafRun}
+use Rattle.mk_geom.specs.declared.headers.Header.TheVariants.{Block, Run, Later, LeafBlock, LeafRun}
 use Rattle.mk_geom.specs.Classes.{class_for, class_words_of, cells_of}
 use Rattle.mk_geom.specs.Headers.{word_of}
 use Rattle.mk_geom.specs.PageUses.{PageUse, Nothing, Cells, PartOfRun, place_among, census_among}

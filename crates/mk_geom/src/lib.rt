@@ -5,9 +5,11 @@
 mod addresses;
 mod classes;
 mod headers;
+mod laws;
 mod pages;
 
 pub use addresses::{Cell, lookup};
 pub use classes::{cells, class_of, class_words, run_pages};
 pub use headers::{Header, decode, encode};
+pub use laws::pages_show_what_stands_there;
 pub use pages::{Census, Page, Place};

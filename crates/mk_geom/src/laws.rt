@@ -1,0 +1,11 @@
+//! Laws of pages and the storages that they stand for: facts alone, with no code. A proof that needs a
+//! law calls its function, or cites the lemma that proves it.
+ghost use Rattle.mk_geom.specs.Laws.{PagesShowUses, PagesShowPlaces, PagesShowCensus, PagesHaveHeaderWords};
+
+/// Place, fits and census may be read off the pages as they are.
+pub fn pages_show_what_stands_there()
+    ensures uses { PagesShowUses }
+    ensures places { PagesShowPlaces }
+    ensures census { PagesShowCensus }
+    ensures header_words { PagesHaveHeaderWords }
+{}
