@@ -5,3 +5,5 @@ pub mod ClassTable
 pub mod Standing
 pub mod StoredWords
 pub mod Bridge
+pub mod Layouts
+pub mod CellAdded

@@ -16,7 +16,7 @@ use Rattle.mk_geom.proofs.Standing.{small_is_cell, class_of_cell, stands_at_firs
 abbrev pub Carries : ℕ → List Storage → List Storage → Type 0
 Carries page xs ys = (s : Storage) → stands_on page s ≡ true → Contains xs s → Contains ys s
 
-same_from_both : (a b : Bool) → (a ≡ true → b ≡ true) → (b ≡ true → a ≡ true) → a ≡ b
+pub same_from_both : (a b : Bool) → (a ≡ true → b ≡ true) → (b ≡ true → a ≡ true) → a ≡ b
 same_from_both true b there back = sym (there refl)
 same_from_both false true there back = back refl
 same_from_both false false there back = refl
@@ -57,8 +57,11 @@ taken_same n page class xs ys known xs_each ys_each there back =
     one k within = same_from_both _ _ (along xs ys xs_each there k within) (along ys xs ys_each back k within)
 
 -- the words of a block's page
+abbrev pub block_page : ℕ → Bool → ℕ → Page
+block_page class leaf used = record { header = word_of (block_header class leaf); used = used }
+
 abbrev pub block_words : ℕ → Bool → List Bool → Page
-block_words class leaf taken = record { header = word_of (block_header class leaf); used = used_word taken }
+block_words class leaf taken = block_page class leaf (used_word taken)
 
 pub words_by_small : (page : ℕ) (xs : List Storage) (s : Storage) → is_small s ≡ true → words_by xs page (Some s) ≡ block_words (class_of_storage s) s.leaf (taken_cells xs page (class_of_storage s))
 words_by_small page xs s small = cond-true (is_small s) _ _ small

@@ -1,11 +1,12 @@
 -- The laws of pages and storages. Each holds of all pages and all storages that they stand for.
-use Rattle.std.specs.Prelude.{◌≡◌, ℕ, Bool, List, length}
+use Rattle.std.specs.Prelude.{◌≡◌, ℕ, ◌<◌, Bool, List, [], ◌∷◌, ◌++◌, length, slice_get, slice_set, Some}
 use Rattle.mk_geom.specs.declared.pages.Page.{Page}
 use Rattle.mk_geom.specs.PageUses.{place_among, census_among}
-use Rattle.mk_geom.specs.PageWords.{uses_of_pages, HaveHeaderWords}
+use Rattle.mk_geom.specs.PageWords.{use_of_page, uses_of_pages, HaveHeaderWords}
+use Rattle.mk_geom.specs.Changes.{cell_storage, MayTakeCell, with_cell}
 use Rattle.mk_geom.specs.Storages.{Storage, uses_of_storages, place_of, census_of, StandFor}
 
--- Pages show what stands on them.
+-- Pages show what stands on them,
 abbrev pub PagesShowUses : Type 0
 PagesShowUses = (pages : List Page) (storages : List Storage) → StandFor pages storages → uses_of_pages pages ≡ uses_of_storages (length pages) storages
 
@@ -21,3 +22,8 @@ PagesShowCensus = (pages : List Page) (storages : List Storage) → StandFor pag
 -- Each header of such pages is a header word.
 abbrev pub PagesHaveHeaderWords : Type 0
 PagesHaveHeaderWords = (pages : List Page) (storages : List Storage) → StandFor pages storages → HaveHeaderWords pages
+
+-- A page with a cell's bit set stands for one storage more, where the cell may be taken.
+abbrev pub TakenCellIsAdded : Type 0
+TakenCellIsAdded = (pages : List Page) (storages : List Storage) (page class index : ℕ) (leaf : Bool) (p : Page) → StandFor pages storages → class < 8 → slice_get pages page ≡ Some p
+    → MayTakeCell class leaf index (use_of_page p) → StandFor (slice_set pages page (with_cell class leaf index p)) (storages ++ cell_storage page class index leaf ∷ [])

@@ -4,4 +4,5 @@ pub mod PageUses
 pub mod PageWords
 pub mod Storages
 pub mod Addresses
+pub mod Changes
 pub mod Laws

@@ -1,6 +1,6 @@
 //! Laws of pages and the storages that they stand for: facts alone, with no code. A proof that needs a
 //! law calls its function, or cites the lemma that proves it.
-ghost use Rattle.mk_geom.specs.Laws.{PagesShowUses, PagesShowPlaces, PagesShowCensus, PagesHaveHeaderWords};
+ghost use Rattle.mk_geom.specs.Laws.{PagesShowUses, PagesShowPlaces, PagesShowCensus, PagesHaveHeaderWords, TakenCellIsAdded};
 
 /// Place, fits and census may be read off the pages as they are.
 pub fn pages_show_what_stands_there()
@@ -8,4 +8,9 @@ pub fn pages_show_what_stands_there()
     ensures places { PagesShowPlaces }
     ensures census { PagesShowCensus }
     ensures header_words { PagesHaveHeaderWords }
+{}
+
+/// An object of a class gets a cell: its page becomes a block, if it was free, and a used bit is set.
+pub fn a_taken_cell_is_added()
+    ensures { TakenCellIsAdded }
 {}
