@@ -10,7 +10,8 @@ use Rattle.mk_geom.specs.Classes.{class_words_of, cells_of}
 use Rattle.mk_geom.specs.PageUses.{PageUse, Nothing, Cells, PartOfRun}
 use Rattle.mk_geom.specs.PageWords.{use_of_page}
 use Rattle.mk_geom.specs.Storages.{Storage, is_small, stands_on, class_of_storage, is_cell_taken, taken_cells, use_by, use_of_storages, used_word, words_by, words_of_storages, IsCell, IsStorage, LieApart, AreLaidOut, StandFor}
-use Rattle.mk_geom.specs.Changes.{cell_storage, MayTakeCell, with_cell}
+use Rattle.mk_geom.specs.Places.{MayTakeCell}
+use Rattle.mk_geom.specs.Changes.{cell_storage, with_cell}
 use Rattle.mk_geom.proofs.Bridge.{page_shows}
 use Rattle.mk_geom.proofs.ClassTable.{class_words_within, class_for-class_words_of, cell_ends}
 use Rattle.mk_geom.proofs.Layouts.{laid_push}

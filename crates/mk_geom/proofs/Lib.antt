@@ -7,3 +7,4 @@ pub mod StoredWords
 pub mod Bridge
 pub mod Layouts
 pub mod CellAdded
+pub mod FirstFit

@@ -1,20 +1,13 @@
 -- Changes of pages: what an allocator writes when the storage of an object comes or goes.
-use Rattle.std.specs.Prelude.{◌≡◌, ℕ, ◌+◌, ◌*◌, ◌^◌, ◌<◌, Bool, true, false, Some, slice_get}
+use Rattle.std.specs.Prelude.{ℕ, ◌+◌, ◌*◌, ◌^◌, Bool, true}
 use Rattle.mk_geom.specs.declared.pages.Page.{Page}
-use Rattle.mk_geom.specs.Classes.{class_words_of, cells_of}
+use Rattle.mk_geom.specs.Classes.{class_words_of}
 use Rattle.mk_geom.specs.Headers.{word_of}
-use Rattle.mk_geom.specs.PageUses.{PageUse, Nothing, Cells, PartOfRun}
 use Rattle.mk_geom.specs.Storages.{Storage, block_header}
 
 -- the storage of a cell of a page
 abbrev pub cell_storage : ℕ → ℕ → ℕ → Bool → Storage
 cell_storage page class index leaf = record { first = 64 * page + index * class_words_of class; words = class_words_of class; mapped = true; leaf = leaf }
-
--- An object of this class and sort may take the cell: the page is free, or a block of them where the cell isn't taken.
-abbrev pub MayTakeCell : ℕ → Bool → ℕ → PageUse → Type 0
-MayTakeCell class leaf index Nothing = index < cells_of class
-MayTakeCell class leaf index (Cells class' leaf' taken) = (class' ≡ class) × (leaf' ≡ leaf) × (slice_get taken index ≡ Some false)
-MayTakeCell class leaf index (PartOfRun mapped) = ⊥
 
 -- the page as a block of this class and sort, with the cell's used bit set
 abbrev pub with_cell : ℕ → Bool → ℕ → Page → Page

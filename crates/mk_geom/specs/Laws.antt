@@ -1,9 +1,12 @@
 -- The laws of pages and storages. Each holds of all pages and all storages that they stand for.
 use Rattle.std.specs.Prelude.{◌≡◌, ℕ, ◌<◌, Bool, List, [], ◌∷◌, ◌++◌, length, slice_get, slice_set, Some}
 use Rattle.mk_geom.specs.declared.pages.Page.{Page}
+use Rattle.mk_geom.specs.declared.pages.Place.{Place}
+use Rattle.mk_geom.specs.Classes.{class_for, run_pages_of}
 use Rattle.mk_geom.specs.PageUses.{place_among, census_among}
 use Rattle.mk_geom.specs.PageWords.{use_of_page, uses_of_pages, HaveHeaderWords}
-use Rattle.mk_geom.specs.Changes.{cell_storage, MayTakeCell, with_cell}
+use Rattle.mk_geom.specs.Places.{MayTakeCell, IsCellPlace, IsRunPlace}
+use Rattle.mk_geom.specs.Changes.{cell_storage, with_cell}
 use Rattle.mk_geom.specs.Storages.{Storage, uses_of_storages, place_of, census_of, StandFor}
 
 -- Pages show what stands on them,
@@ -27,3 +30,13 @@ PagesHaveHeaderWords = (pages : List Page) (storages : List Storage) → StandFo
 abbrev pub TakenCellIsAdded : Type 0
 TakenCellIsAdded = (pages : List Page) (storages : List Storage) (page class index : ℕ) (leaf : Bool) (p : Page) → StandFor pages storages → class < 8 → slice_get pages page ≡ Some p
     → MayTakeCell class leaf index (use_of_page p) → StandFor (slice_set pages page (with_cell class leaf index p)) (storages ++ cell_storage page class index leaf ∷ [])
+
+-- The place that first fit finds for a small object is a cell that it may take.
+abbrev pub FoundCellIsPlace : Type 0
+FoundCellIsPlace = (pages : List Page) (storages : List Storage) (limit words class : ℕ) (leaf : Bool) (place : Place) → StandFor pages storages → class_for words ≡ Some class
+    → place_of (length pages) limit words leaf storages ≡ Some place → IsCellPlace limit class leaf pages place
+
+-- For a large one it is the head of free pages, as many as it takes.
+abbrev pub FoundRunIsPlace : Type 0
+FoundRunIsPlace = (pages : List Page) (storages : List Storage) (limit words : ℕ) (leaf : Bool) (place : Place) → StandFor pages storages → 32 < words
+    → place_of (length pages) limit words leaf storages ≡ Some place → IsRunPlace limit (run_pages_of words) pages place

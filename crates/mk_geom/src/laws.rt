@@ -1,6 +1,6 @@
 //! Laws of pages and the storages that they stand for: facts alone, with no code. A proof that needs a
 //! law calls its function, or cites the lemma that proves it.
-ghost use Rattle.mk_geom.specs.Laws.{PagesShowUses, PagesShowPlaces, PagesShowCensus, PagesHaveHeaderWords, TakenCellIsAdded};
+ghost use Rattle.mk_geom.specs.Laws.{PagesShowUses, PagesShowPlaces, PagesShowCensus, PagesHaveHeaderWords, TakenCellIsAdded, FoundCellIsPlace, FoundRunIsPlace};
 
 /// Place, fits and census may be read off the pages as they are.
 pub fn pages_show_what_stands_there()
@@ -8,6 +8,13 @@ pub fn pages_show_what_stands_there()
     ensures places { PagesShowPlaces }
     ensures census { PagesShowCensus }
     ensures header_words { PagesHaveHeaderWords }
+{}
+
+/// The place that first fit finds is one that the object may take. A run of at most 4096 words has 1 to
+/// 64 pages.
+pub fn first_fit_finds_places()
+    ensures cells { FoundCellIsPlace }
+    ensures runs { FoundRunIsPlace }
 {}
 
 /// An object of a class gets a cell: its page becomes a block, if it was free, and a used bit is set.
