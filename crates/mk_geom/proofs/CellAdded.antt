@@ -9,7 +9,7 @@ use Rattle.mk_geom.specs.declared.pages.Page.{Page}
 use Rattle.mk_geom.specs.Classes.{class_words_of, cells_of}
 use Rattle.mk_geom.specs.PageUses.{PageUse, Nothing, Cells, PartOfRun}
 use Rattle.mk_geom.specs.PageWords.{use_of_page}
-use Rattle.mk_geom.specs.Storages.{Storage, is_small, stands_on, class_of_storage, is_cell_taken, taken_cells, use_by, use_of_storages, used_word, words_by, words_of_storages, IsCell, IsStorage, LieApart, AreLaidOut, StandFor}
+use Rattle.mk_geom.specs.Storages.{Storage, is_small, stands_on, class_of_storage, is_cell_taken, taken_cells, use_by, use_of_storages, used_word, block_page, words_by, words_of_storages, IsCell, IsStorage, LieApart, AreLaidOut, StandFor}
 use Rattle.mk_geom.specs.Places.{MayTakeCell}
 use Rattle.mk_geom.specs.Changes.{cell_storage, with_cell}
 use Rattle.mk_geom.proofs.Bridge.{page_shows}
@@ -17,7 +17,7 @@ use Rattle.mk_geom.proofs.ClassTable.{class_words_within, class_for-class_words_
 use Rattle.mk_geom.proofs.Layouts.{laid_push}
 use Rattle.mk_geom.proofs.ListSearch.{find_cases, list_any_found}
 use Rattle.mk_geom.proofs.Standing.{small_is_cell, class_of_cell, cell_is_small, stands_apart, stands_at_first, cell_stands_at, same_or_alike}
-use Rattle.mk_geom.proofs.StoredWords.{same_from_both, cell_taken_by, cell_taken_from, length-taken_cells, get_or-taken_cells, block_page, block_words, words_by_small, words_at, same_words}
+use Rattle.mk_geom.proofs.StoredWords.{same_from_both, cell_taken_by, cell_taken_from, length-taken_cells, get_or-taken_cells, words_by_small, words_at, same_words}
 use Rattle.mk_geom.proofs.UsedWords.{used_word-set, used_word_none}
 
 pub words_push_other : (n page : ℕ) (xs : List Storage) (t : Storage) → AreLaidOut n xs → AreLaidOut n (xs ++ t ∷ []) → (stands_on page t ≡ true → ⊥)
@@ -206,7 +206,7 @@ with_cell_words n page class index leaf p xs known room laid =
     let unset : get_or old index true ≡ false = get_or-taken_cells xs page class index true room.within ∙ room.free in
     let used : used_word (taken_cells ys page class) ≡ p.used + 2 ^ index =
     ap used_word taken ∙ used_word-set old index (omega (arith, length-taken_cells xs page class, room.within)) unset ∙ ap (λ (u : ℕ). u + 2 ^ index) (sym room.used_is) in
-    sym (words_at n page ys t laid inside stands ∙ words_by_small page ys t (cell_is_small t cell) ∙ ap (λ c. block_words c leaf (taken_cells ys page c)) (ap (λ o. unwrap_or o 0) (class_for-class_words_of class known))
+    sym (words_at n page ys t laid inside stands ∙ words_by_small page ys t (cell_is_small t cell) ∙ ap (λ c. block_page c leaf (used_word (taken_cells ys page c))) (ap (λ o. unwrap_or o 0) (class_for-class_words_of class known))
     ∙ ap (block_page class leaf) used)
 
 pub cell_added : (pages : List Page) (storages : List Storage) (page class index : ℕ) (leaf : Bool) (p : Page) → StandFor pages storages → class < 8 → slice_get pages page ≡ Some p

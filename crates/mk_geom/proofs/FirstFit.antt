@@ -181,7 +181,6 @@ pub run_place_is : (limit words : ℕ) (leaf : Bool) (pages : List Page) (place 
 run_place_is limit words leaf pages place large is =
     let uses = uses_of_pages pages in
     let count = run_pages_of words in
-    let blank : Page = record { header = 0; used = 0 } in
     let found : large_place limit count uses ≡ Some place =
     sym (cond-false (nat_le words 32) (option_and_then (λ class. small_place limit class leaf uses) (class_for words)) (large_place limit count uses) (lt-leb words 32 large)) ∙ is in
     let (room, start_found) = if_some (nat_le (resident_pages uses + count) limit) (option_map carved (range_start count uses)) place found in

@@ -8,3 +8,4 @@ pub mod Bridge
 pub mod Layouts
 pub mod CellAdded
 pub mod FirstFit
+pub mod RunAdded

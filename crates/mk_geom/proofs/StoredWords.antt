@@ -1,13 +1,11 @@
 -- The words of a page, by any storage that stands on it.
-use Rattle.std.proofs.Common.{◌≡◌, ℕ, ◌+◌, ◌-◌, ◌*◌, ◌<◌, Bool, true, false, ◌==◌, List, length, get_or, Some, All, Contains, inl, inr, refl, sym, ◌∙◌, ap, arith, eqb-true, eq-eqb, unwrap_or}
+use Rattle.std.proofs.Common.{◌≡◌, ℕ, ◌+◌, ◌-◌, ◌/◌, ◌*◌, ◌<◌, Bool, true, false, ◌==◌, List, length, get_or, Some, All, Contains, inl, inr, refl, sym, ◌∙◌, ap, arith, eqb-true, eq-eqb, unwrap_or}
 use Rattle.std.proofs.lemmas.Bool.{cases_Bool, false≢true, false_from_ne_true, cond-true, cond-false}
 use Rattle.std.proofs.lemmas.List.{same_lists}
 use Rattle.std.proofs.lemmas.List.Elements.{All-contains}
 use Rattle.std.proofs.lemmas.List.FromFn.{length-map-range_with_len, get_or-map-range_with_len}
-use Rattle.mk_geom.specs.declared.pages.Page.{Page}
 use Rattle.mk_geom.specs.Classes.{class_words_of, class_for, cells_of}
-use Rattle.mk_geom.specs.Headers.{word_of}
-use Rattle.mk_geom.specs.Storages.{Storage, is_small, stands_on, class_of_storage, is_cell_taken, taken_cells, block_header, used_word, run_header, run_used, first_page, words_by, words_of_storages, IsStorage, AreLaidOut}
+use Rattle.mk_geom.specs.Storages.{Storage, is_small, first_page, stands_on, class_of_storage, is_cell_taken, taken_cells, used_word, free_page, block_page, run_page, words_by, words_of_storages, IsStorage, AreLaidOut}
 use Rattle.mk_geom.proofs.ClassTable.{class_words_within, cell_ends}
 use Rattle.mk_geom.proofs.ListSearch.{find_cases, list_any_from, list_any_found}
 use Rattle.mk_geom.proofs.Standing.{small_is_cell, class_of_cell, stands_at_first, AreAlike, same_or_alike}
@@ -56,27 +54,20 @@ taken_same n page class xs ys known xs_each ys_each there back =
     one : (k : ℕ) → k < cells_of class → is_cell_taken xs page (class_words_of class) k ≡ is_cell_taken ys page (class_words_of class) k
     one k within = same_from_both _ _ (along xs ys xs_each there k within) (along ys xs ys_each back k within)
 
--- the words of a block's page
-abbrev pub block_page : ℕ → Bool → ℕ → Page
-block_page class leaf used = record { header = word_of (block_header class leaf); used = used }
-
-abbrev pub block_words : ℕ → Bool → List Bool → Page
-block_words class leaf taken = block_page class leaf (used_word taken)
-
-pub words_by_small : (page : ℕ) (xs : List Storage) (s : Storage) → is_small s ≡ true → words_by xs page (Some s) ≡ block_words (class_of_storage s) s.leaf (taken_cells xs page (class_of_storage s))
+pub words_by_small : (page : ℕ) (xs : List Storage) (s : Storage) → is_small s ≡ true → words_by xs page (Some s) ≡ block_page (class_of_storage s) s.leaf (used_word (taken_cells xs page (class_of_storage s)))
 words_by_small page xs s small = cond-true (is_small s) _ _ small
 
 pub words_by_large : (page : ℕ) (xs : List Storage) (s : Storage) → is_small s ≡ false
-    → words_by xs page (Some s) ≡ record { header = word_of (run_header s (page - first_page s)); used = run_used (page - first_page s) }
+    → words_by xs page (Some s) ≡ run_page (s.words / 64) s.mapped s.leaf (page - first_page s)
 words_by_large page xs s large = cond-false (is_small s) _ _ large
 
 words_by_alike : (page : ℕ) (xs ys : List Storage) (s t : Storage) → AreAlike s t → taken_cells xs page (class_of_storage s) ≡ taken_cells ys page (class_of_storage s)
     → words_by xs page (Some s) ≡ words_by ys page (Some t)
 words_by_alike page xs ys s t alike taken =
     words_by_small page xs s alike.small
-    ∙ ap (block_words (class_of_storage s) s.leaf) taken
-    ∙ ap (λ words. block_words (unwrap_or (class_for words) 0) s.leaf (taken_cells ys page (unwrap_or (class_for words) 0))) alike.words
-    ∙ ap (λ leaf. block_words (class_of_storage t) leaf (taken_cells ys page (class_of_storage t))) alike.leaf
+    ∙ ap (λ taken'. block_page (class_of_storage s) s.leaf (used_word taken')) taken
+    ∙ ap (λ words. block_page (unwrap_or (class_for words) 0) s.leaf (used_word (taken_cells ys page (unwrap_or (class_for words) 0)))) alike.words
+    ∙ ap (λ leaf. block_page (class_of_storage t) leaf (used_word (taken_cells ys page (class_of_storage t)))) alike.leaf
     ∙ sym (words_by_small page ys t alike.small_too)
 
 -- what one storage says of a page, beside those of one list or of another with the same storages on the page
@@ -101,7 +92,7 @@ words_at n page xs s laid inside stands = elim (find_cases (stands_on page) xs) 
   | inr (none, others) ↦ absurd (false≢true (sym (others s inside) ∙ stands))
 ]
 
-pub words_free : (page : ℕ) (xs : List Storage) → ((s : Storage) → Contains xs s → stands_on page s ≡ false) → words_of_storages xs page ≡ record { header = 0; used = 0 }
+pub words_free : (page : ℕ) (xs : List Storage) → ((s : Storage) → Contains xs s → stands_on page s ≡ false) → words_of_storages xs page ≡ free_page
 words_free page xs none = elim (find_cases (stands_on page) xs) [
   | inl (t, found, inside, stands) ↦ absurd (false≢true (sym (none t inside) ∙ stands))
   | inr (not_found, others) ↦ ap (words_by xs page) not_found

@@ -1,13 +1,13 @@
 -- The laws of pages and storages. Each holds of all pages and all storages that they stand for.
-use Rattle.std.specs.Prelude.{◌≡◌, ℕ, ◌<◌, Bool, List, [], ◌∷◌, ◌++◌, length, slice_get, slice_set, Some}
+use Rattle.std.specs.Prelude.{◌≡◌, ℕ, ◌<◌, ◌≤◌, Bool, true, List, [], ◌∷◌, ◌++◌, length, slice_get, slice_set, Some}
 use Rattle.mk_geom.specs.declared.pages.Page.{Page}
 use Rattle.mk_geom.specs.declared.pages.Place.{Place}
 use Rattle.mk_geom.specs.Classes.{class_for, run_pages_of}
 use Rattle.mk_geom.specs.PageUses.{place_among, census_among}
 use Rattle.mk_geom.specs.PageWords.{use_of_page, uses_of_pages, HaveHeaderWords}
-use Rattle.mk_geom.specs.Places.{MayTakeCell, IsCellPlace, IsRunPlace}
-use Rattle.mk_geom.specs.Changes.{cell_storage, with_cell}
-use Rattle.mk_geom.specs.Storages.{Storage, uses_of_storages, place_of, census_of, StandFor}
+use Rattle.mk_geom.specs.Places.{MayTakeCell, AreFree, IsCellPlace, IsRunPlace}
+use Rattle.mk_geom.specs.Changes.{cell_storage, run_storage, with_cell, PagesAreWritten}
+use Rattle.mk_geom.specs.Storages.{Storage, uses_of_storages, place_of, census_of, run_page, StandFor}
 
 -- Pages show what stands on them,
 abbrev pub PagesShowUses : Type 0
@@ -30,6 +30,11 @@ PagesHaveHeaderWords = (pages : List Page) (storages : List Storage) → StandFo
 abbrev pub TakenCellIsAdded : Type 0
 TakenCellIsAdded = (pages : List Page) (storages : List Storage) (page class index : ℕ) (leaf : Bool) (p : Page) → StandFor pages storages → class < 8 → slice_get pages page ≡ Some p
     → MayTakeCell class leaf index (use_of_page p) → StandFor (slice_set pages page (with_cell class leaf index p)) (storages ++ cell_storage page class index leaf ∷ [])
+
+-- Free pages that get the words of a run stand for one storage more.
+abbrev pub TakenRunIsAdded : Type 0
+TakenRunIsAdded = (old new : List Page) (storages : List Storage) (first count : ℕ) (leaf : Bool) → StandFor old storages → 1 ≤ count → count ≤ 64 → AreFree first count old
+    → PagesAreWritten old new first count (run_page count true leaf) → StandFor new (storages ++ run_storage first count true leaf ∷ [])
 
 -- The place that first fit finds for a small object is a cell that it may take.
 abbrev pub FoundCellIsPlace : Type 0

@@ -106,21 +106,32 @@ block_header class true = LeafBlock class
 block_header class false = Block class
 
 -- the header of the page of a run that lies so far behind its head. An unmapped leaf run is as any unmapped run.
-abbrev pub run_header : Storage → ℕ → Header
-run_header s zero = if s.leaf && s.mapped then LeafRun (s.words / 64) else Run (s.words / 64) s.mapped
-run_header s (suc distance) = Later (suc distance) s.mapped
+abbrev pub run_header : ℕ → Bool → Bool → ℕ → Header
+run_header pages mapped leaf zero = if leaf && mapped then LeafRun pages else Run pages mapped
+run_header pages mapped leaf (suc distance) = Later (suc distance) mapped
 
 -- a run's used bit is bit 0 of its head
 abbrev pub run_used : ℕ → ℕ
 run_used zero = 1
 run_used (suc distance) = 0
 
+-- a page with nothing on it, that of a block with its used word, and one of a run
+abbrev pub free_page : Page
+free_page = record { header = 0; used = 0 }
+
+abbrev pub block_page : ℕ → Bool → ℕ → Page
+block_page class leaf used = record { header = word_of (block_header class leaf); used = used }
+
+abbrev pub run_page : ℕ → Bool → Bool → ℕ → Page
+run_page pages mapped leaf distance = record { header = word_of (run_header pages mapped leaf distance); used = run_used distance }
+
+-- the words of a page, where this is a storage that stands on it
 abbrev pub words_by : List Storage → ℕ → Option Storage → Page
-words_by storages page None = record { header = 0; used = 0 }
+words_by storages page None = free_page
 words_by storages page (Some s) =
     if is_small s
-    then record { header = word_of (block_header (class_of_storage s) s.leaf); used = used_word (taken_cells storages page (class_of_storage s)) }
-    else record { header = word_of (run_header s (page - first_page s)); used = run_used (page - first_page s) }
+    then block_page (class_of_storage s) s.leaf (used_word (taken_cells storages page (class_of_storage s)))
+    else run_page (s.words / 64) s.mapped s.leaf (page - first_page s)
 
 -- the words of a page on which these storages stand
 abbrev pub words_of_storages : List Storage → ℕ → Page

@@ -1,6 +1,6 @@
 //! Laws of pages and the storages that they stand for: facts alone, with no code. A proof that needs a
 //! law calls its function, or cites the lemma that proves it.
-ghost use Rattle.mk_geom.specs.Laws.{PagesShowUses, PagesShowPlaces, PagesShowCensus, PagesHaveHeaderWords, TakenCellIsAdded, FoundCellIsPlace, FoundRunIsPlace};
+ghost use Rattle.mk_geom.specs.Laws.{PagesShowUses, PagesShowPlaces, PagesShowCensus, PagesHaveHeaderWords, TakenCellIsAdded, TakenRunIsAdded, FoundCellIsPlace, FoundRunIsPlace};
 
 /// Place, fits and census may be read off the pages as they are.
 pub fn pages_show_what_stands_there()
@@ -20,4 +20,9 @@ pub fn first_fit_finds_places()
 /// An object of a class gets a cell: its page becomes a block, if it was free, and a used bit is set.
 pub fn a_taken_cell_is_added()
     ensures { TakenCellIsAdded }
+{}
+
+/// A large object gets a run of free pages.
+pub fn a_taken_run_is_added()
+    ensures { TakenRunIsAdded }
 {}
