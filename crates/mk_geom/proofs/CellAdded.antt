@@ -84,7 +84,7 @@ record HasRoom (page class index : ℕ) (leaf : Bool) (used : ℕ) (xs : List St
   words : (s : Storage) → Contains xs s → stands_on page s ≡ true → s.words ≡ class_words_of class
   same_sort : (s : Storage) → Contains xs s → stands_on page s ≡ true → s.leaf ≡ leaf
 
-none_taken : (n page class : ℕ) (xs : List Storage) → class < 8 → All (IsStorage n) xs → ((s : Storage) → Contains xs s → stands_on page s ≡ false) → (k : ℕ) → k < cells_of class
+pub none_taken : (n page class : ℕ) (xs : List Storage) → class < 8 → All (IsStorage n) xs → ((s : Storage) → Contains xs s → stands_on page s ≡ false) → (k : ℕ) → k < cells_of class
     → is_cell_taken xs page (class_words_of class) k ≡ false
 none_taken n page class xs known each none k within = false_from_ne_true _ (λ taken.
     let (s, inside, first, stands) = cell_taken_by n page class k xs known within each taken in

@@ -9,3 +9,7 @@ pub mod Layouts
 pub mod CellAdded
 pub mod FirstFit
 pub mod RunAdded
+pub mod CellRemoved
+pub mod RunChanged
+pub mod StorageForms
+pub mod Start

@@ -69,6 +69,25 @@ run_page_words n first count mapped leaf xs page distance some most near at laid
     let behind : page - 64 * first / 64 ≡ distance = omega arith in
     sym (words_at n page xs t laid inside stands ∙ words_by_large page xs t (run_is_large t run) ∙ ap (λ k. run_page k mapped leaf (page - 64 * first / 64)) pages ∙ ap (run_page count mapped leaf) behind)
 
+-- Pages that are written as the new storages have them, where those leave the words of the others.
+pub written_pages : (old new : List Page) (first count : ℕ) (page_at : ℕ → Page) (xs ys : List Storage) → StandFor old xs → PagesAreWritten old new first count page_at → AreLaidOut (length old) ys
+    → ((distance : ℕ) → distance < count → page_at distance ≡ words_of_storages ys (first + distance))
+    → ((page : ℕ) → (first ≤ page → page < first + count → ⊥) → words_of_storages xs page ≡ words_of_storages ys page) → StandFor new ys
+written_pages old new first count page_at xs ys stand change laid inside outside = record {
+  laid_out = subst (λ (k : ℕ). AreLaidOut k ys) (sym change.same_length) laid;
+  words = λ page d below.
+      let within : page < length old = omega (arith, change.same_length) in
+      elim (cases_lt page first) [
+        | inl before ↦ change.before page d before ∙ stand.words page d within ∙ outside page (λ low high. omega arith)
+        | inr low ↦ elim (cases_lt page (first + count)) [
+          | inr behind ↦ change.behind page d behind ∙ stand.words page d within ∙ outside page (λ low high. omega arith)
+          | inl high ↦
+              let at : first + (page - first) ≡ page = omega arith in
+              subst (λ (k : ℕ). slice_index_or new k d ≡ words_of_storages ys k) at (change.written (page - first) d (omega arith) ∙ inside (page - first) (omega arith))
+        ]
+      ];
+}
+
 pub run_added : (old new : List Page) (storages : List Storage) (first count : ℕ) (leaf : Bool) → StandFor old storages → 1 ≤ count → count ≤ 64 → AreFree first count old
     → PagesAreWritten old new first count (run_page count true leaf) → StandFor new (storages ++ run_storage first count true leaf ∷ [])
 run_added old new storages first count leaf stand some most free change =
@@ -78,20 +97,6 @@ run_added old new storages first count leaf stand some most free change =
     λ s inside page low high. none_on_free old storages stand page free_page (omega (arith, free.within)) (free.free page free_page low high) s inside in
     let is : IsStorage n t = (inr (run_storage_is_run first count true leaf some most), omega (arith, free.within)) in
     let laid = laid_push n storages t stand.laid_out is (λ s inside. run_apart n first count leaf s some (All-contains (IsStorage n) storages s stand.laid_out.each inside) (bare s inside)) in
-    let other : (page : ℕ) (d : Page) → page < n → (stands_on page t ≡ true → ⊥) → slice_index_or old page d ≡ words_of_storages (storages ++ t ∷ []) page =
-    λ page d within elsewhere. stand.words page d within ∙ words_push_other n page storages t stand.laid_out laid elsewhere in
-    record {
-      laid_out = subst (λ (k : ℕ). AreLaidOut k (storages ++ t ∷ [])) (sym change.same_length) laid;
-      words = λ page d below.
-          let within : page < n = omega (arith, change.same_length) in
-          elim (cases_lt page first) [
-            | inl before ↦ change.before page d before ∙ other page d within (λ stands. let range = run_stands first count true leaf page stands some in absurd (omega arith))
-            | inr low ↦ elim (cases_lt page (first + count)) [
-              | inr behind ↦ change.behind page d behind ∙ other page d within (λ stands. let range = run_stands first count true leaf page stands some in absurd (omega arith))
-              | inl high ↦
-                  let at : first + (page - first) ≡ page = omega arith in
-                  ap (λ k. slice_index_or new k d) (sym at) ∙ change.written (page - first) d (omega arith)
-                  ∙ run_page_words n first count true leaf (storages ++ t ∷ []) page (page - first) some most (omega arith) at laid (Contains-push storages t)
-            ]
-          ];
-    }
+    written_pages old new first count (run_page count true leaf) storages (storages ++ t ∷ []) stand change laid
+    (λ distance near. run_page_words n first count true leaf (storages ++ t ∷ []) (first + distance) distance some most near refl laid (Contains-push storages t))
+    (λ page elsewhere. words_push_other n page storages t stand.laid_out laid (λ stands. let range = run_stands first count true leaf page stands some in elsewhere range.0 range.1))

@@ -1,13 +1,13 @@
 -- The laws of pages and storages. Each holds of all pages and all storages that they stand for.
-use Rattle.std.specs.Prelude.{◌≡◌, ℕ, ◌<◌, ◌≤◌, Bool, true, List, [], ◌∷◌, ◌++◌, length, slice_get, slice_set, Some}
+use Rattle.std.specs.Prelude.{◌≡◌, ℕ, ◌+◌, ◌<◌, ◌≤◌, Bool, true, false, List, [], ◌∷◌, ◌++◌, length, slice_get, replicate, slice_set, slice_index_or, remove, Some}
 use Rattle.mk_geom.specs.declared.pages.Page.{Page}
 use Rattle.mk_geom.specs.declared.pages.Place.{Place}
-use Rattle.mk_geom.specs.Classes.{class_for, run_pages_of}
+use Rattle.mk_geom.specs.Classes.{cells_of, class_for, run_pages_of}
 use Rattle.mk_geom.specs.PageUses.{place_among, census_among}
 use Rattle.mk_geom.specs.PageWords.{use_of_page, uses_of_pages, HaveHeaderWords}
 use Rattle.mk_geom.specs.Places.{MayTakeCell, AreFree, IsCellPlace, IsRunPlace}
-use Rattle.mk_geom.specs.Changes.{cell_storage, run_storage, with_cell, PagesAreWritten}
-use Rattle.mk_geom.specs.Storages.{Storage, uses_of_storages, place_of, census_of, run_page, StandFor}
+use Rattle.mk_geom.specs.Changes.{cell_storage, run_storage, with_cell, without_cell, unmapped_page, PagesAreWritten}
+use Rattle.mk_geom.specs.Storages.{Storage, uses_of_storages, place_of, census_of, free_page, run_page, StandFor}
 
 -- Pages show what stands on them,
 abbrev pub PagesShowUses : Type 0
@@ -26,6 +26,10 @@ PagesShowCensus = (pages : List Page) (storages : List Storage) → StandFor pag
 abbrev pub PagesHaveHeaderWords : Type 0
 PagesHaveHeaderWords = (pages : List Page) (storages : List Storage) → StandFor pages storages → HaveHeaderWords pages
 
+-- Free pages stand for no storage.
+abbrev pub FreePagesStandForNothing : Type 0
+FreePagesStandForNothing = (count : ℕ) → StandFor (replicate count free_page) []
+
 -- A page with a cell's bit set stands for one storage more, where the cell may be taken.
 abbrev pub TakenCellIsAdded : Type 0
 TakenCellIsAdded = (pages : List Page) (storages : List Storage) (page class index : ℕ) (leaf : Bool) (p : Page) → StandFor pages storages → class < 8 → slice_get pages page ≡ Some p
@@ -35,6 +39,24 @@ TakenCellIsAdded = (pages : List Page) (storages : List Storage) (page class ind
 abbrev pub TakenRunIsAdded : Type 0
 TakenRunIsAdded = (old new : List Page) (storages : List Storage) (first count : ℕ) (leaf : Bool) → StandFor old storages → 1 ≤ count → count ≤ 64 → AreFree first count old
     → PagesAreWritten old new first count (run_page count true leaf) → StandFor new (storages ++ run_storage first count true leaf ∷ [])
+
+-- A page without a cell's bit stands for the storages without that one.
+abbrev pub FreedCellIsRemoved : Type 0
+FreedCellIsRemoved = (pages : List Page) (storages : List Storage) (place page class index : ℕ) (leaf : Bool) (p : Page) → StandFor pages storages → class < 8 → index < cells_of class
+    → slice_get storages place ≡ Some (cell_storage page class index leaf) → slice_get pages page ≡ Some p
+    → StandFor (slice_set pages page (without_cell index p)) (remove storages place)
+
+-- So do pages of which a run's are free.
+abbrev pub FreedRunIsRemoved : Type 0
+FreedRunIsRemoved = (old new : List Page) (storages : List Storage) (place first count : ℕ) (mapped leaf : Bool) → StandFor old storages → 1 ≤ count → count ≤ 64
+    → slice_get storages place ≡ Some (run_storage first count mapped leaf) → PagesAreWritten old new first count (λ distance. free_page) → StandFor new (remove storages place)
+
+-- With the headers of an unmapped run they stand for that storage unmapped.
+abbrev pub UnmappedRunIsUnmapped : Type 0
+UnmappedRunIsUnmapped = (old new : List Page) (storages : List Storage) (place first count : ℕ) (mapped leaf : Bool) → StandFor old storages → 1 ≤ count → count ≤ 64
+    → slice_get storages place ≡ Some (run_storage first count mapped leaf)
+    → PagesAreWritten old new first count (λ distance. unmapped_page count distance (slice_index_or old (first + distance) free_page))
+    → StandFor new (slice_set storages place (run_storage first count false leaf))
 
 -- The place that first fit finds for a small object is a cell that it may take.
 abbrev pub FoundCellIsPlace : Type 0
