@@ -1,1 +1,15 @@
 pub mod HeaderLemmas
+pub mod ListSearch
+pub mod UsedWords
+pub mod ClassTable
+pub mod Standing
+pub mod StoredWords
+pub mod Bridge
+pub mod Layouts
+pub mod CellAdded
+pub mod FirstFit
+pub mod RunAdded
+pub mod CellRemoved
+pub mod RunChanged
+pub mod StorageForms
+pub mod Start

@@ -1,3 +1,9 @@
 pub mod Classes
 pub mod Headers
+pub mod PageUses
+pub mod PageWords
+pub mod Storages
 pub mod Addresses
+pub mod Places
+pub mod Changes
+pub mod Laws

@@ -5,7 +5,14 @@
 mod addresses;
 mod classes;
 mod headers;
+mod laws;
+mod pages;
 
 pub use addresses::{Cell, lookup};
 pub use classes::{cells, class_of, class_words, run_pages};
 pub use headers::{Header, decode, encode};
+pub use laws::{
+    a_taken_cell_is_added, a_taken_run_is_added, first_fit_finds_places,
+    pages_show_what_stands_there,
+};
+pub use pages::{Census, Page, Place};

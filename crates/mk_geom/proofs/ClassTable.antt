@@ -1,0 +1,44 @@
+-- The classes, one by one, and the cells of a page.
+use Rattle.std.proofs.Common.{◌≡◌, ℕ, zero, suc, ◌+◌, ◌*◌, ◌/◌, ◌<◌, ◌≤◌, ◌==◌, nat_le, Some, None, position, refl, sym, ◌∙◌, inl, inr, arith, le_refl, div-add-mod', leb-true}
+use Rattle.std.proofs.lemmas.Bool.{cases_Bool, cond-true, cond-false}
+use Rattle.std.proofs.lemmas.List.Quantifiers.{position-Some}
+use Rattle.std.proofs.lemmas.Nat.{mul-le, le-div}
+use Rattle.std.proofs.lemmas.Option.{none-some}
+use Rattle.mk_geom.specs.Classes.{class_sizes, class_words_of, cells_of, class_for}
+
+pub class_for-class_words_of : (class : ℕ) → class < 8 → class_for (class_words_of class) ≡ Some class
+class_for-class_words_of zero known = refl
+class_for-class_words_of (suc zero) known = refl
+class_for-class_words_of (suc (suc zero)) known = refl
+class_for-class_words_of (suc (suc (suc zero))) known = refl
+class_for-class_words_of (suc (suc (suc (suc zero)))) known = refl
+class_for-class_words_of (suc (suc (suc (suc (suc zero))))) known = refl
+class_for-class_words_of (suc (suc (suc (suc (suc (suc zero)))))) known = refl
+class_for-class_words_of (suc (suc (suc (suc (suc (suc (suc zero))))))) known = refl
+class_for-class_words_of (suc (suc (suc (suc (suc (suc (suc (suc n)))))))) known = absurd (omega arith)
+
+pub class_words_within : (class : ℕ) → class < 8 → (2 ≤ class_words_of class) × (class_words_of class ≤ 32)
+class_words_within zero known = (omega arith, omega arith)
+class_words_within (suc zero) known = (omega arith, omega arith)
+class_words_within (suc (suc zero)) known = (omega arith, omega arith)
+class_words_within (suc (suc (suc zero))) known = (omega arith, omega arith)
+class_words_within (suc (suc (suc (suc zero)))) known = (omega arith, omega arith)
+class_words_within (suc (suc (suc (suc (suc zero))))) known = (omega arith, omega arith)
+class_words_within (suc (suc (suc (suc (suc (suc zero)))))) known = (omega arith, omega arith)
+class_words_within (suc (suc (suc (suc (suc (suc (suc zero))))))) known = (omega arith, omega arith)
+class_words_within (suc (suc (suc (suc (suc (suc (suc (suc n)))))))) known = absurd (omega arith)
+
+-- a cell of so many words ends within its page
+pub cell_ends : (index words : ℕ) → index < 64 / words → index * words + words ≤ 64
+cell_ends index words within = omega (arith, div-add-mod' 64 words, mul-le (suc index) words (64 / words) words within (le_refl words))
+
+pub class_for-some : (words class : ℕ) → class_for words ≡ Some class → (class < 8) × (words ≤ class_words_of class)
+class_for-some words class is = elim (cases_Bool (words == 0)) [
+  | inl zero_words ↦ absurd (none-some class (sym (cond-true (words == 0) None (position (λ size. nat_le words size) class_sizes) zero_words) ∙ is))
+  | inr some ↦
+      let at = position-Some (λ size. nat_le words size) class_sizes class 0 (sym (cond-false (words == 0) None (position (λ size. nat_le words size) class_sizes) some) ∙ is) in
+      (at.0, leb-true words (class_words_of class) at.1)
+]
+
+pub some_cells : (class : ℕ) → class < 8 → 0 < cells_of class
+some_cells class known = let range = class_words_within class known in le-div 1 64 (class_words_of class) (omega arith) (omega arith)

@@ -1,0 +1,77 @@
+-- Which pages a storage stands on, and what two storages on one page share.
+use Rattle.std.proofs.Common.{◌≡◌, ℕ, ◌+◌, ◌-◌, ◌/◌, ◌%◌, ◌<◌, ◌≤◌, true, false, List, get_or, Contains, ◌⊎◌, inl, inr, refl, sym, ◌∙◌, ap, subst, arith, leb-true, leb-false, le-leb, nat_le}
+use Rattle.std.proofs.lemmas.Bool.{false≢true, and_parts, and_from, and_cases, cases_eq, lt-leb}
+use Rattle.std.proofs.lemmas.List.{get_or_default}
+use Rattle.mk_geom.specs.Classes.{class_words_of}
+use Rattle.mk_geom.specs.Storages.{Storage, is_small, first_page, last_page, stands_on, class_of_storage, IsCell, IsRun, IsStorage, LieApart, AreLaidOut}
+use Rattle.mk_geom.proofs.ClassTable.{class_for-class_words_of, class_words_within, cell_ends}
+
+-- a cell lies within a page
+pub cell_within : (s : Storage) → IsCell s → (1 ≤ s.words) × (s.words ≤ 32) × (s.first % 64 + s.words ≤ 64)
+cell_within s cell =
+    let range = class_words_within cell.class cell.known in
+    let ends = cell_ends cell.index (class_words_of cell.class) cell.within in
+    (omega (arith, cell.words), omega (arith, cell.words), omega (arith, cell.words, cell.first))
+
+pub class_of_cell : (s : Storage) (cell : IsCell s) → class_of_storage s ≡ cell.class
+class_of_cell s cell = rw (cell.words, class_for-class_words_of cell.class cell.known) refl
+
+pub cell_is_small : (s : Storage) → IsCell s → is_small s ≡ true
+cell_is_small s cell = le-leb s.words 32 (cell_within s cell).1
+
+pub run_is_large : (s : Storage) → IsRun s → is_small s ≡ false
+run_is_large s run = lt-leb s.words 32 (omega (arith, run.words, run.some))
+
+pub small_is_cell : (n : ℕ) (s : Storage) → IsStorage n s → is_small s ≡ true → IsCell s
+small_is_cell n s (inl cell, inside) small = cell
+small_is_cell n s (inr run, inside) small = absurd (false≢true (sym (run_is_large s run) ∙ small))
+
+pub large_is_run : (n : ℕ) (s : Storage) → IsStorage n s → is_small s ≡ false → IsRun s
+large_is_run n s (inl cell, inside) large = absurd (false≢true (sym large ∙ cell_is_small s cell))
+large_is_run n s (inr run, inside) large = run
+
+pub has_words : (n : ℕ) (s : Storage) → IsStorage n s → 1 ≤ s.words
+has_words n s (inl cell, inside) = (cell_within s cell).0
+has_words n s (inr run, inside) = omega (arith, run.words, run.some)
+
+pub stands_parts : (page : ℕ) (s : Storage) → stands_on page s ≡ true → (s.first / 64 ≤ page) × (page ≤ (s.first + s.words - 1) / 64)
+stands_parts page s stands =
+    let parts = and_parts (nat_le (first_page s) page) (nat_le page (last_page s)) stands in
+    (leb-true (first_page s) page parts.0, leb-true page (last_page s) parts.1)
+
+pub stands_from : (page : ℕ) (s : Storage) → s.first / 64 ≤ page → page ≤ (s.first + s.words - 1) / 64 → stands_on page s ≡ true
+stands_from page s begins ends = and_from (nat_le (first_page s) page) (nat_le page (last_page s)) (le-leb (first_page s) page begins) (le-leb page (last_page s) ends)
+
+pub stands_apart : (page : ℕ) (s : Storage) → stands_on page s ≡ false → (page < s.first / 64) ⊎ ((s.first + s.words - 1) / 64 < page)
+stands_apart page s apart = elim (and_cases (nat_le (first_page s) page) (nat_le page (last_page s)) apart) [
+  | inl before ↦ inl (leb-false (first_page s) page before)
+  | inr behind ↦ inr (leb-false page (last_page s) behind)
+]
+
+-- a storage stands on the page of its first word, and a cell on no other
+pub stands_at_first : (n : ℕ) (s : Storage) (page : ℕ) → IsStorage n s → s.first / 64 ≡ page → stands_on page s ≡ true
+stands_at_first n s page is at = stands_from page s (omega arith) (omega (arith, has_words n s is))
+
+pub cell_stands_at : (s : Storage) (page : ℕ) → IsCell s → stands_on page s ≡ true → s.first / 64 ≡ page
+cell_stands_at s page cell stands =
+    let parts = stands_parts page s stands in
+    let within = cell_within s cell in
+    omega arith
+
+-- what two storages that share a page have in common
+pub record AreAlike (s t : Storage) : Type 0 where
+  pub small : is_small s ≡ true
+  pub small_too : is_small t ≡ true
+  pub words : s.words ≡ t.words
+  pub leaf : s.leaf ≡ t.leaf
+
+pub same_or_alike : (n : ℕ) (xs : List Storage) (page : ℕ) (s t : Storage) → AreLaidOut n xs → Contains xs s → Contains xs t → stands_on page s ≡ true → stands_on page t ≡ true
+    → (s ≡ t) ⊎ AreAlike s t
+same_or_alike n xs page s t laid (i, i_within, i_is) (j, j_within, j_is) s_stands t_stands = elim (cases_eq i j) [
+  | inl same ↦ inl (sym i_is ∙ get_or_default xs i s t i_within ∙ ap (λ k. get_or xs k t) same ∙ j_is)
+  | inr other ↦
+      let s_is : get_or xs i t ≡ s = get_or_default xs i t s i_within ∙ i_is in
+      let apart : LieApart s t = subst (λ (x : Storage). LieApart x t) s_is (subst (λ (x : Storage). LieApart (get_or xs i t) x) j_is (laid.apart i j t i_within j_within other)) in
+      let alike = apart.alike page s_stands t_stands in
+      inr (record { small = alike.0; small_too = alike.1; words = alike.2; leaf = alike.3 })
+]

@@ -1,0 +1,52 @@
+-- Used words and the bits that they are made of.
+use Rattle.std.proofs.Common.{◌≡◌, ℕ, zero, suc, ◌+◌, ◌*◌, ◌/◌, ◌^◌, ◌<◌, Bool, true, false, ◌==◌, List, [], ◌∷◌, length, get_or, set, map, refl, sym, ◌∙◌, ap, arith, pow-suc, pow_pos}
+use Rattle.std.specs.Int.{bit_at}
+use Rattle.std.specs.List.{range_with_len}
+use Rattle.std.proofs.lemmas.Bool.{false≢true, true≢false}
+use Rattle.std.proofs.lemmas.List.{same_lists}
+use Rattle.std.proofs.lemmas.List.FromFn.{length-map-range_with_len, get_or-map-range_with_len}
+use Rattle.std.proofs.lemmas.Nat.Bits.{bit_at_lowest, bit_at-suc}
+use Rattle.mk_geom.specs.PageWords.{bits_of}
+use Rattle.mk_geom.specs.Storages.{used_word}
+
+pub bit_at-used_word : (bits : List Bool) (k : ℕ) (d : Bool) → k < length bits → (bit_at (used_word bits) k == 1) ≡ get_or bits k d
+bit_at-used_word [] k d within = absurd (omega arith)
+bit_at-used_word (true ∷ bits) zero d within = let low : bit_at (1 + 2 * used_word bits) 0 ≡ 1 = bit_at_lowest (1 + 2 * used_word bits) ∙ omega arith in rw low refl
+bit_at-used_word (false ∷ bits) zero d within = let low : bit_at (0 + 2 * used_word bits) 0 ≡ 0 = bit_at_lowest (0 + 2 * used_word bits) ∙ omega arith in rw low refl
+bit_at-used_word (true ∷ bits) (suc k) d within =
+    let half : (1 + 2 * used_word bits) / 2 ≡ used_word bits = omega arith in
+    let is : bit_at (1 + 2 * used_word bits) (suc k) ≡ bit_at (used_word bits) k = bit_at-suc (1 + 2 * used_word bits) k ∙ ap (λ n. bit_at n k) half in
+    ap (λ n. n == 1) is ∙ bit_at-used_word bits k d (omega arith)
+bit_at-used_word (false ∷ bits) (suc k) d within =
+    let half : (0 + 2 * used_word bits) / 2 ≡ used_word bits = omega arith in
+    let is : bit_at (0 + 2 * used_word bits) (suc k) ≡ bit_at (used_word bits) k = bit_at-suc (0 + 2 * used_word bits) k ∙ ap (λ n. bit_at n k) half in
+    ap (λ n. n == 1) is ∙ bit_at-used_word bits k d (omega arith)
+
+pub bits_of-used_word : (bits : List Bool) (n : ℕ) → length bits ≡ n → bits_of n (used_word bits) ≡ bits
+bits_of-used_word bits n long =
+    let bit = λ (k : ℕ). bit_at (used_word bits) k == 1 in
+    let len : length (map bit (range_with_len 0 n)) ≡ n = length-map-range_with_len bit 0 n in
+    same_lists _ _ (len ∙ sym long) (λ k d within. get_or-map-range_with_len bit 0 n k k d (omega arith) (omega arith) ∙ bit_at-used_word bits k d (omega arith))
+
+pub used_word-set : (bits : List Bool) (k : ℕ) → k < length bits → get_or bits k true ≡ false → used_word (set bits k true) ≡ used_word bits + 2 ^ k
+used_word-set [] k within unset = absurd (omega arith)
+used_word-set (true ∷ bits) zero within unset = absurd (true≢false unset)
+used_word-set (false ∷ bits) zero within unset = omega arith
+used_word-set (bit ∷ bits) (suc k) within unset = omega (arith, used_word-set bits k (omega arith) unset, pow-suc 2 k)
+
+pub used_word-clear : (bits : List Bool) (k : ℕ) → k < length bits → get_or bits k false ≡ true → used_word (set bits k false) + 2 ^ k ≡ used_word bits
+used_word-clear [] k within is_set = absurd (omega arith)
+used_word-clear (false ∷ bits) zero within is_set = absurd (false≢true is_set)
+used_word-clear (true ∷ bits) zero within is_set = omega arith
+used_word-clear (bit ∷ bits) (suc k) within is_set = omega (arith, used_word-clear bits k (omega arith) is_set, pow-suc 2 k)
+
+-- a word with no bit is 0, and one with a bit isn't
+pub used_word_none : (bits : List Bool) → ((k : ℕ) → k < length bits → get_or bits k false ≡ false) → used_word bits ≡ 0
+used_word_none [] none = refl
+used_word_none (bit ∷ bits) none =
+    let first : bit ≡ false = none 0 (omega arith) in
+    let others : used_word bits ≡ 0 = used_word_none bits (λ k within. none (suc k) (omega arith)) in
+    rw first (omega (arith, others))
+
+pub used_word_some : (bits : List Bool) (k : ℕ) → k < length bits → get_or bits k false ≡ true → 0 < used_word bits
+used_word_some bits k within is_set = omega (arith, used_word-clear bits k within is_set, pow_pos k)

@@ -1,0 +1,14 @@
+use Rattle.mk_geom.proofs.Bridge.{same_uses, same_places, same_census, have_header_words}
+use Rattle.mk_geom.proofs.laws.pages_show_what_stands_there.Goals as goal
+
+pub returns-clause-uses : goal.returns-clause-uses
+returns-clause-uses c = same_uses
+
+pub returns-clause-places : goal.returns-clause-places
+returns-clause-places c = same_places
+
+pub returns-clause-census : goal.returns-clause-census
+returns-clause-census c = same_census
+
+pub returns-clause-header_words : goal.returns-clause-header_words
+returns-clause-header_words c = have_header_words

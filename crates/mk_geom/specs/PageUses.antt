@@ -1,0 +1,103 @@
+-- What stands on the pages of a heap, where an object goes by first fit, and the counts.
+use Rattle.std.specs.Prelude.{ℕ, ◌+◌, max, Bool, true, false, not, ◌&&◌, ◌==◌, nat_le, nat_lt, if◌then◌else◌, List, [], ◌∷◌, ◌++◌, map, sum_by, count_by, Option, Some, None, option_map, option_and_then}
+use Rattle.std.specs.List.{range_with_len}
+use Rattle.mk_geom.specs.declared.pages.Place.{Place}
+use Rattle.mk_geom.specs.declared.pages.Census.{Census}
+use Rattle.mk_geom.specs.Classes.{class_for, run_pages_of}
+
+-- What stands on a page: nothing, cells of one class and sort, of which these are taken, or a part of a run.
+pub data PageUse : Type 0 where
+  Nothing : PageUse
+  Cells : (class : ℕ) (leaf : Bool) (taken : List Bool) → PageUse
+  PartOfRun : (mapped : Bool) → PageUse
+
+abbrev pub is_free_page : PageUse → Bool
+is_free_page Nothing = true
+is_free_page (Cells class leaf taken) = false
+is_free_page (PartOfRun mapped) = false
+
+-- An unmapped run's pages are reserved and not resident.
+abbrev pub is_resident_page : PageUse → Bool
+is_resident_page Nothing = false
+is_resident_page (Cells class leaf taken) = true
+is_resident_page (PartOfRun mapped) = mapped
+
+abbrev pub resident_pages : List PageUse → ℕ
+resident_pages pages = count_by is_resident_page pages
+
+abbrev pub is_same_sort : Bool → Bool → Bool
+is_same_sort true leaf = leaf
+is_same_sort false leaf = not leaf
+
+-- the cells of a page of this class and sort, and none of another page
+abbrev pub cells_taken : ℕ → Bool → PageUse → List Bool
+cells_taken class leaf Nothing = []
+cells_taken class leaf (Cells class' leaf' taken) = if (class == class') && is_same_sort leaf leaf' then taken else []
+cells_taken class leaf (PartOfRun mapped) = []
+
+-- the place of the first that passes
+abbrev pub first_where : {A : Type 0} → (A → Bool) → List A → Option ℕ
+first_where p [] = None
+first_where p (x ∷ xs) = if p x then Some 0 else option_map (λ n. n + 1) (first_where p xs)
+
+abbrev pub or_else : {A : Type 0} → Option A → Option A → Option A
+or_else (Some x) other = Some x
+or_else None other = other
+
+abbrev pub page_behind : Place → Place
+page_behind place = record place { page = place.page + 1 }
+
+-- the lowest cell that isn't taken, of the lowest page of this class and sort that has one
+abbrev pub cell_place : ℕ → Bool → List PageUse → Option Place
+cell_place class leaf [] = None
+cell_place class leaf (page ∷ pages) =
+    or_else (option_map (λ index. record { page = 0; index = index; carve = false }) (first_where not (cells_taken class leaf page)))
+    (option_map page_behind (cell_place class leaf pages))
+
+-- the pages from a page on, where they are free and have to be carved
+abbrev pub carved : ℕ → Place
+carved page = record { page = page; index = 0; carve = true }
+
+-- such a cell; if there is none, cell 0 of the lowest free page, where fewer pages are resident than may be
+abbrev pub small_place : ℕ → ℕ → Bool → List PageUse → Option Place
+small_place limit class leaf pages =
+    or_else (cell_place class leaf pages)
+    (if nat_lt (resident_pages pages) limit then option_map carved (first_where is_free_page pages) else None)
+
+-- how many free pages stand at the front
+abbrev pub free_range : List PageUse → ℕ
+free_range [] = 0
+free_range (page ∷ pages) = if is_free_page page then free_range pages + 1 else 0
+
+-- the lowest of so many neighbours that are free
+abbrev pub range_start : ℕ → List PageUse → Option ℕ
+range_start count [] = None
+range_start count (page ∷ pages) =
+    if nat_le count (free_range (page ∷ pages)) then Some 0 else option_map (λ n. n + 1) (range_start count pages)
+
+-- that range, where no more pages are resident with it than may be
+abbrev pub large_place : ℕ → ℕ → List PageUse → Option Place
+large_place limit count pages =
+    if nat_le (resident_pages pages + count) limit then option_map carved (range_start count pages) else None
+
+-- First fit: where an object of so many words goes, leaf or not, where so many pages may be resident.
+abbrev pub place_among : ℕ → ℕ → Bool → List PageUse → Option Place
+place_among limit words leaf pages =
+    if nat_le words 32
+    then option_and_then (λ class. small_place limit class leaf pages) (class_for words)
+    else large_place limit (run_pages_of words) pages
+
+abbrev pub longest_free_range : List PageUse → ℕ
+longest_free_range [] = 0
+longest_free_range (page ∷ pages) = max (free_range (page ∷ pages)) (longest_free_range pages)
+
+abbrev pub free_cells_among : Bool → List PageUse → ℕ → ℕ
+free_cells_among leaf pages class = sum_by (λ page. count_by not (cells_taken class leaf page)) pages
+
+abbrev pub census_among : List PageUse → Census
+census_among pages = record {
+  free_pages = count_by is_free_page pages;
+  longest_range = longest_free_range pages;
+  resident = resident_pages pages;
+  free_cells = map (free_cells_among false pages) (range_with_len 0 8) ++ map (free_cells_among true pages) (range_with_len 0 8);
+}

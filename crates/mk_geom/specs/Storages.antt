@@ -1,0 +1,143 @@
+-- The storage of objects: what stands on the pages of a heap, read off a plain list.
+use Rattle.std.specs.Prelude.{◌≡◌, ◌≢◌, ℕ, zero, suc, ◌+◌, ◌-◌, ◌*◌, ◌/◌, ◌%◌, ◌<◌, ◌≤◌, Bool, true, false, ◌&&◌, ◌==◌, nat_le, if◌then◌else◌, List, [], ◌∷◌, length, map, find, slice_index_or, All, Option, Some, None, IsSome, unwrap_or, ◌⊎◌}
+use Rattle.std.specs.List.{range_with_len, list_any}
+use Rattle.mk_geom.specs.declared.pages.Page.{Page}
+use Rattle.mk_geom.specs.declared.pages.Place.{Place}
+use Rattle.mk_geom.specs.declared.pages.Census.{Census}
+use Rattle.mk_geom.specs.declared.headers.Header.{Header}
+use Rattle.mk_geom.specs.declared.headers.Header.TheVariants.{Block, Run, Later, LeafBlock, LeafRun}
+use Rattle.mk_geom.specs.Classes.{class_for, class_words_of, cells_of}
+use Rattle.mk_geom.specs.Headers.{word_of}
+use Rattle.mk_geom.specs.PageUses.{PageUse, Nothing, Cells, PartOfRun, place_among, census_among}
+
+-- An object's storage: its first heap word, how many words it takes, whether its pages are mapped, and whether it is
+-- leaf. A small object takes a cell, and a large one all the words of its pages.
+pub record Storage : Type 0 where
+  pub first : ℕ
+  pub words : ℕ
+  pub mapped : Bool
+  pub leaf : Bool
+
+abbrev pub is_small : Storage → Bool
+is_small s = nat_le s.words 32
+
+-- the page that it begins on, and the one that it ends on
+abbrev pub first_page : Storage → ℕ
+first_page s = s.first / 64
+
+abbrev pub last_page : Storage → ℕ
+last_page s = (s.first + s.words - 1) / 64
+
+abbrev pub stands_on : ℕ → Storage → Bool
+stands_on page s = nat_le (first_page s) page && nat_le page (last_page s)
+
+-- the class of a cell of so many words
+abbrev pub class_of_storage : Storage → ℕ
+class_of_storage s = unwrap_or (class_for s.words) 0
+
+-- whether a storage begins at cell k of a page of cells of so many words
+abbrev pub is_cell_taken : List Storage → ℕ → ℕ → ℕ → Bool
+is_cell_taken storages page words k = list_any (λ s. s.first == 64 * page + k * words) storages
+
+abbrev pub taken_cells : List Storage → ℕ → ℕ → List Bool
+taken_cells storages page class = map (is_cell_taken storages page (class_words_of class)) (range_with_len 0 (cells_of class))
+
+-- what stands on a page, where this is a storage that does
+abbrev pub use_by : List Storage → ℕ → Option Storage → PageUse
+use_by storages page None = Nothing
+use_by storages page (Some s) =
+    if is_small s then Cells (class_of_storage s) s.leaf (taken_cells storages page (class_of_storage s)) else PartOfRun s.mapped
+
+abbrev pub use_of_storages : List Storage → ℕ → PageUse
+use_of_storages storages page = use_by storages page (find (stands_on page) storages)
+
+-- what stands on each page of a heap of so many
+abbrev pub uses_of_storages : ℕ → List Storage → List PageUse
+uses_of_storages pages storages = map (use_of_storages storages) (range_with_len 0 pages)
+
+-- Place, fits and census, of a heap of so many pages.
+abbrev pub place_of : ℕ → ℕ → ℕ → Bool → List Storage → Option Place
+place_of pages limit words leaf storages = place_among limit words leaf (uses_of_storages pages storages)
+
+abbrev pub Fits : ℕ → ℕ → ℕ → Bool → List Storage → Type 0
+Fits pages limit words leaf storages = IsSome (place_of pages limit words leaf storages)
+
+abbrev pub census_of : ℕ → List Storage → Census
+census_of pages storages = census_among (uses_of_storages pages storages)
+
+-- A cell of a block, or whole pages of a run of 1 to 64, within a heap of so many pages.
+pub record IsCell (s : Storage) : Type 0 where
+  pub class : ℕ
+  pub index : ℕ
+  pub known : class < 8
+  pub words : s.words ≡ class_words_of class
+  pub within : index < cells_of class
+  pub first : s.first % 64 ≡ index * class_words_of class
+  pub mapped : s.mapped ≡ true
+
+pub record IsRun (s : Storage) : Type 0 where
+  pub pages : ℕ
+  pub some : 1 ≤ pages
+  pub most : pages ≤ 64
+  pub words : s.words ≡ 64 * pages
+  pub first : s.first % 64 ≡ 0
+
+abbrev pub IsStorage : ℕ → Storage → Type 0
+IsStorage pages s = (IsCell s ⊎ IsRun s) × (s.first + s.words ≤ 64 * pages)
+
+-- two storages that share no word, and no page but as cells of one class and sort
+pub record LieApart (s t : Storage) : Type 0 where
+  pub apart : (s.first + s.words ≤ t.first) ⊎ (t.first + t.words ≤ s.first)
+  pub alike : (page : ℕ) → stands_on page s ≡ true → stands_on page t ≡ true
+      → (is_small s ≡ true) × (is_small t ≡ true) × (s.words ≡ t.words) × (s.leaf ≡ t.leaf)
+
+pub record AreLaidOut (pages : ℕ) (storages : List Storage) : Type 0 where
+  pub each : All (IsStorage pages) storages
+  pub apart : (i j : ℕ) (d : Storage) → i < length storages → j < length storages → i ≢ j
+      → LieApart (slice_index_or storages i d) (slice_index_or storages j d)
+
+-- the used word in which these bits are set
+abbrev pub used_word : List Bool → ℕ
+used_word [] = 0
+used_word (bit ∷ bits) = (if bit then 1 else 0) + 2 * used_word bits
+
+abbrev pub block_header : ℕ → Bool → Header
+block_header class true = LeafBlock class
+block_header class false = Block class
+
+-- the header of the page of a run that lies so far behind its head. An unmapped leaf run is as any unmapped run.
+abbrev pub run_header : ℕ → Bool → Bool → ℕ → Header
+run_header pages mapped leaf zero = if leaf && mapped then LeafRun pages else Run pages mapped
+run_header pages mapped leaf (suc distance) = Later (suc distance) mapped
+
+-- a run's used bit is bit 0 of its head
+abbrev pub run_used : ℕ → ℕ
+run_used zero = 1
+run_used (suc distance) = 0
+
+-- a page with nothing on it, that of a block with its used word, and one of a run
+abbrev pub free_page : Page
+free_page = record { header = 0; used = 0 }
+
+abbrev pub block_page : ℕ → Bool → ℕ → Page
+block_page class leaf used = record { header = word_of (block_header class leaf); used = used }
+
+abbrev pub run_page : ℕ → Bool → Bool → ℕ → Page
+run_page pages mapped leaf distance = record { header = word_of (run_header pages mapped leaf distance); used = run_used distance }
+
+-- the words of a page, where this is a storage that stands on it
+abbrev pub words_by : List Storage → ℕ → Option Storage → Page
+words_by storages page None = free_page
+words_by storages page (Some s) =
+    if is_small s
+    then block_page (class_of_storage s) s.leaf (used_word (taken_cells storages page (class_of_storage s)))
+    else run_page (s.words / 64) s.mapped s.leaf (page - first_page s)
+
+-- the words of a page on which these storages stand
+abbrev pub words_of_storages : List Storage → ℕ → Page
+words_of_storages storages page = words_by storages page (find (stands_on page) storages)
+
+-- The headers and used bits of the pages stand for these storages.
+pub record StandFor (pages : List Page) (storages : List Storage) : Type 0 where
+  pub laid_out : AreLaidOut (length pages) storages
+  pub words : (page : ℕ) (d : Page) → page < length pages → slice_index_or pages page d ≡ words_of_storages storages page
