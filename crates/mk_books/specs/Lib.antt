@@ -1,0 +1,2 @@
+pub mod Quarantine
+pub mod Books

@@ -1,0 +1,9 @@
+//! The heap's books: where an object goes, counts of the pages, and what can be given back.
+#![tactic(auto)]
+
+mod books;
+mod trigger;
+
+pub use books::{Book, NoMemory};
+pub use mk_geom::{Census, Page, Place};
+pub use trigger::{due, freeable};
