@@ -1,1 +1,3 @@
 pub mod FreeableLemmas
+pub mod FirstWhereLemmas
+pub mod UsedBitLemmas

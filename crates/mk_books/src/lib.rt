@@ -2,6 +2,7 @@
 #![tactic(auto)]
 
 mod books;
+mod page_uses;
 mod trigger;
 
 pub use books::{Book, NoMemory};
