@@ -1,3 +1,4 @@
 pub mod FreeableLemmas
 pub mod FirstWhereLemmas
 pub mod UsedBitLemmas
+pub mod FreeRangeLemmas

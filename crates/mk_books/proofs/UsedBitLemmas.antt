@@ -27,7 +27,7 @@ record LowestZero (word place : ℕ) : Type 0 where
 
 trailing_ones_is : (word : ℕ) → word < 2 ^ 64 → LowestZero word (trailing_ones w64 word)
 trailing_ones_is word fits = elim (cases_lt (word + 1) (2 ^ 64)) as (λ _. LowestZero word (trailing_ones w64 word)) [
-    inl less ↦
+  | inl less ↦
       let place = bit_at-trailing_ones w64 word less in
       record { below = λ k lower within. place.2 k lower; here = λ within. place.1 }
   | inr most ↦
@@ -35,7 +35,7 @@ trailing_ones_is word fits = elim (cases_lt (word + 1) (2 ^ 64)) as (λ _. Lowes
       let none : bit_not w64 word ≡ 0 = omega arith in
       let end : trailing_ones w64 word ≡ 64 = ap (trailing_zeros w64) none ∙ trailing_of_zero 64 in
       record { below = λ k lower within. rw all (bit_at_ones 64 k within); here = λ within. absurd (omega (arith, end)) }
-  ]
+]
 
 pub first_where-bits_of : (count word : ℕ) → count ≤ 64 → word < 2 ^ 64
     → first_where not (bits_of count word) ≡ then_some (nat_lt (trailing_ones w64 word) count) (trailing_ones w64 word)
@@ -44,16 +44,16 @@ first_where-bits_of count word short fits =
     let lowest = trailing_ones_is word fits in
     let bits = bits_of count word in
     let taken : (k : ℕ) → k < place → k < count → not (get_or bits k false) ≡ false
-        = λ k lower within. rw (get_or-bits_of count word k false within, eq-eqb (bit_at word k) 1 (lowest.below k lower (omega arith))) in
+    = λ k lower within. rw (get_or-bits_of count word k false within, eq-eqb (bit_at word k) 1 (lowest.below k lower (omega arith))) in
     elim (cases_lt place count) [
-        inl within ↦
+      | inl within ↦
           rw (lt-ltb place count within)
           (first_where_at not bits place false (omega (arith, length-bits_of count word)) (λ k lower. taken k lower (omega arith))
           (rw (get_or-bits_of count word place false within, lowest.here (omega arith))))
       | inr past ↦
           rw (le-ltb place count past)
           (first_where_nowhere not bits false (λ k short. taken k (omega (arith, length-bits_of count word)) (omega (arith, length-bits_of count word))))
-      ]
+    ]
 
 -- the word of the low bits that are 0
 abbrev pub clear_bits : ℕ → ℕ → ℕ
@@ -69,7 +69,7 @@ bit_at-clear_bits count word k short fits =
     let bits = bits_of count word in
     let split = bit_at_and (bit_not w64 word) (2 ^ count - 1) k in
     elim (cases_lt k count) [
-        inl within ↦
+      | inl within ↦
           let inside : k < length bits = omega (arith, length-bits_of count word) in
           let bit = bit_at-lt word k in
           split
@@ -84,10 +84,10 @@ bit_at-clear_bits count word k short fits =
           ∙ ap (λ x. min (bit_at (bit_not w64 word) k) x) (bit_at_ones_above count k past)
           ∙ (let none : min (bit_at (bit_not w64 word) k) 0 ≡ 0 = omega arith in none)
           ∙ ap (λ b. cond b 1 0) (sym (get_or_past (map not bits) k false outside))
-      ]
+    ]
 
 pub count_ones-clear_bits : (count word : ℕ) → count ≤ 64 → word < 2 ^ 64 → count_ones (clear_bits count word) ≡ count_by not (bits_of count word)
 count_ones-clear_bits count word short fits =
     ap count_ones (same_from_bits (clear_bits count word) (mask_l (map not (bits_of count word)))
-      (λ k. bit_at-clear_bits count word k short fits ∙ sym (bit_mask_l (map not (bits_of count word)) k)))
+    (λ k. bit_at-clear_bits count word k short fits ∙ sym (bit_mask_l (map not (bits_of count word)) k)))
     ∙ ones-mask_l not (bits_of count word)

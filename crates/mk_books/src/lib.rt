@@ -2,9 +2,11 @@
 #![tactic(auto)]
 
 mod books;
+mod counting;
 mod page_uses;
 mod trigger;
 
 pub use books::{Book, NoMemory};
+pub use counting::{census, free_pages};
 pub use mk_geom::{Census, Page, Place};
 pub use trigger::{due, freeable};
