@@ -2,3 +2,4 @@ pub mod FreeableLemmas
 pub mod FirstWhereLemmas
 pub mod UsedBitLemmas
 pub mod FreeRangeLemmas
+pub mod FreeCellLemmas

@@ -1,11 +1,11 @@
 //! Counts of what stands on the pages.
-ghost use Rattle.std.specs.Prelude.{◌≡◌, count_by};
+ghost use Rattle.std.specs.Prelude.{◌≡◌, ◌<◌, count_by};
 ghost use Rattle.mk_geom.specs.PageUses.{is_free_page, resident_pages, longest_free_range, census_among};
 ghost use Rattle.mk_geom.specs.PageWords.{uses_of_pages};
-ghost use Rattle.mk_books.specs.FreeCells.{free_cells_by_class};
+ghost use Rattle.mk_books.specs.FreeCells.{free_cells_by_class, class_place};
 
-use crate::page_uses::{count_clear, is_free, is_resident};
-use mk_geom::{Census, Header, Page, cells, decode};
+use crate::page_uses::{BlockKind, block_of, count_clear, is_free, is_resident};
+use mk_geom::{Census, Page, cells};
 
 const CLASSES: usize = 8;
 
@@ -53,15 +53,18 @@ fn free_cells(pages: &[Page]) -> [u64; 16]
 {
     let mut counts = [0; 2 * CLASSES];
     for page in pages {
-        match decode(page.header) {
-            Some(Header::Block(class)) => {
-                counts[class as usize] += count_clear(page.used, cells(class));
-            }
-            Some(Header::LeafBlock(class)) => {
-                counts[CLASSES + class as usize] += count_clear(page.used, cells(class));
-            }
-            _ => {}
+        if let Some(kind) = block_of(*page) {
+            counts[place_of(kind)] += count_clear(page.used, cells(kind.class));
         }
     }
     counts
+}
+
+fn place_of(kind: BlockKind) -> usize
+    requires { kind.class < 8 }
+    ensures place { result ≡ class_place kind.class kind.leaf }
+    ensures in_range { result < 16 }
+{
+    let class = kind.class as usize;
+    if kind.leaf { CLASSES + class } else { class }
 }

@@ -1,7 +1,9 @@
 //! What stands on one page.
-ghost use Rattle.std.specs.Prelude.{◌≡◌, ◌<◌, ◌≤◌, not, count_by};
-ghost use Rattle.mk_geom.specs.PageUses.{is_free_page, is_resident_page, cells_taken, first_where};
+ghost use Rattle.std.specs.Prelude.{◌≡◌, ◌<◌, ◌≤◌, not, count_by, IfSome, IfNone};
+ghost use Rattle.mk_geom.specs.PageUses.{Cells, is_free_page, is_resident_page, cells_taken, first_where};
 ghost use Rattle.mk_geom.specs.PageWords.{use_of_page, bits_of};
+ghost use Rattle.mk_geom.specs.Classes.{cells_of};
+ghost use Rattle.mk_books.specs.FreeCells.{HasNoCells};
 
 use mk_geom::{Header, Page, cells, decode};
 
@@ -21,20 +23,37 @@ pub(crate) fn is_resident(page: Page) -> bool
     }
 }
 
+/// What the cells of a block are for.
+#[derive(Clone, Copy)]
+pub(crate) struct BlockKind {
+    pub(crate) class: u64,
+    pub(crate) leaf: bool,
+}
+
+/// The kind of a block; none where the page is no block.
+pub(crate) fn block_of(page: Page) -> Option<BlockKind>
+    ensures in_range { IfSome result (λ kind. kind.class < 8) }
+    ensures block { IfSome result (λ kind. use_of_page page ≡ Cells kind.class kind.leaf (bits_of (cells_of kind.class) page.used)) }
+    ensures none { IfNone result (HasNoCells (use_of_page page)) }
+{
+    match decode(page.header)? {
+        Header::Block(class) => Some(BlockKind { class, leaf: false }),
+        Header::LeafBlock(class) => Some(BlockKind { class, leaf: true }),
+        Header::Free | Header::Run { .. } | Header::Later { .. } | Header::LeafRun { .. } => None,
+    }
+}
+
 /// The lowest cell that isn't taken, where the page is a block of this class and sort.
 pub(crate) fn free_cell(page: Page, class: u64, leaf: bool) -> Option<u64>
     requires { class < 8 }
     ensures { result ≡ first_where not (cells_taken class leaf (use_of_page page)) }
 {
-    let block = if leaf {
-        Header::LeafBlock(class)
-    } else {
-        Header::Block(class)
-    };
-    if decode(page.header) != Some(block) {
-        return None;
+    match block_of(page) {
+        Some(kind) if kind.class == class && kind.leaf == leaf => {
+            lowest_clear(page.used, cells(class))
+        }
+        _ => None,
     }
-    lowest_clear(page.used, cells(class))
 }
 
 /// The place of the lowest 0 among the low bits.

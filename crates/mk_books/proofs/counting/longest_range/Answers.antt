@@ -11,18 +11,18 @@ loop-page-init c = record { below = omega arith; counted = omega arith; rest = l
 pub loop-page-preserved : goal.loop-page-preserved
 loop-page-preserved c =
     elim c.if-is_free.branch [
-        then-is_free w ↦ record {
-          below = omega arith;
-          counted = omega arith;
-          rest =
+      | then-is_free w ↦ record {
+        below = omega arith;
+        counted = omega arith;
+        rest =
             rw (c.max-longest.ensures, w.range-is)
             (sym (longest_with-free _ _ _ c.args.pages.now _ c.loop-page-test.true (sym c.is_free.ensures ∙ w.if-is_free.true)) ∙ c.loop-page.invariant.rest);
-        }
+      }
       | else-is_free w ↦ record {
-          below = omega arith;
-          counted = omega arith;
-          rest =
+        below = omega arith;
+        counted = omega arith;
+        rest =
             rw (c.max-longest.ensures, w.range-is)
             (sym (longest_with-taken _ _ _ c.args.pages.now _ c.loop-page-test.true c.loop-page.invariant.below (sym c.is_free.ensures ∙ w.if-is_free.false)) ∙ c.loop-page.invariant.rest);
-        }
-      ]
+      }
+    ]
