@@ -123,7 +123,7 @@ by_class-push pages class false taken within =
     let leaves = free_cells_of_sort true pages in
     let long = length-free_cells_of_sort false pages in
     ap (λ rest. free_cells_of_sort false (pages ++ Cells class false taken ∷ []) ++ rest)
-      (of_sort-push_other true pages (Cells class false taken) (other_sort false taken class))
+    (of_sort-push_other true pages (Cells class false taken) (other_sort false taken class))
     ∙ ap (λ front. front ++ leaves) (of_sort-push false pages class taken within)
     ∙ sym (set-halves blocks leaves class (get_or blocks class 0 + count_by not taken) false long within)
     ∙ ap (λ count. set (blocks ++ leaves) class (count + count_by not taken)) (sym (get_or-halves blocks leaves class false long within))
@@ -132,7 +132,7 @@ by_class-push pages class true taken within =
     let leaves = free_cells_of_sort true pages in
     let long = length-free_cells_of_sort false pages in
     ap (λ front. front ++ free_cells_of_sort true (pages ++ Cells class true taken ∷ []))
-      (of_sort-push_other false pages (Cells class true taken) (other_sort true taken class))
+    (of_sort-push_other false pages (Cells class true taken) (other_sort true taken class))
     ∙ ap (λ rest. blocks ++ rest) (of_sort-push true pages class taken within)
     ∙ sym (set-halves blocks leaves class (get_or leaves class 0 + count_by not taken) true long within)
     ∙ ap (λ count. set (blocks ++ leaves) (8 + class) (count + count_by not taken)) (sym (get_or-halves blocks leaves class true long within))
@@ -207,7 +207,7 @@ pub room_for_block : (pages : List Page) (i : ℕ) (counts : List ℕ) (class : 
 room_for_block pages i counts class leaf page place count at in_memory =
     let before = uses_of_pages (take i pages) in
     let counted : get_or counts place 0 ≡ free_cells_among leaf before class
-        = (λ j. get_or (at.counted j) (at.placed j) 0) ∙ get_or-by_class before class leaf at.known in
+    = (λ j. get_or (at.counted j) (at.placed j) 0) ∙ get_or-by_class before class leaf at.known in
     omega (
       arith,
       counted,
@@ -217,7 +217,7 @@ room_for_block pages i counts class leaf page place count at in_memory =
       length-take-le i pages (omega (arith, at.within)),
       count_by-le-length not (bits_of (cells_of class) page.used),
       length-bits_of (cells_of class) page.used,
-      cells_of-le class
+      cells_of-le class,
     )
 
 pub by_class-more : (pages : List Page) (i : ℕ) (counts : List ℕ) (class : ℕ) (leaf : Bool) (page : Page) (place count : ℕ)
@@ -227,13 +227,13 @@ by_class-more pages i counts class leaf page place count at =
     let before = uses_of_pages (take i pages) in
     (λ j. set (at.counted j) (at.placed j) (get_or (at.counted j) (at.placed j) 0 + at.added j))
     ∙ sym (ap free_cells_by_class
-      (map_more use_of_page pages i page at.within
-        ∙ ap (λ last. before ++ use_of_page last ∷ []) (sym at.here)
-        ∙ ap (λ last. before ++ last ∷ []) at.stands)
-      ∙ by_class-push before class leaf (bits_of (cells_of class) page.used) at.known)
+    (map_more use_of_page pages i page at.within
+    ∙ ap (λ last. before ++ use_of_page last ∷ []) (sym at.here)
+    ∙ ap (λ last. before ++ last ∷ []) at.stands)
+    ∙ by_class-push before class leaf (bits_of (cells_of class) page.used) at.known)
 
 pub by_class-more_other : (pages : List Page) (i : ℕ) (d : Page) → i < length pages → HasNoCells (use_of_page (get_or pages i d))
     → free_cells_by_class (uses_of_pages (take i pages)) ≡ free_cells_by_class (uses_of_pages (take (i + 1) pages))
 by_class-more_other pages i d within none =
     sym (ap free_cells_by_class (map_more use_of_page pages i d within)
-      ∙ by_class-push_other (uses_of_pages (take i pages)) (use_of_page (get_or pages i d)) none)
+    ∙ by_class-push_other (uses_of_pages (take i pages)) (use_of_page (get_or pages i d)) none)

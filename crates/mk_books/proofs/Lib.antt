@@ -3,3 +3,4 @@ pub mod FirstWhereLemmas
 pub mod UsedBitLemmas
 pub mod FreeRangeLemmas
 pub mod FreeCellLemmas
+pub mod PlaceLemmas

@@ -3,10 +3,12 @@
 
 mod books;
 mod counting;
+mod fitting;
 mod page_uses;
 mod trigger;
 
 pub use books::{Book, NoMemory};
 pub use counting::{census, free_pages};
+pub use fitting::first_fit;
 pub use mk_geom::{Census, Page, Place};
 pub use trigger::{due, freeable};
