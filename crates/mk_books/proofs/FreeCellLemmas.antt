@@ -1,12 +1,12 @@
 -- The free cells of each class, page by page.
-use Rattle.std.proofs.Common.{◌≡◌, ◌≢◌, ℕ, zero, suc, ◌+◌, ◌-◌, ◌*◌, ◌/◌, ◌^◌, ◌<◌, ◌≤◌, Bool, true, false, not, ◌&&◌, nat_eq, if◌then◌else◌, Option, Some, None, List, [], ◌∷◌, ◌++◌, length, map, take, set, get_or, count_by, sum_by, All, ap, sym, refl, add-zero, ◌∙◌, inl, inr, subst, arith}
+use Rattle.std.proofs.Common.{◌≡◌, ◌≢◌, ℕ, zero, suc, ◌+◌, ◌-◌, ◌*◌, ◌^◌, ◌<◌, ◌≤◌, Bool, true, false, not, ◌&&◌, nat_eq, if◌then◌else◌, Option, Some, None, List, [], ◌∷◌, ◌++◌, length, map, take, set, get_or, count_by, ap, sym, refl, add-zero, ◌∙◌, inl, inr, arith}
 use Rattle.std.proofs.Math.Bool.{beq}
 use Rattle.std.specs.List.{range_with_len}
-use Rattle.std.proofs.lemmas.Bool.{cases_eq, cases_Bool, eq-eqb, ne_eqb, and_right}
-use Rattle.std.proofs.lemmas.List.{same_lists, length-set, length-map, get_or-set_same, get_or-set_other, set-append_left, set-append_right, get_or_append_left, get_or-append_right, map_more, length-take-le}
+use Rattle.std.proofs.lemmas.Bool.{cases_eq, eq-eqb, ne_eqb, and_right}
+use Rattle.std.proofs.lemmas.List.{same_lists, length-set, get_or-set_same, get_or-set_other, set-append_left, set-append_right, get_or_append_left, get_or-append_right, map_more, length-take-le}
 use Rattle.std.proofs.lemmas.List.FromFn.{length-map-range_with_len, get_or-map-range_with_len}
 use Rattle.std.proofs.lemmas.List.Sums.{sum_by_push, sum_by-cons, count_by-le-length}
-use Rattle.mk_geom.specs.PageUses.{PageUse, Nothing, Cells, PartOfRun, cells_taken, is_same_sort, free_cells_among}
+use Rattle.mk_geom.specs.PageUses.{PageUse, Cells, cells_taken, is_same_sort, free_cells_among}
 use Rattle.mk_geom.specs.declared.pages.Page.{Page}
 use Rattle.mk_geom.specs.declared.headers.Header.{Header}
 use Rattle.mk_geom.specs.declared.headers.Header.TheVariants.{Free, Block, Run, Later, LeafBlock, LeafRun}

@@ -110,9 +110,9 @@ range_start_from-skip range n count pages begun within ends short =
     let next : range + suc m ≡ n + 1 = omega arith in
     let long : length (uses_of_pages rest) ≡ length pages - range = length-map rest use_of_page ∙ length-drop range pages in
     ap (option_map (λ p. p + range))
-      (range_start-skip count m (uses_of_pages rest) (omega arith) (omega arith) (omega arith)
-        ∙ ap (λ pages. option_map (λ p. p + suc m) (range_start count pages))
-          (drop-map use_of_page (suc m) rest ∙ ap uses_of_pages (drop-drop (suc m) range pages ∙ ap (λ k. drop k pages) next)))
+    (range_start-skip count m (uses_of_pages rest) (omega arith) (omega arith) (omega arith)
+    ∙ ap (λ pages. option_map (λ p. p + suc m) (range_start count pages))
+    (drop-map use_of_page (suc m) rest ∙ ap uses_of_pages (drop-drop (suc m) range pages ∙ ap (λ k. drop k pages) next)))
     ∙ from_shifted (range_start count (uses_of_pages (drop (n + 1) pages))) range (suc m) (n + 1) next
 
 pub range_start_from-here : (range count : ℕ) (pages : List Page) → 1 ≤ count → count ≤ free_range_from range pages

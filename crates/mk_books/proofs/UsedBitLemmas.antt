@@ -1,8 +1,7 @@
 -- The low bits of a used word.
-use Rattle.std.proofs.Common.{◌≡◌, ℕ, zero, suc, ◌+◌, ◌-◌, ◌*◌, ◌/◌, ◌%◌, ◌^◌, ◌<◌, ◌≤◌, min, Bool, true, false, not, cond, nat_eq, nat_lt, List, [], ◌∷◌, length, map, get_or, count_by, count_ones, bit_and, w64, refl, ap, sym, ◌∙◌, ◌⊎◌, inl, inr, eq-eqb, arith, rules}
+use Rattle.std.proofs.Common.{◌≡◌, ℕ, zero, suc, ◌+◌, ◌-◌, ◌^◌, ◌<◌, ◌≤◌, min, Bool, false, not, cond, nat_eq, nat_lt, length, map, get_or, count_by, count_ones, bit_and, w64, ap, sym, ◌∙◌, inl, inr, eq-eqb, arith}
 use Rattle.std.specs.Bool.{then_some}
 use Rattle.std.specs.Int.{bit_at, bit_not, trailing_zeros, trailing_ones}
-use Rattle.std.specs.List.{range_with_len}
 use Rattle.std.proofs.lemmas.Bool.{cases_lt, lt-ltb, le-ltb}
 use Rattle.std.proofs.lemmas.List.{length-map, get_or-map, get_or_past}
 use Rattle.std.proofs.lemmas.List.FromFn.{length-map-range_with_len, get_or-map-range_with_len}

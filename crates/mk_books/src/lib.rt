@@ -12,3 +12,6 @@ pub use counting::{census, free_pages};
 pub use fitting::first_fit;
 pub use mk_geom::{Census, Page, Place};
 pub use trigger::{due, freeable};
+
+#[cfg(test)]
+mod tests;

@@ -1,6 +1,5 @@
-use Rattle.std.proofs.Common.{not, count_by, ap, ◌∙◌, arith}
+use Rattle.std.proofs.Common.{◌∙◌, arith}
 use Rattle.std.proofs.lemmas.List.{get_or_default}
-use Rattle.mk_geom.specs.PageWords.{bits_of}
 use Rattle.mk_books.proofs.FreeCellLemmas.{room_for_block, by_class-more, by_class-more_other}
 use Rattle.mk_books.proofs.counting.free_cells.Goals as goal
 use Rattle.mk_books.proofs.counting.free_cells.Goals.{in-Some, in_default}

@@ -1,7 +1,6 @@
-use Rattle.std.proofs.Common.{◌≡◌, ◌+◌, ◌<◌, ◌≤◌, length, drop, get_or, Bool, true, false, max, arith, sym, ◌∙◌}
-use Rattle.mk_geom.specs.PageUses.{longest_free_range, is_free_page}
-use Rattle.mk_geom.specs.PageWords.{uses_of_pages, use_of_page}
-use Rattle.mk_books.proofs.FreeRangeLemmas.{longest_with, longest_with-start, longest_with-free, longest_with-taken}
+use Rattle.std.proofs.Common.{arith, sym, ◌∙◌}
+use Rattle.mk_geom.specs.PageWords.{uses_of_pages}
+use Rattle.mk_books.proofs.FreeRangeLemmas.{longest_with-start, longest_with-free, longest_with-taken}
 use Rattle.mk_books.proofs.counting.longest_range.Goals as goal
 use Rattle.mk_books.proofs.counting.longest_range.Goals.{then-is_free, else-is_free}
 

@@ -1,4 +1,4 @@
-use Rattle.std.proofs.Common.{◌≡◌, ◌+◌, ◌<◌, ◌≤◌, IsNone, None}
+use Rattle.std.proofs.Common.{◌≡◌, ◌+◌, ◌<◌, ◌≤◌, None}
 use Rattle.std.specs.Option.{option_or}
 use Rattle.mk_geom.specs.PageUses.{resident_pages, range_start}
 use Rattle.mk_geom.specs.PageWords.{uses_of_pages}
