@@ -1,0 +1,149 @@
+-- Ranges of free pages, page by page.
+use Rattle.std.proofs.Common.{◌≡◌, ℕ, zero, suc, ◌+◌, ◌<◌, ◌≤◌, max, Bool, true, false, List, [], ◌∷◌, length, get_or, drop, Option, Some, None, option_map, if◌then◌else◌, refl, ap, zero-add, ◌-◌, ◌∙◌, arith}
+use Rattle.std.specs.Option.{option_or}
+use Rattle.std.proofs.lemmas.Bool.{le-leb, lt-leb}
+use Rattle.std.proofs.lemmas.List.{at_drop_more, length-map, length-drop, drop-map, drop-drop}
+use Rattle.mk_geom.specs.declared.pages.Page.{Page}
+use Rattle.mk_geom.specs.PageUses.{PageUse, is_free_page, free_range, range_start, longest_free_range}
+use Rattle.mk_geom.specs.PageWords.{use_of_page, uses_of_pages}
+
+-- the longest range, where so many free pages stand before these and the longest of before is known
+abbrev pub longest_with : ℕ → ℕ → List PageUse → ℕ
+longest_with longest range rest = max longest (max (range + free_range rest) (longest_free_range rest))
+
+pub free_range-le-longest_free_range : (pages : List PageUse) → free_range pages ≤ longest_free_range pages
+free_range-le-longest_free_range [] = omega arith
+free_range-le-longest_free_range (page ∷ pages) = omega arith
+
+pub longest_with-start : (pages : List PageUse) → longest_with 0 0 pages ≡ longest_free_range pages
+longest_with-start pages = omega (arith, free_range-le-longest_free_range pages)
+
+pub longest_with-end : (longest range : ℕ) → range ≤ longest → longest_with longest range [] ≡ longest
+longest_with-end longest range below = omega arith
+
+-- one page more, free or not
+pub longest_with-free : (longest range i : ℕ) (pages : List Page) (d : Page) → i < length pages
+    → is_free_page (use_of_page (get_or pages i d)) ≡ true
+    → longest_with longest range (uses_of_pages (drop i pages)) ≡ longest_with (max (range + 1) longest) (range + 1) (uses_of_pages (drop (i + 1) pages))
+longest_with-free longest range i pages d within free =
+    at_drop_more (λ rest. longest_with longest range (uses_of_pages rest)) pages i d within ∙ rw free (omega arith)
+
+pub longest_with-taken : (longest range i : ℕ) (pages : List Page) (d : Page) → i < length pages → range ≤ longest
+    → is_free_page (use_of_page (get_or pages i d)) ≡ false
+    → longest_with longest range (uses_of_pages (drop i pages)) ≡ longest_with (max 0 longest) 0 (uses_of_pages (drop (i + 1) pages))
+longest_with-taken longest range i pages d within below taken =
+    at_drop_more (λ rest. longest_with longest range (uses_of_pages rest)) pages i d within
+    ∙ rw taken (omega (arith, free_range-le-longest_free_range (uses_of_pages (drop (i + 1) pages))))
+
+-- ---- the lowest range
+
+range_start-later : (count : ℕ) (page : PageUse) (pages : List PageUse) → free_range (page ∷ pages) < count
+    → range_start count (page ∷ pages) ≡ option_map (λ n. n + 1) (range_start count pages)
+range_start-later count page pages short = rw (lt-leb count (free_range (page ∷ pages)) short) refl
+
+range_start-here : (count : ℕ) (pages : List PageUse) → 1 ≤ count → count ≤ free_range pages → range_start count pages ≡ Some 0
+range_start-here count [] some long = absurd (omega arith)
+range_start-here count (page ∷ pages) some long = rw (le-leb count (free_range (page ∷ pages)) long) refl
+
+range-le : (free : Bool) (m n : ℕ) → m ≤ n → (if free then m + 1 else 0) ≤ n + 1
+range-le true m n below = omega arith
+range-le false m n below = omega arith
+
+range-suc : (free : Bool) (m n : ℕ) → (if free then m + 1 else 0) ≡ suc n → m ≡ n
+range-suc true m n longer = omega arith
+range-suc false m n longer = absurd (omega arith)
+
+free_range-le-length : (pages : List PageUse) → free_range pages ≤ length pages
+free_range-le-length [] = omega arith
+free_range-le-length (page ∷ pages) =
+    let below = range-le (is_free_page page) (free_range pages) (length pages) (free_range-le-length pages) in
+    omega (arith, below)
+
+range_start-none : (count : ℕ) (pages : List PageUse) → length pages < count → range_start count pages ≡ None
+range_start-none count [] few = refl
+range_start-none count (page ∷ pages) few =
+    range_start-later count page pages (omega (arith, free_range-le-length (page ∷ pages)))
+    ∙ ap (λ first. option_map (λ n. n + 1) first) (range_start-none count pages (omega arith))
+
+shifted_twice : (n : ℕ) (first : Option ℕ) → option_map (λ m. m + 1) (option_map (λ m. m + n) first) ≡ option_map (λ m. m + suc n) first
+shifted_twice n None = refl
+shifted_twice n (Some first) = let same : first + n + 1 ≡ first + suc n = omega arith in ap Some same
+
+-- a range that is too short, and the page behind it
+range_start-skip : (count n : ℕ) (pages : List PageUse) → free_range pages ≡ n → n < count → n < length pages
+    → range_start count pages ≡ option_map (λ m. m + suc n) (range_start count (drop (suc n) pages))
+range_start-skip count n [] ends short within = absurd (omega arith)
+range_start-skip count zero (page ∷ pages) ends short within = range_start-later count page pages (omega arith)
+range_start-skip count (suc n) (page ∷ pages) ends short within =
+    let rest : free_range pages ≡ n = range-suc (is_free_page page) (free_range pages) n ends in
+    range_start-later count page pages (omega arith)
+    ∙ ap (λ first. option_map (λ m. m + 1) first) (range_start-skip count n pages rest (omega arith) (omega arith))
+    ∙ shifted_twice (suc n) (range_start count (drop (suc n) pages))
+
+-- the free pages from page n on, and the lowest range from there on, as a place among all pages
+abbrev pub free_range_from : ℕ → List Page → ℕ
+free_range_from n pages = free_range (uses_of_pages (drop n pages))
+
+abbrev pub range_start_from : ℕ → ℕ → List Page → Option ℕ
+range_start_from n count pages = option_map (λ first. first + n) (range_start count (uses_of_pages (drop n pages)))
+
+pub free_range_from-free : (n : ℕ) (pages : List Page) (d : Page) → n < length pages
+    → is_free_page (use_of_page (get_or pages n d)) ≡ true → free_range_from n pages ≡ free_range_from (n + 1) pages + 1
+free_range_from-free n pages d within free =
+    at_drop_more (λ rest. free_range (uses_of_pages rest)) pages n d within ∙ rw free refl
+
+pub free_range_from-taken : (n : ℕ) (pages : List Page) (d : Page) → n < length pages
+    → is_free_page (use_of_page (get_or pages n d)) ≡ false → free_range_from n pages ≡ 0
+free_range_from-taken n pages d within taken =
+    at_drop_more (λ rest. free_range (uses_of_pages rest)) pages n d within ∙ rw taken refl
+
+from_shifted : (first : Option ℕ) (n m k : ℕ) → n + m ≡ k → option_map (λ p. p + n) (option_map (λ p. p + m) first) ≡ option_map (λ p. p + k) first
+from_shifted None n m k sum = refl
+from_shifted (Some first) n m k sum = let same : first + m + n ≡ first + k = omega arith in ap Some same
+
+-- the range that ends before page n, which isn't free, is too short
+pub range_start_from-skip : (range n count : ℕ) (pages : List Page) → range ≤ n → n < length pages
+    → free_range_from range pages + range ≡ n → n < range + count → range_start_from range count pages ≡ range_start_from (n + 1) count pages
+range_start_from-skip range n count pages begun within ends short =
+    let rest = drop range pages in
+    let m = n - range in
+    let next : range + suc m ≡ n + 1 = omega arith in
+    let long : length (uses_of_pages rest) ≡ length pages - range = length-map rest use_of_page ∙ length-drop range pages in
+    ap (option_map (λ p. p + range))
+    (range_start-skip count m (uses_of_pages rest) (omega arith) (omega arith) (omega arith)
+    ∙ ap (λ pages. option_map (λ p. p + suc m) (range_start count pages))
+    (drop-map use_of_page (suc m) rest ∙ ap uses_of_pages (drop-drop (suc m) range pages ∙ ap (λ k. drop k pages) next)))
+    ∙ from_shifted (range_start count (uses_of_pages (drop (n + 1) pages))) range (suc m) (n + 1) next
+
+pub range_start_from-here : (range count : ℕ) (pages : List Page) → 1 ≤ count → count ≤ free_range_from range pages
+    → range_start_from range count pages ≡ Some range
+range_start_from-here range count pages some long =
+    ap (option_map (λ p. p + range)) (range_start-here count (uses_of_pages (drop range pages)) some long) ∙ ap Some (zero-add range)
+
+pub range_start_from-end : (range count : ℕ) (pages : List Page) → range ≤ length pages → length pages < range + count
+    → range_start_from range count pages ≡ None
+range_start_from-end range count pages begun short =
+    let rest = drop range pages in
+    let long : length (uses_of_pages rest) ≡ length pages - range = length-map rest use_of_page ∙ length-drop range pages in
+    ap (option_map (λ p. p + range)) (range_start-none count (uses_of_pages rest) (omega arith))
+
+-- what a loop knows of the first range, as it goes on to the next page
+pub first-skip : (first : Option ℕ) (range n count : ℕ) (pages : List Page) → range ≤ n → n < length pages
+    → free_range_from range pages + range ≡ n → (first ≡ None → n < range + count)
+    → option_or first (range_start_from range count pages) ≡ option_or first (range_start_from (n + 1) count pages)
+first-skip None range n count pages begun within ends short = range_start_from-skip range n count pages begun within ends (short refl)
+first-skip (Some first) range n count pages begun within ends short = refl
+
+pub first-here : (first : Option ℕ) (range count : ℕ) (pages : List Page) → 1 ≤ count → count ≤ free_range_from range pages
+    → option_or first (range_start_from range count pages) ≡ option_or (option_or first (Some range)) (range_start_from range count pages)
+first-here None range count pages some long = range_start_from-here range count pages some long
+first-here (Some first) range count pages some long = refl
+
+pub first-end : (first : Option ℕ) (range count : ℕ) (pages : List Page) → range ≤ length pages
+    → (first ≡ None → length pages < range + count) → option_or first (range_start_from range count pages) ≡ first
+first-end None range count pages begun short = range_start_from-end range count pages begun (short refl)
+first-end (Some first) range count pages begun short = refl
+
+pub first-known : (first : Option ℕ) (range : ℕ) → option_or first (Some range) ≡ None → ⊥
+first-known None range none = cc
+first-known (Some first) range none = cc

@@ -1,0 +1,19 @@
+-- The cells of pages, by class and sort.
+use Rattle.std.specs.Prelude.{◌≡◌, ℕ, ◌+◌, Bool, true, false, List, [], map, ◌++◌, if◌then◌else◌}
+use Rattle.std.specs.List.{range_with_len}
+use Rattle.mk_geom.specs.PageUses.{PageUse, cells_taken, free_cells_among}
+
+-- the free cells of each class in pages of one sort
+abbrev pub free_cells_of_sort : Bool → List PageUse → List ℕ
+free_cells_of_sort leaf pages = map (free_cells_among leaf pages) (range_with_len 0 8)
+
+-- those of blocks, and then those of leaf blocks
+abbrev pub free_cells_by_class : List PageUse → List ℕ
+free_cells_by_class pages = free_cells_of_sort false pages ++ free_cells_of_sort true pages
+
+-- the place of a class and sort there
+abbrev pub class_place : ℕ → Bool → ℕ
+class_place class leaf = if leaf then 8 + class else class
+
+abbrev pub HasNoCells : PageUse → Type 0
+HasNoCells page = (class : ℕ) (leaf : Bool) → cells_taken class leaf page ≡ []

@@ -1,0 +1,3 @@
+pub mod Quarantine
+pub mod Books
+pub mod FreeCells

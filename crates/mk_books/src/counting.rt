@@ -1,0 +1,70 @@
+//! Counts of what stands on the pages.
+ghost use Rattle.std.specs.Prelude.{◌≡◌, ◌<◌, count_by};
+ghost use Rattle.mk_geom.specs.PageUses.{is_free_page, resident_pages, longest_free_range, census_among};
+ghost use Rattle.mk_geom.specs.PageWords.{uses_of_pages};
+ghost use Rattle.mk_books.specs.FreeCells.{free_cells_by_class, class_place};
+
+use crate::page_uses::{BlockKind, block_of, count_clear, is_free, is_resident};
+use mk_geom::{Census, Page, cells};
+
+const CLASSES: usize = 8;
+
+/// The counts of what stands on the pages. It walks over them four times.
+pub fn census(pages: &[Page]) -> Census
+    ensures { result ≡ census_among (uses_of_pages pages.now) }
+{
+    Census {
+        free_pages: free_pages(pages),
+        longest_range: longest_range(pages),
+        resident: count_resident(pages),
+        free_cells: free_cells(pages),
+    }
+}
+
+/// How many pages are free.
+pub fn free_pages(pages: &[Page]) -> u64
+    ensures { result ≡ count_by is_free_page (uses_of_pages pages.now) }
+{
+    pages.iter().filter(|page| is_free(**page)).count() as u64
+}
+
+fn count_resident(pages: &[Page]) -> u64
+    ensures { result ≡ resident_pages (uses_of_pages pages.now) }
+{
+    pages.iter().filter(|page| is_resident(**page)).count() as u64
+}
+
+/// The most free pages that are neighbours.
+fn longest_range(pages: &[Page]) -> u64
+    ensures { result ≡ longest_free_range (uses_of_pages pages.now) }
+{
+    let mut longest: u64 = 0;
+    let mut range: u64 = 0;
+    for page in pages {
+        range = if is_free(*page) { range + 1 } else { 0 };
+        longest = range.max(longest);
+    }
+    longest
+}
+
+/// The free cells of the blocks of each class, and then those of the leaf blocks.
+fn free_cells(pages: &[Page]) -> [u64; 16]
+    ensures { result ≡ free_cells_by_class (uses_of_pages pages.now) }
+{
+    let mut counts = [0; 2 * CLASSES];
+    for page in pages {
+        if let Some(kind) = block_of(*page) {
+            counts[place_of(kind)] += count_clear(page.used, cells(kind.class));
+        }
+    }
+    counts
+}
+
+fn place_of(kind: BlockKind) -> usize
+    requires { kind.class < 8 }
+    ensures place { result ≡ class_place kind.class kind.leaf }
+    ensures in_range { result < 16 }
+{
+    let class = kind.class as usize;
+    if kind.leaf { CLASSES + class } else { class }
+}

@@ -1,0 +1,17 @@
+//! The heap's books: where an object goes, counts of the pages, and what can be given back.
+#![tactic(auto)]
+
+mod books;
+mod counting;
+mod fitting;
+mod page_uses;
+mod trigger;
+
+pub use books::{Book, NoMemory};
+pub use counting::{census, free_pages};
+pub use fitting::first_fit;
+pub use mk_geom::{Census, Page, Place};
+pub use trigger::{due, freeable};
+
+#[cfg(test)]
+mod tests;

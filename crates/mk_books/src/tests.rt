@@ -1,0 +1,113 @@
+use super::*;
+
+const FREE: Page = Page { header: 0, used: 0 };
+
+/// A full block of cells of 32 words, a leaf block with its cell 1 free, a block with its cell 0 free, a
+/// free page, a mapped run of a page, and a free page.
+const FRAGMENTED: [Page; 6] = [
+    Page {
+        header: 8,
+        used: 0b11,
+    },
+    Page {
+        header: 13 + 16 * 7,
+        used: 0b01,
+    },
+    Page {
+        header: 8,
+        used: 0b10,
+    },
+    FREE,
+    Page {
+        header: 9 + 16,
+        used: 1,
+    },
+    FREE,
+];
+
+/// A run of a page whose storage isn't mapped.
+const UNMAPPED: Page = Page {
+    header: 11 + 16,
+    used: 1,
+};
+
+fn cell(page: u64, index: u64) -> Option<Place> {
+    Some(Place {
+        page,
+        index,
+        carve: false,
+    })
+}
+
+fn carved(page: u64) -> Option<Place> {
+    Some(Place {
+        page,
+        index: 0,
+        carve: true,
+    })
+}
+
+#[test]
+fn a_pass_is_due_above_a_quarter(rt: HostRuntime) {
+    for (fresh, held, expected) in [
+        (16, 64, false),
+        (18, 64, true),
+        (u64::MAX, u64::MAX, true),
+        (0, 0, false),
+    ] {
+        assert_eq!(rt; due(fresh, held), expected, "{fresh} of {held}");
+    }
+}
+
+#[test]
+fn only_unmarked_cells_of_the_snapshot_are_freeable(rt: HostRuntime) {
+    assert_eq!(rt; freeable(0b111, 0b11 << 32, 0b01), 0b10);
+}
+
+#[test]
+fn objects_go_to_the_lowest_place(rt: HostRuntime) {
+    for (limit, words, leaf, expected) in [
+        (6, 32, false, cell(2, 0)),
+        (6, 32, true, cell(1, 1)),
+        (6, 2, false, carved(3)),
+        (5, 2, false, carved(3)),
+        (4, 2, false, None),
+        (5, 33, false, carved(3)),
+        (4, 33, false, None),
+        (6, 65, false, None),
+    ] {
+        assert_eq!(rt;
+            first_fit(&FRAGMENTED, limit, words, leaf),
+            expected,
+            "{words} words, limit {limit}"
+        );
+    }
+    assert_eq!(rt; first_fit(&[UNMAPPED, FREE, FREE], 2, 65, true), carved(1));
+}
+
+#[test]
+fn a_census_counts_pages_and_free_cells(rt: HostRuntime) {
+    let mut free_cells = [0; 16];
+    free_cells[7] = 1;
+    free_cells[15] = 1;
+    let expected = Census {
+        free_pages: 2,
+        longest_range: 1,
+        resident: 4,
+        free_cells,
+    };
+    assert_eq!(rt; census(&FRAGMENTED), expected);
+    assert_eq!(rt; free_pages(&FRAGMENTED), 2);
+
+    let reserved = census(&[UNMAPPED, FREE, FREE]);
+    assert_eq!(rt; reserved.resident, 0);
+    assert_eq!(rt; reserved.longest_range, 2);
+}
+
+#[test]
+fn a_book_keeps_what_is_set(rt: HostRuntime) -> Result<(), NoMemory> {
+    let mut book = Book::new(rt.alloc(), 3)?;
+    book.set(1, UNMAPPED);
+    assert_eq!(rt; book.pages(), [FREE, UNMAPPED, FREE].as_slice());
+    Ok(())
+}

@@ -1,0 +1,19 @@
+//! When a marking pass is due, and which cells of a block it frees.
+ghost use Rattle.std.specs.Prelude.{◌≡◌, ◌↔◌, ℕ, ◌*◌, ◌<◌, ◌≤◌, IsTrue};
+ghost use Rattle.std.specs.Int.{bit_at};
+ghost use Rattle.mk_books.specs.Quarantine.{IsFreeable};
+
+/// Whether more than a quarter of what is held was freed since the last pass. Both are in words.
+pub fn due(fresh: u64, held: u64) -> bool
+    ensures { IsTrue result ↔ (held < 4 * fresh) }
+{
+    fresh > held / 4
+}
+
+/// The cells of a block that a finished pass gives back, one bit each.
+pub fn freeable(used: u64, quar: u64, mark: u64) -> u64
+    ensures cells { (k : ℕ) → k < 32 → (bit_at result k ≡ 1) ↔ IsFreeable used quar mark k }
+    ensures no_others { (k : ℕ) → 32 ≤ k → bit_at result k ≡ 0 }
+{
+    used & (quar >> 32) & !mark
+}
