@@ -180,3 +180,9 @@ after_calls n (x ∷ xs) = after_calls (after_op n x.caller x.op) xs
 abbrev pub replies_of : NeverState → List Call → List Reply
 replies_of n [] = []
 replies_of n (x ∷ xs) = reply_of n x.caller x.op ∷ replies_of (after_op n x.caller x.op) xs
+
+-- whether the operation grants an object, which takes memory
+abbrev pub is_granted : Op → Bool
+is_granted (New d ty true) = false
+is_granted (New d ty false) = true
+is_granted other = false

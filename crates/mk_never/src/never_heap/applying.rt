@@ -1,6 +1,6 @@
 //! Operations on the heap that never reuses storage, one by one.
-ghost use Rattle.std.specs.Prelude.{◌≡◌, IfOk, OnOk, OnErr};
-ghost use Rattle.mk_never.specs.NeverHeap.{reply_of, after_op};
+ghost use Rattle.std.specs.Prelude.{◌≡◌, false, IsTrue, IfOk, OnOk, OnErr};
+ghost use Rattle.mk_never.specs.NeverHeap.{reply_of, after_op, is_granted};
 ghost use Rattle.mk_never.specs.Admitted.{IsCaller, OperandsAreInRange, AccessIsAdmitted};
 
 use super::{NeverHeap, NoMemory, are_same, bit_of, number_in};
@@ -8,7 +8,7 @@ use crate::values::Target;
 use crate::{Op, Reply, Value};
 
 impl NeverHeap {
-    /// Does the operation of a caller. `NoMemory` comes from a `New` alone.
+    /// Does the operation of a caller.
     pub fn apply(&mut self, caller: u64, op: Op) -> Result<Reply, NoMemory>
         requires caller { IsCaller self.old caller }
         requires in_range { OperandsAreInRange self.old op }
@@ -16,6 +16,7 @@ impl NeverHeap {
         ensures reply { IfOk result (λ reply. reply ≡ reply_of self.old caller op) }
         ensures left { OnOk result (self.new ≡ after_op self.old caller op) }
         ensures unchanged { OnErr result (self.new ≡ self.old) }
+        ensures no_memory { OnErr result (IsTrue (is_granted op)) }
     {
         match op {
             Op::New { d, ty, full } => self.new_object(caller, d, ty, full),
@@ -41,6 +42,7 @@ impl NeverHeap {
         ensures reply { IfOk result (λ reply. reply ≡ reply_of self.old caller (Op.New d ty full)) }
         ensures left { OnOk result (self.new ≡ after_op self.old caller (Op.New d ty full)) }
         ensures unchanged { OnErr result (self.new ≡ self.old) }
+        ensures no_memory { OnErr result (full ≡ false) }
     {
         if full {
             return Ok(Reply::Full);
