@@ -14,7 +14,8 @@ use Rattle.mk_geom.specs.Storages.{Storage, is_small, first_page, stands_on, cla
 use Rattle.mk_geom.proofs.HeaderLemmas.{header_of-word_of}
 use Rattle.mk_geom.proofs.ListSearch.{find_cases}
 use Rattle.mk_geom.proofs.Standing.{small_is_cell, large_is_run, class_of_cell, stands_parts}
-use Rattle.mk_geom.proofs.StoredWords.{words_by_small, words_by_large, length-taken_cells}
+use Rattle.mk_geom.proofs.StoredWords.{words_by_small, words_by_large}
+use Rattle.mk_geom.proofs.TakenCells.{length-taken_cells}
 use Rattle.mk_geom.proofs.UsedWords.{bits_of-used_word}
 
 -- a page whose header word is one, and what it shows
@@ -87,16 +88,23 @@ pub page_shows : (pages : List Page) (storages : List Storage) → StandFor page
 page_shows pages storages stand page d within = subst (λ (p : Page). Shows p (use_of_storages storages page)) (sym (stand.words page d within)) (shown (length pages) page storages stand.laid_out)
 
 pub same_uses : (pages : List Page) (storages : List Storage) → StandFor pages storages → uses_of_pages pages ≡ uses_of_storages (length pages) storages
-same_uses pages storages stand =
-    let len : length (uses_of_pages pages) ≡ length pages = length-map pages use_of_page in
-    let len' : length (uses_of_storages (length pages) storages) ≡ length pages = length-map-range_with_len (use_of_storages storages) 0 (length pages) in
-    same_lists _ _ (len ∙ sym len') (λ k d within.
-    let inside : k < length pages = omega (arith, len) in
-    get_or-map use_of_page pages k free_page d inside ∙ (page_shows pages storages stand k free_page inside).1 ∙ sym (get_or-map-range_with_len (use_of_storages storages) 0 (length pages) k k d inside (omega arith)))
+same_uses pages storages stand = same_lists _ _ (shown_length ∙ sym said_length) each
+  where
+    shown_length : length (uses_of_pages pages) ≡ length pages
+    shown_length = length-map pages use_of_page
 
-pub same_places : (pages : List Page) (storages : List Storage) → StandFor pages storages → (limit words : ℕ) (leaf : Bool)
+    said_length : length (uses_of_storages (length pages) storages) ≡ length pages
+    said_length = length-map-range_with_len (use_of_storages storages) 0 (length pages)
+
+    each : (k : ℕ) (d : PageUse) → k < length (uses_of_pages pages) → slice_index_or (uses_of_pages pages) k d ≡ slice_index_or (uses_of_storages (length pages) storages) k d
+    each k d below =
+        let within : k < length pages = omega (arith, shown_length) in
+        get_or-map use_of_page pages k free_page d within ∙ (page_shows pages storages stand k free_page within).1
+        ∙ sym (get_or-map-range_with_len (use_of_storages storages) 0 (length pages) k k d within (omega arith))
+
+pub same_places : (pages : List Page) (storages : List Storage) (limit words : ℕ) (leaf : Bool) → StandFor pages storages
     → place_among limit words leaf (uses_of_pages pages) ≡ place_of (length pages) limit words leaf storages
-same_places pages storages stand limit words leaf = ap (place_among limit words leaf) (same_uses pages storages stand)
+same_places pages storages limit words leaf stand = ap (place_among limit words leaf) (same_uses pages storages stand)
 
 pub same_census : (pages : List Page) (storages : List Storage) → StandFor pages storages → census_among (uses_of_pages pages) ≡ census_of (length pages) storages
 same_census pages storages stand = ap census_among (same_uses pages storages stand)

@@ -1,7 +1,6 @@
 -- A storage that comes: the words of the pages that it doesn't stand on stay, and a cell sets its used bit.
 use Rattle.std.proofs.Common.{◌≡◌, ◌≢◌, ℕ, suc, ◌+◌, ◌*◌, ◌/◌, ◌%◌, ◌^◌, ◌<◌, ◌≤◌, Bool, true, false, ◌==◌, List, [], ◌∷◌, ◌++◌, length, get_or, set, slice_get, slice_set, Some, All, Contains, inl, inr, refl, sym, ◌∙◌, ap, subst, arith, unwrap_or, length-set, le_refl, get_or-set_same, get_or-set_other, eqb-true}
-use Rattle.std.proofs.lemmas.Bool.{cases_Bool, cases_eq, cases_order, false≢true, false_from_ne_true, cond-true, cond-false}
-use Rattle.std.proofs.lemmas.List.{same_lists}
+use Rattle.std.proofs.lemmas.Bool.{cases_Bool, cases_eq, cases_order, false≢true, cond-true, cond-false}
 use Rattle.std.proofs.lemmas.List.Elements.{All-contains, Contains-append_left, Contains-push, Contains-push_cases}
 use Rattle.std.proofs.lemmas.Nat.{mul-le}
 use Rattle.std.proofs.lemmas.Option.{slice_get_within, get_or_from_slice_get}
@@ -17,8 +16,9 @@ use Rattle.mk_geom.proofs.ClassTable.{class_words_within, class_for-class_words_
 use Rattle.mk_geom.proofs.Layouts.{laid_push}
 use Rattle.mk_geom.proofs.ListSearch.{find_cases, list_any_found}
 use Rattle.mk_geom.proofs.Standing.{small_is_cell, class_of_cell, cell_is_small, stands_apart, stands_at_first, cell_stands_at, same_or_alike}
-use Rattle.mk_geom.proofs.StoredWords.{same_from_both, cell_taken_by, cell_taken_from, length-taken_cells, get_or-taken_cells, words_by_small, words_at, same_words}
-use Rattle.mk_geom.proofs.UsedWords.{used_word-set, used_word_none}
+use Rattle.mk_geom.proofs.StoredWords.{words_by_small, words_at, same_words}
+use Rattle.mk_geom.proofs.TakenCells.{same_from_both, cell_taken_from, length-taken_cells, get_or-taken_cells, taken_cells-set, same_index, none_taken, none_used}
+use Rattle.mk_geom.proofs.UsedWords.{used_word-set}
 
 pub words_push_other : (n page : ℕ) (xs : List Storage) (t : Storage) → AreLaidOut n xs → AreLaidOut n (xs ++ t ∷ []) → (stands_on page t ≡ true → ⊥)
     → words_of_storages xs page ≡ words_of_storages (xs ++ t ∷ []) page
@@ -28,28 +28,6 @@ words_push_other n page xs t laid laid' elsewhere =
       | inl old ↦ old
       | inr new ↦ absurd (elsewhere (subst (λ (x : Storage). stands_on page x ≡ true) (sym new) stands))
     ])
-
--- Only one cell of a page is another.
-pub taken_cells-set : (page class index : ℕ) (xs ys : List Storage) (b : Bool) → is_cell_taken ys page (class_words_of class) index ≡ b
-    → ((k : ℕ) → k < cells_of class → k ≢ index → is_cell_taken ys page (class_words_of class) k ≡ is_cell_taken xs page (class_words_of class) k)
-    → taken_cells ys page class ≡ set (taken_cells xs page class) index b
-taken_cells-set page class index xs ys b here others =
-    let old = taken_cells xs page class in
-    same_lists _ _ (length-taken_cells ys page class ∙ sym (length-taken_cells xs page class) ∙ sym (length-set old index b)) (λ k d below.
-    let within : k < cells_of class = omega (arith, length-taken_cells ys page class) in
-    let within' : k < length old = omega (arith, length-taken_cells xs page class) in
-    get_or-taken_cells ys page class k d within ∙ elim (cases_eq k index) [
-      | inl same ↦ ap (is_cell_taken ys page (class_words_of class)) same ∙ here ∙ sym (ap (λ i. get_or (set old index b) i d) same ∙ get_or-set_same old index b d (omega (arith, within', same)))
-      | inr other ↦ others k within other ∙ sym (get_or-taken_cells xs page class k d within) ∙ sym (get_or-set_other old index k b d other)
-    ])
-
--- two cells of a page begin at one word only if they are one
-pub same_index : (words i j : ℕ) → 1 ≤ words → i * words ≡ j * words → i ≡ j
-same_index words i j some same = elim (cases_order i j) [
-  | inl is ↦ is
-  | inr (inl below) ↦ absurd (omega (arith, mul-le (suc i) words j words below (le_refl words)))
-  | inr (inr above) ↦ absurd (omega (arith, mul-le (suc j) words i words above (le_refl words)))
-]
 
 cell_taken_push : (page words index k : ℕ) (xs : List Storage) (t : Storage) → 1 ≤ words → t.first ≡ 64 * page + index * words → k ≢ index
     → is_cell_taken (xs ++ t ∷ []) page words k ≡ is_cell_taken xs page words k
@@ -84,20 +62,12 @@ record HasRoom (page class index : ℕ) (leaf : Bool) (used : ℕ) (xs : List St
   words : (s : Storage) → Contains xs s → stands_on page s ≡ true → s.words ≡ class_words_of class
   same_sort : (s : Storage) → Contains xs s → stands_on page s ≡ true → s.leaf ≡ leaf
 
-pub none_taken : (n page class : ℕ) (xs : List Storage) → class < 8 → All (IsStorage n) xs → ((s : Storage) → Contains xs s → stands_on page s ≡ false) → (k : ℕ) → k < cells_of class
-    → is_cell_taken xs page (class_words_of class) k ≡ false
-none_taken n page class xs known each none k within = false_from_ne_true _ (λ taken.
-    let (s, inside, first, stands) = cell_taken_by n page class k xs known within each taken in
-    false≢true (sym (none s inside) ∙ stands))
-
 room_on_free : (n page class index : ℕ) (leaf : Bool) (xs : List Storage) → class < 8 → All (IsStorage n) xs → index < cells_of class
     → ((s : Storage) → Contains xs s → stands_on page s ≡ false) → HasRoom page class index leaf 0 xs
 room_on_free n page class index leaf xs known each within none = record {
   within = within;
   free = none_taken n page class xs known each none index within;
-  used_is = sym (used_word_none (taken_cells xs page class) (λ k below.
-      let inside : k < cells_of class = omega (arith, length-taken_cells xs page class) in
-      get_or-taken_cells xs page class k false inside ∙ none_taken n page class xs known each none k inside));
+  used_is = sym (none_used n page class xs known each none);
   small = λ s inside stands. absurd (false≢true (sym (none s inside) ∙ stands));
   words = λ s inside stands. absurd (false≢true (sym (none s inside) ∙ stands));
   same_sort = λ s inside stands. absurd (false≢true (sym (none s inside) ∙ stands));
@@ -139,8 +109,8 @@ module _ (pages : List Page) (storages : List Storage) (stand : StandFor pages s
   page_use : use_of_page p ≡ use_of_storages storages page
   page_use = ap use_of_page (sym (get_or_from_slice_get pages page p p at)) ∙ (page_shows pages storages stand page p page_within).1
 
-  room : (class index : ℕ) (leaf : Bool) → class < 8 → MayTakeCell class leaf index (use_of_page p) → HasRoom page class index leaf p.used storages
-  room class index leaf known may = elim (find_cases (stands_on page) storages) [
+  room_for_cell : (class index : ℕ) (leaf : Bool) → class < 8 → MayTakeCell class leaf index (use_of_page p) → HasRoom page class index leaf p.used storages
+  room_for_cell class index leaf known may = elim (find_cases (stands_on page) storages) [
     | inl (s, found, inside, stands) ↦
         let shows : use_of_page p ≡ use_by storages page (Some s) = page_use ∙ ap (use_by storages page) found in
         let words : p ≡ words_by storages page (Some s) = page_words ∙ ap (words_by storages page) found in
@@ -190,24 +160,40 @@ cell_apart n page class index leaf used xs known laid room s inside =
     }
 
 -- the words of the cell's page with the cell
-with_cell_words : (n page class index : ℕ) (leaf : Bool) (p : Page) (xs : List Storage) → class < 8 → HasRoom page class index leaf p.used xs → AreLaidOut n (xs ++ cell_storage page class index leaf ∷ [])
-    → with_cell class leaf index p ≡ words_of_storages (xs ++ cell_storage page class index leaf ∷ []) page
+with_cell_words : (n page class index : ℕ) (leaf : Bool) (p : Page) (xs : List Storage) → class < 8 → HasRoom page class index leaf p.used xs
+    → AreLaidOut n (xs ++ cell_storage page class index leaf ∷ []) → with_cell class leaf index p ≡ words_of_storages (xs ++ cell_storage page class index leaf ∷ []) page
 with_cell_words n page class index leaf p xs known room laid =
-    let t : Storage = cell_storage page class index leaf in
-    let ys = xs ++ t ∷ [] in
-    let old = taken_cells xs page class in
-    let cell : IsCell t = cell_storage_is_cell page class index leaf known room.within in
-    let ends = cell_ends index (class_words_of class) room.within in
-    let range = class_words_within class known in
-    let inside : Contains ys t = Contains-push xs t in
-    let stands : stands_on page t ≡ true = stands_at_first n t page (All-contains (IsStorage n) ys t laid.each inside) (omega arith) in
-    let taken : taken_cells ys page class ≡ set old index true = taken_cells-set page class index xs ys true (cell_taken_from page (class_words_of class) index ys t inside refl)
-    (λ k k_within other. cell_taken_push page (class_words_of class) index k xs t (omega arith) refl other) in
-    let unset : get_or old index true ≡ false = get_or-taken_cells xs page class index true room.within ∙ room.free in
-    let used : used_word (taken_cells ys page class) ≡ p.used + 2 ^ index =
-    ap used_word taken ∙ used_word-set old index (omega (arith, length-taken_cells xs page class, room.within)) unset ∙ ap (λ (u : ℕ). u + 2 ^ index) (sym room.used_is) in
-    sym (words_at n page ys t laid inside stands ∙ words_by_small page ys t (cell_is_small t cell) ∙ ap (λ c. block_page c leaf (used_word (taken_cells ys page c))) (ap (λ o. unwrap_or o 0) (class_for-class_words_of class known))
-    ∙ ap (block_page class leaf) used)
+    sym (words_at n page ys t laid inside stands ∙ words_by_small page ys t (cell_is_small t cell)
+    ∙ ap (λ c. block_page c leaf (used_word (taken_cells ys page c))) (ap (λ o. unwrap_or o 0) (class_for-class_words_of class known)) ∙ ap (block_page class leaf) used)
+  where
+    t : Storage
+    t = cell_storage page class index leaf
+
+    ys : List Storage
+    ys = xs ++ cell_storage page class index leaf ∷ []
+
+    cell : IsCell (cell_storage page class index leaf)
+    cell = cell_storage_is_cell page class index leaf known room.within
+
+    some_words : 1 ≤ class_words_of class
+    some_words = let range = class_words_within class known in omega arith
+
+    inside : Contains (xs ++ cell_storage page class index leaf ∷ []) (cell_storage page class index leaf)
+    inside = Contains-push xs t
+
+    stands : stands_on page (cell_storage page class index leaf) ≡ true
+    stands = let ends = cell_ends index (class_words_of class) room.within in let some = some_words in stands_at_first n t page (All-contains (IsStorage n) ys t laid.each inside) (omega arith)
+
+    taken : taken_cells (xs ++ cell_storage page class index leaf ∷ []) page class ≡ set (taken_cells xs page class) index true
+    taken = taken_cells-set page class index xs ys true (cell_taken_from page (class_words_of class) index ys t inside refl) (λ k within other. cell_taken_push page (class_words_of class) index k xs t some_words refl other)
+
+    unset : get_or (taken_cells xs page class) index true ≡ false
+    unset = get_or-taken_cells xs page class index true room.within ∙ room.free
+
+    used : used_word (taken_cells (xs ++ cell_storage page class index leaf ∷ []) page class) ≡ p.used + 2 ^ index
+    used =
+        ap used_word taken ∙ used_word-set (taken_cells xs page class) index (omega (arith, length-taken_cells xs page class, room.within)) unset
+        ∙ ap (λ (u : ℕ). u + 2 ^ index) (sym room.used_is)
 
 pub cell_added : (pages : List Page) (storages : List Storage) (page class index : ℕ) (leaf : Bool) (p : Page) → StandFor pages storages → class < 8 → slice_get pages page ≡ Some p
     → MayTakeCell class leaf index (use_of_page p) → StandFor (slice_set pages page (with_cell class leaf index p)) (storages ++ cell_storage page class index leaf ∷ [])
@@ -215,7 +201,7 @@ cell_added pages storages page class index leaf p stand known at may =
     let t : Storage = cell_storage page class index leaf in
     let n = length pages in
     let new : Page = with_cell class leaf index p in
-    let has = room pages storages stand page p at class index leaf known may in
+    let has = room_for_cell pages storages stand page p at class index leaf known may in
     let within = page_within pages storages stand page p at in
     let cell = cell_storage_is_cell page class index leaf known has.within in
     let ends = cell_ends index (class_words_of class) has.within in

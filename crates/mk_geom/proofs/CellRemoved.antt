@@ -7,13 +7,14 @@ use Rattle.mk_geom.specs.declared.pages.Page.{Page}
 use Rattle.mk_geom.specs.Classes.{class_words_of, class_for, cells_of}
 use Rattle.mk_geom.specs.Storages.{Storage, stands_on, class_of_storage, is_cell_taken, taken_cells, used_word, free_page, block_page, words_of_storages, IsStorage, AreLaidOut, StandFor}
 use Rattle.mk_geom.specs.Changes.{cell_storage, without_cell}
-use Rattle.mk_geom.proofs.CellAdded.{taken_cells-set, same_index, cell_storage_is_cell, none_taken}
+use Rattle.mk_geom.proofs.CellAdded.{cell_storage_is_cell}
 use Rattle.mk_geom.proofs.ClassTable.{class_words_within, class_for-class_words_of, cell_ends}
 use Rattle.mk_geom.proofs.Layouts.{laid_remove, Contains-remove_cases, Contains-from_remove, removed_apart}
 use Rattle.mk_geom.proofs.ListSearch.{find_cases, list_any_found}
 use Rattle.mk_geom.proofs.Standing.{has_words, small_is_cell, cell_is_small, stands_at_first, cell_stands_at}
-use Rattle.mk_geom.proofs.StoredWords.{same_from_both, cell_taken_from, length-taken_cells, get_or-taken_cells, words_by_small, words_at, words_free, same_words}
-use Rattle.mk_geom.proofs.UsedWords.{used_word-clear, used_word_none, used_word_some}
+use Rattle.mk_geom.proofs.StoredWords.{words_by_small, words_at, words_free, same_words}
+use Rattle.mk_geom.proofs.TakenCells.{same_from_both, cell_taken_from, length-taken_cells, get_or-taken_cells, taken_cells-set, same_index, none_used}
+use Rattle.mk_geom.proofs.UsedWords.{used_word-clear, used_word_some}
 
 pub words_remove_other : (n page place : ℕ) (xs : List Storage) (t : Storage) → AreLaidOut n xs → slice_get xs place ≡ Some t → (stands_on page t ≡ true → ⊥)
     → words_of_storages xs page ≡ words_of_storages (remove xs place) page
@@ -122,9 +123,7 @@ module _ (n page class index place : ℕ) (leaf : Bool) (xs : List Storage) (kno
             is ∙ ap (block_page class leaf) (sym less) ∙ sym (cond-false (before - 2 ^ index == 0) free_page (block_page class leaf (before - 2 ^ index)) left) ∙ sym change
         | inr (none, others) ↦
             let each : All (IsStorage n) ys = (laid_remove n xs place laid there).each in
-            let no_bit : after ≡ 0 = used_word_none (taken_cells ys page class) (λ k below.
-            let k_within : k < cells_of class = omega (arith, length-taken_cells ys page class) in
-            get_or-taken_cells ys page class k false k_within ∙ none_taken n page class ys known each others k k_within) in
+            let no_bit : after ≡ 0 = none_used n page class ys known each others in
             let nothing : (before - 2 ^ index == 0) ≡ true = eq-eqb (before - 2 ^ index) 0 (less ∙ no_bit) in
             words_free page ys others ∙ sym (cond-true (before - 2 ^ index == 0) free_page (block_page class leaf (before - 2 ^ index)) nothing) ∙ sym change
       ]

@@ -200,9 +200,9 @@ run_place_is limit words leaf pages place large is =
 pub cell_place_found : (pages : List Page) (storages : List Storage) (limit words class : ℕ) (leaf : Bool) (place : Place) → StandFor pages storages → class_for words ≡ Some class
     → place_of (length pages) limit words leaf storages ≡ Some place → IsCellPlace limit class leaf pages place
 cell_place_found pages storages limit words class leaf place stand class_is is =
-    cell_place_is limit words class leaf pages place class_is (same_places pages storages stand limit words leaf ∙ is)
+    cell_place_is limit words class leaf pages place class_is (same_places pages storages limit words leaf stand ∙ is)
 
 pub run_place_found : (pages : List Page) (storages : List Storage) (limit words : ℕ) (leaf : Bool) (place : Place) → StandFor pages storages → 32 < words
     → place_of (length pages) limit words leaf storages ≡ Some place → IsRunPlace limit (run_pages_of words) pages place
 run_place_found pages storages limit words leaf place stand large is =
-    run_place_is limit words leaf pages place large (same_places pages storages stand limit words leaf ∙ is)
+    run_place_is limit words leaf pages place large (same_places pages storages limit words leaf stand ∙ is)

@@ -3,6 +3,7 @@ pub mod ListSearch
 pub mod UsedWords
 pub mod ClassTable
 pub mod Standing
+pub mod TakenCells
 pub mod StoredWords
 pub mod Bridge
 pub mod Layouts

@@ -1,58 +1,12 @@
 -- The words of a page, by any storage that stands on it.
-use Rattle.std.proofs.Common.{◌≡◌, ℕ, ◌+◌, ◌-◌, ◌/◌, ◌*◌, ◌<◌, Bool, true, false, ◌==◌, List, length, get_or, Some, All, Contains, inl, inr, refl, sym, ◌∙◌, ap, arith, eqb-true, eq-eqb, unwrap_or}
+use Rattle.std.proofs.Common.{◌≡◌, ℕ, ◌-◌, ◌/◌, ◌<◌, true, false, List, Some, All, Contains, inl, inr, refl, sym, ◌∙◌, ap, arith, unwrap_or}
 use Rattle.std.proofs.lemmas.Bool.{cases_Bool, false≢true, false_from_ne_true, cond-true, cond-false}
-use Rattle.std.proofs.lemmas.List.{same_lists}
 use Rattle.std.proofs.lemmas.List.Elements.{All-contains}
-use Rattle.std.proofs.lemmas.List.FromFn.{length-map-range_with_len, get_or-map-range_with_len}
-use Rattle.mk_geom.specs.Classes.{class_words_of, class_for, cells_of}
-use Rattle.mk_geom.specs.Storages.{Storage, is_small, first_page, stands_on, class_of_storage, is_cell_taken, taken_cells, used_word, free_page, block_page, run_page, words_by, words_of_storages, IsStorage, AreLaidOut}
-use Rattle.mk_geom.proofs.ClassTable.{class_words_within, cell_ends}
-use Rattle.mk_geom.proofs.ListSearch.{find_cases, list_any_from, list_any_found}
-use Rattle.mk_geom.proofs.Standing.{small_is_cell, class_of_cell, stands_at_first, AreAlike, same_or_alike}
-
--- each of these storages that stands on the page is one of those
-abbrev pub Carries : ℕ → List Storage → List Storage → Type 0
-Carries page xs ys = (s : Storage) → stands_on page s ≡ true → Contains xs s → Contains ys s
-
-pub same_from_both : (a b : Bool) → (a ≡ true → b ≡ true) → (b ≡ true → a ≡ true) → a ≡ b
-same_from_both true b there back = sym (there refl)
-same_from_both false true there back = back refl
-same_from_both false false there back = refl
-
--- the storage that begins at a taken cell stands on the page
-pub cell_taken_by : (n page class k : ℕ) (xs : List Storage) → class < 8 → k < cells_of class → All (IsStorage n) xs → is_cell_taken xs page (class_words_of class) k ≡ true
-    → (s : Storage) × Contains xs s × (s.first ≡ 64 * page + k * class_words_of class) × (stands_on page s ≡ true)
-cell_taken_by n page class k xs known within each taken =
-    let (s, inside, at) = list_any_found (λ (s : Storage). s.first == 64 * page + k * class_words_of class) xs taken in
-    let first : s.first ≡ 64 * page + k * class_words_of class = eqb-true s.first (64 * page + k * class_words_of class) at in
-    let range = class_words_within class known in
-    let ends = cell_ends k (class_words_of class) within in
-    (s, inside, first, stands_at_first n s page (All-contains (IsStorage n) xs s each inside) (omega arith))
-
-pub cell_taken_from : (page words k : ℕ) (xs : List Storage) (s : Storage) → Contains xs s → s.first ≡ 64 * page + k * words → is_cell_taken xs page words k ≡ true
-cell_taken_from page words k xs s inside first = list_any_from (λ (s : Storage). s.first == 64 * page + k * words) xs s inside (eq-eqb s.first (64 * page + k * words) first)
-
-pub length-taken_cells : (xs : List Storage) (page class : ℕ) → length (taken_cells xs page class) ≡ cells_of class
-length-taken_cells xs page class = length-map-range_with_len (is_cell_taken xs page (class_words_of class)) 0 (cells_of class)
-
-pub get_or-taken_cells : (xs : List Storage) (page class k : ℕ) (d : Bool) → k < cells_of class → get_or (taken_cells xs page class) k d ≡ is_cell_taken xs page (class_words_of class) k
-get_or-taken_cells xs page class k d within = get_or-map-range_with_len (is_cell_taken xs page (class_words_of class)) 0 (cells_of class) k k d within (omega arith)
-
--- the same storages on a page take the same cells
-pub taken_same : (n page class : ℕ) (xs ys : List Storage) → class < 8 → All (IsStorage n) xs → All (IsStorage n) ys → Carries page xs ys → Carries page ys xs
-    → taken_cells xs page class ≡ taken_cells ys page class
-taken_same n page class xs ys known xs_each ys_each there back =
-    same_lists _ _ (length-taken_cells xs page class ∙ sym (length-taken_cells ys page class)) (λ k d below.
-    let within : k < cells_of class = omega (arith, length-taken_cells xs page class) in
-    get_or-taken_cells xs page class k d within ∙ one k within ∙ sym (get_or-taken_cells ys page class k d within))
-  where
-    along : (us vs : List Storage) → All (IsStorage n) us → Carries page us vs → (k : ℕ) → k < cells_of class → is_cell_taken us page (class_words_of class) k ≡ true → is_cell_taken vs page (class_words_of class) k ≡ true
-    along us vs each carries k within taken =
-        let (s, inside, first, stands) = cell_taken_by n page class k us known within each taken in
-        cell_taken_from page (class_words_of class) k vs s (carries s stands inside) first
-
-    one : (k : ℕ) → k < cells_of class → is_cell_taken xs page (class_words_of class) k ≡ is_cell_taken ys page (class_words_of class) k
-    one k within = same_from_both _ _ (along xs ys xs_each there k within) (along ys xs ys_each back k within)
+use Rattle.mk_geom.specs.Classes.{class_for}
+use Rattle.mk_geom.specs.Storages.{Storage, is_small, first_page, stands_on, class_of_storage, taken_cells, used_word, free_page, block_page, run_page, words_by, words_of_storages, IsStorage, AreLaidOut}
+use Rattle.mk_geom.proofs.ListSearch.{find_cases}
+use Rattle.mk_geom.proofs.TakenCells.{Carries, taken_same}
+use Rattle.mk_geom.proofs.Standing.{small_is_cell, class_of_cell, AreAlike, same_or_alike}
 
 pub words_by_small : (page : ℕ) (xs : List Storage) (s : Storage) → is_small s ≡ true → words_by xs page (Some s) ≡ block_page (class_of_storage s) s.leaf (used_word (taken_cells xs page (class_of_storage s)))
 words_by_small page xs s small = cond-true (is_small s) _ _ small

@@ -10,13 +10,6 @@ pub fn pages_show_what_stands_there()
     ensures header_words { PagesHaveHeaderWords }
 {}
 
-/// The place that first fit finds is one that the object may take. A run of at most 4096 words has 1 to
-/// 64 pages.
-pub fn first_fit_finds_places()
-    ensures cells { FoundCellIsPlace }
-    ensures runs { FoundRunIsPlace }
-{}
-
 /// The pages of a new heap.
 pub fn free_pages_stand_for_nothing()
     ensures { FreePagesStandForNothing }
@@ -42,4 +35,11 @@ pub fn a_freed_storage_is_removed()
 /// A run's pages are unmapped, and stay reserved.
 pub fn an_unmapped_run_stays()
     ensures { UnmappedRunIsUnmapped }
+{}
+
+/// The place that first fit finds is one that the object may take. A run of at most 4096 words has 1 to
+/// 64 pages.
+pub fn first_fit_finds_places()
+    ensures cells { FoundCellIsPlace }
+    ensures runs { FoundRunIsPlace }
 {}
