@@ -36,10 +36,10 @@ free_cells_among-push : (leaf : Bool) (pages : List PageUse) (page : PageUse) (c
     → free_cells_among leaf (pages ++ page ∷ []) class ≡ free_cells_among leaf pages class + count_by not (cells_taken class leaf page)
 free_cells_among-push leaf pages page class = sum_by_push (λ page. count_by not (cells_taken class leaf page)) pages page
 
-pub length-free_cells_of_sort : (leaf : Bool) (pages : List PageUse) → length (free_cells_of_sort leaf pages) ≡ 8
+length-free_cells_of_sort : (leaf : Bool) (pages : List PageUse) → length (free_cells_of_sort leaf pages) ≡ 8
 length-free_cells_of_sort leaf pages = length-map-range_with_len (free_cells_among leaf pages) 0 8
 
-pub get_or-free_cells_of_sort : (leaf : Bool) (pages : List PageUse) (class d : ℕ) → class < 8
+get_or-free_cells_of_sort : (leaf : Bool) (pages : List PageUse) (class d : ℕ) → class < 8
     → get_or (free_cells_of_sort leaf pages) class d ≡ free_cells_among leaf pages class
 get_or-free_cells_of_sort leaf pages class d within = get_or-map-range_with_len (free_cells_among leaf pages) 0 8 class class d within (omega arith)
 
@@ -154,7 +154,7 @@ get_or-by_class pages class true within =
     ∙ get_or-free_cells_of_sort true pages class 0 within
 
 -- a page has at most 32 cells
-pub cells_of-le : (class : ℕ) → cells_of class ≤ 32
+cells_of-le : (class : ℕ) → cells_of class ≤ 32
 cells_of-le zero = omega arith
 cells_of-le (suc zero) = omega arith
 cells_of-le (suc (suc zero)) = omega arith

@@ -11,15 +11,12 @@ use Rattle.mk_geom.specs.PageWords.{use_of_page, uses_of_pages}
 abbrev pub longest_with : ℕ → ℕ → List PageUse → ℕ
 longest_with longest range rest = max longest (max (range + free_range rest) (longest_free_range rest))
 
-pub free_range-le-longest_free_range : (pages : List PageUse) → free_range pages ≤ longest_free_range pages
+free_range-le-longest_free_range : (pages : List PageUse) → free_range pages ≤ longest_free_range pages
 free_range-le-longest_free_range [] = omega arith
 free_range-le-longest_free_range (page ∷ pages) = omega arith
 
 pub longest_with-start : (pages : List PageUse) → longest_with 0 0 pages ≡ longest_free_range pages
 longest_with-start pages = omega (arith, free_range-le-longest_free_range pages)
-
-pub longest_with-end : (longest range : ℕ) → range ≤ longest → longest_with longest range [] ≡ longest
-longest_with-end longest range below = omega arith
 
 -- one page more, free or not
 pub longest_with-free : (longest range i : ℕ) (pages : List Page) (d : Page) → i < length pages
@@ -102,7 +99,7 @@ from_shifted None n m k sum = refl
 from_shifted (Some first) n m k sum = let same : first + m + n ≡ first + k = omega arith in ap Some same
 
 -- the range that ends before page n, which isn't free, is too short
-pub range_start_from-skip : (range n count : ℕ) (pages : List Page) → range ≤ n → n < length pages
+range_start_from-skip : (range n count : ℕ) (pages : List Page) → range ≤ n → n < length pages
     → free_range_from range pages + range ≡ n → n < range + count → range_start_from range count pages ≡ range_start_from (n + 1) count pages
 range_start_from-skip range n count pages begun within ends short =
     let rest = drop range pages in
@@ -115,19 +112,19 @@ range_start_from-skip range n count pages begun within ends short =
     (drop-map use_of_page (suc m) rest ∙ ap uses_of_pages (drop-drop (suc m) range pages ∙ ap (λ k. drop k pages) next)))
     ∙ from_shifted (range_start count (uses_of_pages (drop (n + 1) pages))) range (suc m) (n + 1) next
 
-pub range_start_from-here : (range count : ℕ) (pages : List Page) → 1 ≤ count → count ≤ free_range_from range pages
+range_start_from-here : (range count : ℕ) (pages : List Page) → 1 ≤ count → count ≤ free_range_from range pages
     → range_start_from range count pages ≡ Some range
 range_start_from-here range count pages some long =
     ap (option_map (λ p. p + range)) (range_start-here count (uses_of_pages (drop range pages)) some long) ∙ ap Some (zero-add range)
 
-pub range_start_from-end : (range count : ℕ) (pages : List Page) → range ≤ length pages → length pages < range + count
+range_start_from-end : (range count : ℕ) (pages : List Page) → range ≤ length pages → length pages < range + count
     → range_start_from range count pages ≡ None
 range_start_from-end range count pages begun short =
     let rest = drop range pages in
     let long : length (uses_of_pages rest) ≡ length pages - range = length-map rest use_of_page ∙ length-drop range pages in
     ap (option_map (λ p. p + range)) (range_start-none count (uses_of_pages rest) (omega arith))
 
--- what a loop knows of the first range, as it goes on to the next page
+-- what a loop knows of the first range: past a page that isn't free, at a range that is long enough, and at the end
 pub first-skip : (first : Option ℕ) (range n count : ℕ) (pages : List Page) → range ≤ n → n < length pages
     → free_range_from range pages + range ≡ n → (first ≡ None → n < range + count)
     → option_or first (range_start_from range count pages) ≡ option_or first (range_start_from (n + 1) count pages)

@@ -6,14 +6,14 @@ use Rattle.std.proofs.lemmas.Nat.{pow-add}
 use Rattle.std.proofs.lemmas.Nat.Bits.{bit_at_and, bit_at_not, bit_at_above, bit_at-lt}
 use Rattle.mk_books.specs.Quarantine.{IsFreeable}
 
--- what the function computes
+-- what `freeable` computes
 abbrev pub freeable_cells : ℕ → ℕ → ℕ → ℕ
 freeable_cells used quar mark = bit_and (bit_and used (quar / 2 ^ 32)) (bit_not w64 mark)
 
-pub bit_at-div_pow : (n m i : ℕ) → bit_at (n / 2 ^ m) i ≡ bit_at n (m + i)
+bit_at-div_pow : (n m i : ℕ) → bit_at (n / 2 ^ m) i ≡ bit_at n (m + i)
 bit_at-div_pow n m i = ap (λ x. x % 2) (div-div-eq-div-mul n (2 ^ m) (2 ^ i) ∙ ap (λ x. n / x) (sym (pow-add 2 m i)))
 
-pub bit_at-freeable_cells : (used quar mark k : ℕ) → mark < 2 ^ 64 → k < 64
+bit_at-freeable_cells : (used quar mark k : ℕ) → mark < 2 ^ 64 → k < 64
     → bit_at (freeable_cells used quar mark) k ≡ min (min (bit_at used k) (bit_at quar (32 + k))) (1 - bit_at mark k)
 bit_at-freeable_cells used quar mark k fits within =
     bit_at_and (bit_and used (quar / 2 ^ 32)) (bit_not w64 mark) k

@@ -16,7 +16,7 @@ use Rattle.mk_books.proofs.FirstWhereLemmas.{first_where_at, first_where_nowhere
 pub length-bits_of : (count used : ℕ) → length (bits_of count used) ≡ count
 length-bits_of count used = length-map-range_with_len (λ k. nat_eq (bit_at used k) 1) 0 count
 
-pub get_or-bits_of : (count used k : ℕ) (d : Bool) → k < count → get_or (bits_of count used) k d ≡ nat_eq (bit_at used k) 1
+get_or-bits_of : (count used k : ℕ) (d : Bool) → k < count → get_or (bits_of count used) k d ≡ nat_eq (bit_at used k) 1
 get_or-bits_of count used k d within = get_or-map-range_with_len (λ k. nat_eq (bit_at used k) 1) 0 count k k d within (omega arith)
 
 -- `trailing_ones` is the place of the lowest 0, if there is one

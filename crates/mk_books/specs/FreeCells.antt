@@ -15,5 +15,6 @@ free_cells_by_class pages = free_cells_of_sort false pages ++ free_cells_of_sort
 abbrev pub class_place : ℕ → Bool → ℕ
 class_place class leaf = if leaf then 8 + class else class
 
+-- the page is no block
 abbrev pub HasNoCells : PageUse → Type 0
 HasNoCells page = (class : ℕ) (leaf : Bool) → cells_taken class leaf page ≡ []

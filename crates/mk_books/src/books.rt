@@ -1,4 +1,4 @@
-//! The pages' words as they are kept.
+//! The words of the pages, as they are kept.
 ghost use Rattle.std.specs.Prelude.{◌≡◌, ◌<◌, length, slice_set, IfOk};
 ghost use Rattle.mk_books.specs.Books.{empty_pages};
 
@@ -35,6 +35,7 @@ impl Book {
         Ok(Book { pages })
     }
 
+    /// Replaces the words of a page.
     pub fn set(&mut self, page: u64, value: Page)
         requires { page < length self.old }
         ensures { self.new ≡ slice_set self.old page value }
@@ -42,6 +43,7 @@ impl Book {
         self.pages[page as usize] = value;
     }
 
+    /// The words of all pages.
     pub fn pages(&self) -> &[Page]
         ensures { result.now ≡ self.now }
     {

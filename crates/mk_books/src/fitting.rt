@@ -9,9 +9,10 @@ use mk_geom::{Page, Place, class_of, run_pages};
 /// The largest object that takes a cell, in words.
 const SMALL_WORDS: u64 = 32;
 
-/// Where an object of so many words goes, where no more pages than `resident_limit` may be resident. None
-/// where there is no place. A call walks over the pages once, and for a small object only up to the
-/// block that has a free cell.
+/// Where an object of so many words goes: a cell of a block of its class and sort, or else free pages, where
+/// with them no more than `resident_limit` pages are resident. None where there is no such place, and
+/// for an object of no words. A call walks over the pages once, and for a small object only to the
+/// first block that has a free cell.
 pub fn first_fit(pages: &[Page], resident_limit: u64, words: u64, leaf: bool) -> Option<Place>
     ensures { result ≡ place_among resident_limit words leaf (uses_of_pages pages.now) }
 {
@@ -22,6 +23,7 @@ pub fn first_fit(pages: &[Page], resident_limit: u64, words: u64, leaf: bool) ->
     }
 }
 
+/// The place of an object of the class.
 fn small_fit(pages: &[Page], resident_limit: u64, class: u64, leaf: bool) -> Option<Place>
     requires { class < 8 }
     ensures { result ≡ small_place resident_limit class leaf (uses_of_pages pages.now) }
@@ -50,13 +52,14 @@ fn small_fit(pages: &[Page], resident_limit: u64, class: u64, leaf: bool) -> Opt
     }
 }
 
+/// The place of a run of so many pages.
 fn large_fit(pages: &[Page], resident_limit: u64, count: u64) -> Option<Place>
     requires some { 1 ≤ count }
     requires short { count ≤ 2 ^ 58 }
     ensures { result ≡ large_place resident_limit count (uses_of_pages pages.now) }
 {
     let mut resident: u64 = 0;
-    // The free range that ends before this page begins here.
+    // Where the free range begins that ends before this page.
     let mut range = 0;
     let mut first = None;
     for (number, page) in pages.iter().enumerate() {

@@ -1,4 +1,5 @@
-//! The heap's books: where an object goes, counts of the pages, and what can be given back.
+//! The heap's books: where an object goes, counts of the pages, and what can be given back. A page whose
+//! header is no header word counts as free.
 #![tactic(auto)]
 
 mod books;

@@ -3,14 +3,15 @@ ghost use Rattle.std.specs.Prelude.{◌≡◌, ◌↔◌, ℕ, ◌*◌, ◌<◌,
 ghost use Rattle.std.specs.Int.{bit_at};
 ghost use Rattle.mk_books.specs.Quarantine.{IsFreeable};
 
-/// Whether more than a quarter of what is held was freed since the last pass. Both are in words.
+/// Whether what was freed since the last pass is more than a quarter of what is held, in the same unit.
 pub fn due(fresh: u64, held: u64) -> bool
     ensures { IsTrue result ↔ (held < 4 * fresh) }
 {
     fresh > held / 4
 }
 
-/// The cells of a block that a finished pass gives back, one bit each.
+/// The cells of a block that a finished pass gives back, one bit each. Bit k of the quarantine word says
+/// that cell k is freed, and bit 32 + k that it is in the pass's snapshot.
 pub fn freeable(used: u64, quar: u64, mark: u64) -> u64
     ensures cells { (k : ℕ) → k < 32 → (bit_at result k ≡ 1) ↔ IsFreeable used quar mark k }
     ensures no_others { (k : ℕ) → 32 ≤ k → bit_at result k ≡ 0 }
