@@ -1,33 +1,82 @@
 -- A script as a tree of blocks.
-use Rattle.std.specs.Prelude.{ℕ, zero, suc, ◌+◌, Bool, true, false, List, [], ◌∷◌}
+use Rattle.std.specs.Prelude.{ℕ, zero, suc, ◌+◌, Bool, true, false, List, [], ◌∷◌, Option, Some, None}
 use Rattle.mk_script.specs.declared.items.Item.{Item}
-use Rattle.mk_script.specs.declared.items.Item.TheVariants.{Script}
+use Rattle.mk_script.specs.declared.items.Item.TheVariants.{Heap, TypeLine, Global, Script, Ptr, Num, New, Free, Getn, Setn, Getp, Setp, Casp, Lea, Move, Clear, Loadg, Storeg, Same, Isnull, Show, Const, Add, Sub, Print, Repeat, If, Else, End}
 
 -- Lines to run: a plain line, a `repeat` of a body, or an `if` on a number register with its two branches, each
 -- with the lines behind it.
 pub data Blocks : Type 0 where
-  End : Blocks
+  Done : Blocks
   Line : (line : ℕ) → Item → Blocks → Blocks
-  Repeat : (rounds : ℕ) → (body : Blocks) → Blocks → Blocks
-  If : (number : List ℕ) → (first second : Blocks) → Blocks → Blocks
+  Rounds : (rounds : ℕ) → (body : Blocks) → Blocks → Blocks
+  Choice : (number : List ℕ) → (first second : Blocks) → Blocks → Blocks
 
 -- the lines of the first, and then those of the second
 abbrev pub followed_by : Blocks → Blocks → Blocks
-followed_by End more = more
+followed_by Done more = more
 followed_by (Line line item rest) more = Line line item (followed_by rest more)
-followed_by (Repeat rounds body rest) more = Repeat rounds body (followed_by rest more)
-followed_by (If number first second rest) more = If number first second (followed_by rest more)
+followed_by (Rounds rounds body rest) more = Rounds rounds body (followed_by rest more)
+followed_by (Choice number first second rest) more = Choice number first second (followed_by rest more)
 
-abbrev pub is_end : Blocks → Bool
-is_end End = true
-is_end (Line line item rest) = false
-is_end (Repeat rounds body rest) = false
-is_end (If number first second rest) = false
+abbrev pub is_done : Blocks → Bool
+is_done Done = true
+is_done (Line line item rest) = false
+is_done (Rounds rounds body rest) = false
+is_done (Choice number first second rest) = false
+
+-- A part of a script, read from its end: the blocks so far, and the second branch, where its `else` was read.
+pub record Part : Type 0 where
+  pub blocks : Blocks
+  pub second : Option Blocks
+
+abbrev pub no_lines : Part
+no_lines = record { blocks = Done; second = None }
+
+-- a line before the innermost part
+abbrev pub with_line : ℕ → Item → List Part → List Part
+with_line line item [] = []
+with_line line item (part ∷ parts) = record part { blocks = Line line item part.blocks } ∷ parts
+
+-- `repeat` before the innermost part, which was its body
+abbrev pub with_repeat : ℕ → List Part → List Part
+with_repeat rounds [] = []
+with_repeat rounds (body ∷ []) = []
+with_repeat rounds (body ∷ part ∷ parts) = record part { blocks = Rounds rounds body.blocks part.blocks } ∷ parts
+
+abbrev pub branch : Option Blocks → Blocks
+branch None = Done
+branch (Some blocks) = blocks
+
+-- `if` before the innermost part, which was its first branch
+abbrev pub with_if : List ℕ → List Part → List Part
+with_if number [] = []
+with_if number (first ∷ []) = []
+with_if number (first ∷ part ∷ parts) = record part { blocks = Choice number first.blocks (branch first.second) part.blocks } ∷ parts
+
+-- `else` before the innermost part, which was the second branch
+abbrev pub with_else : List Part → List Part
+with_else [] = []
+with_else (second ∷ parts) = record { blocks = Done; second = Some second.blocks } ∷ parts
+
+abbrev pub with_item : ℕ → Item → List Part → List Part
+with_item line (Repeat rounds) parts = with_repeat rounds parts
+with_item line (If number) parts = with_if number parts
+with_item line Else parts = with_else parts
+with_item line End parts = no_lines ∷ parts
+with_item line item parts = with_line line item parts
+
+-- the open parts before the items, the innermost first; the first item stands at this line
+abbrev pub parts_from : ℕ → List Item → List Part
+parts_from line [] = no_lines ∷ []
+parts_from line (item ∷ items) = with_item line item (parts_from (line + 1) items)
+
+abbrev pub outermost : List Part → Blocks
+outermost [] = Done
+outermost (part ∷ parts) = part.blocks
 
 -- the blocks of a script's items, the first of which stands at this line
 abbrev pub blocks_from : ℕ → List Item → Blocks
-blocks_from line [] = End
-blocks_from line (item ∷ items) = Line line item (blocks_from (line + 1) items)
+blocks_from line items = outermost (parts_from line items)
 
 -- A script: its name, and its items, the first of which stands at this line.
 pub record ScriptText : Type 0 where

@@ -1,19 +1,21 @@
 -- A script fed with answers: the operations that it asks for, and its text.
-use Rattle.std.specs.Prelude.{ℕ, zero, suc, Bool, true, false, List, [], ◌∷◌, ◌++◌, length, replicate, slice_index, slice_set, ◌==◌, if◌then◌else◌, Option, Some, None, is_some}
+use Rattle.std.specs.Prelude.{ℕ, zero, suc, ◌+◌, ◌-◌, ◌%◌, ◌^◌, Bool, true, false, List, [], ◌∷◌, ◌++◌, length, replicate, slice_index, slice_set, ◌==◌, if◌then◌else◌, Option, Some, None, is_some}
 use Rattle.std.specs.Fmt.{decimal}
 use lib.Chars.{codes}
 use Rattle.mk_never.specs.declared.operations.Op.{Op}
-use Rattle.mk_never.specs.declared.operations.Op.TheVariants.{New as NewOp, GetNum, SetNum}
+use Rattle.mk_never.specs.declared.operations.Op.TheVariants as op
 use Rattle.mk_core.specs.declared.events.Answer.{Answer}
-use Rattle.mk_core.specs.declared.events.Answer.TheVariants.{Done, Num as Number, Word, Full, Fault, Null, Double}
+use Rattle.mk_core.specs.declared.events.Answer.TheVariants as answer
 use Rattle.mk_script.specs.declared.items.Item.{Item}
-use Rattle.mk_script.specs.declared.items.Item.TheVariants.{Heap, TypeLine, Script, Ptr, Num, New, Getn, Setn, Const, Print}
-use Rattle.mk_check.specs.Declared.{place_of, type_names, pointer_names, number_names}
-use Rattle.mk_check.specs.Blocks.{Blocks, End, Line, Repeat, If, followed_by, is_end, blocks_from, ScriptText, script_of}
+use Rattle.mk_script.specs.declared.items.Item.TheVariants.{Heap, TypeLine, Global, Script, Ptr, Num, New, Free, Getn, Setn, Getp, Setp, Casp, Lea, Move, Clear, Loadg, Storeg, Same, Isnull, Show, Const, Add, Sub, Print, Repeat, If, Else, End}
+use Rattle.mk_script.specs.Scopes.{type_names, global_names, pointer_names, number_names}
+use Rattle.mk_check.specs.Declarations.{place_of}
+use Rattle.mk_check.specs.Blocks.{Blocks, Done, Line, Rounds, Choice, followed_by, is_done, blocks_from, ScriptText, script_of}
 
 -- the names that a script may use
 pub record Scope : Type 0 where
   pub types : List (List ℕ)
+  pub globals : List (List ℕ)
   pub pointers : List (List ℕ)
   pub numbers : List (List ℕ)
 
@@ -25,6 +27,9 @@ pub record Fed : Type 0 where
   pub ops : List Op
   pub text : List ℕ
 
+abbrev pub pointer_place : Scope → List ℕ → ℕ
+pointer_place scope name = place_of name scope.pointers
+
 abbrev pub number_in : Scope → Fed → List ℕ → ℕ
 number_in scope fed name = slice_index fed.numbers (place_of name scope.numbers)
 
@@ -35,56 +40,79 @@ with_number scope fed name value = record fed { numbers = slice_set fed.numbers 
 abbrev pub op_of : Scope → Fed → Item → Option Op
 op_of scope fed (Heap pages resident) = None
 op_of scope fed (TypeLine name words) = None
+op_of scope fed (Global name ty) = None
 op_of scope fed (Script name) = None
 op_of scope fed (Ptr name at) = None
 op_of scope fed (Num name) = None
-op_of scope fed (New pointer ty) = Some (NewOp (place_of pointer scope.pointers) (place_of ty scope.types) false)
-op_of scope fed (Getn number pointer index) = Some (GetNum (place_of pointer scope.pointers) index)
-op_of scope fed (Setn pointer index number) = Some (SetNum (place_of pointer scope.pointers) index (number_in scope fed number))
+op_of scope fed (New pointer ty) = Some (op.New (pointer_place scope pointer) (place_of ty scope.types) false)
+op_of scope fed (Free pointer) = Some (op.Free (pointer_place scope pointer))
+op_of scope fed (Getn number pointer index) = Some (op.GetNum (pointer_place scope pointer) index)
+op_of scope fed (Setn pointer index number) = Some (op.SetNum (pointer_place scope pointer) index (number_in scope fed number))
+op_of scope fed (Getp loaded pointer index) = Some (op.GetPtr (pointer_place scope loaded) (pointer_place scope pointer) index)
+op_of scope fed (Setp pointer index stored) = Some (op.SetPtr (pointer_place scope pointer) index (pointer_place scope stored))
+op_of scope fed (Casp number pointer index expected stored) = Some (op.CasPtr (pointer_place scope pointer) index (pointer_place scope expected) (pointer_place scope stored))
+op_of scope fed (Lea moved pointer index) = Some (op.Lea (pointer_place scope moved) (pointer_place scope pointer) index)
+op_of scope fed (Move copied pointer) = Some (op.Move (pointer_place scope copied) (pointer_place scope pointer))
+op_of scope fed (Clear pointer) = Some (op.Clear (pointer_place scope pointer))
+op_of scope fed (Loadg loaded global) = Some (op.GetGlobal (pointer_place scope loaded) (place_of global scope.globals))
+op_of scope fed (Storeg stored global) = Some (op.SetGlobal (place_of global scope.globals) (pointer_place scope stored))
+op_of scope fed (Same number first second) = Some (op.Same (pointer_place scope first) (pointer_place scope second))
+op_of scope fed (Isnull number pointer) = Some (op.IsNull (pointer_place scope pointer))
+op_of scope fed (Show pointer) = Some (op.IsNull (pointer_place scope pointer))
 op_of scope fed (Const number value) = None
+op_of scope fed (Add number left right) = None
+op_of scope fed (Sub number left right) = None
 op_of scope fed (Print number) = None
+op_of scope fed (Repeat rounds) = None
+op_of scope fed (If number) = None
+op_of scope fed Else = None
+op_of scope fed End = None
 
 abbrev pub newline : List ℕ
 newline = 10 ∷ []
 
--- what another line does
+-- what another line does; sums and differences wrap at 2^64
 abbrev pub run_line : Scope → Fed → Item → Fed
 run_line scope fed (Const number value) = with_number scope fed number value
+run_line scope fed (Add number left right) =
+    with_number scope fed number ((number_in scope fed left + number_in scope fed right) % 2 ^ 64)
+run_line scope fed (Sub number left right) =
+    with_number scope fed number ((2 ^ 64 + number_in scope fed left - number_in scope fed right) % 2 ^ 64)
 run_line scope fed (Print number) = record fed { text = fed.text ++ (decimal (number_in scope fed number) ++ newline) }
 run_line scope fed item = fed
 
 -- what runs behind a part that may have stopped at an operation
 abbrev pub then_run : Fed → (Fed → Fed) → Blocks → Fed
-then_run fed go rest = if is_end fed.left then go fed else record fed { left = followed_by fed.left rest }
+then_run fed go rest = if is_done fed.left then go fed else record fed { left = followed_by fed.left rest }
 
 -- rounds of a body
 abbrev pub run_rounds : ℕ → Blocks → (Fed → Fed) → Fed → Fed
-run_rounds zero body go fed = record fed { left = End }
-run_rounds (suc more) body go fed = then_run (go fed) (run_rounds more body go) (Repeat more body End)
+run_rounds zero body go fed = record fed { left = Done }
+run_rounds (suc more) body go fed = then_run (go fed) (run_rounds more body go) (Rounds more body Done)
 
 -- Runs the blocks up to the first operation, or to their end.
 abbrev pub run : Scope → Blocks → Fed → Fed
-run scope End fed = record fed { left = End }
+run scope Done fed = record fed { left = Done }
 run scope (Line line item rest) fed =
     if is_some (op_of scope fed item) then record fed { left = Line line item rest } else run scope rest (run_line scope fed item)
-run scope (Repeat rounds body rest) fed = then_run (run_rounds rounds body (run scope body) fed) (run scope rest) rest
-run scope (If number first second rest) fed =
+run scope (Rounds rounds body rest) fed = then_run (run_rounds rounds body (run scope body) fed) (run scope rest) rest
+run scope (Choice number first second rest) fed =
     then_run (if number_in scope fed number == 0 then run scope second fed else run scope first fed) (run scope rest) rest
 
 -- a New is noted as full exactly where its answer is Full
 abbrev pub noted : Op → Answer → Op
-noted (NewOp d ty full) Full = NewOp d ty true
-noted op answer = op
+noted (op.New d ty full) answer.Full = op.New d ty true
+noted o a = o
 
 -- what is printed of an answer that refuses the instruction at this line
 abbrev pub refusal_text : Answer → List ℕ
-refusal_text Done = []
-refusal_text (Number n) = []
-refusal_text (Word w) = []
-refusal_text Full = codes "full"
-refusal_text Fault = codes "fault"
-refusal_text Null = codes "null"
-refusal_text Double = codes "double"
+refusal_text answer.Done = []
+refusal_text (answer.Num n) = []
+refusal_text (answer.Word w) = []
+refusal_text answer.Full = codes "full"
+refusal_text answer.Fault = codes "fault"
+refusal_text answer.Null = codes "null"
+refusal_text answer.Double = codes "double"
 
 abbrev pub refusal_line : ℕ → List ℕ → List ℕ
 refusal_line line [] = []
@@ -92,41 +120,57 @@ refusal_line line (byte ∷ bytes) = decimal line ++ (codes ": " ++ (byte ∷ by
 
 -- the number that is answered, and 0 where there is none
 abbrev pub number_of : Answer → ℕ
-number_of (Number n) = n
-number_of answer = 0
+number_of (answer.Num n) = n
+number_of a = 0
 
--- the instruction's number register takes the answer
+-- what `show` prints of a register that is null, or isn't
+abbrev pub shown : ℕ → List ℕ
+shown zero = codes "ptr\n"
+shown (suc n) = codes "null\n"
+
+-- the instruction takes its answer
 abbrev pub with_answer : Scope → Fed → Item → Answer → Fed
-with_answer scope fed (Getn number pointer index) answer = with_number scope fed number (number_of answer)
-with_answer scope fed item answer = fed
+with_answer scope fed (Getn number pointer index) a = with_number scope fed number (number_of a)
+with_answer scope fed (Casp number pointer index expected stored) a = with_number scope fed number (number_of a)
+with_answer scope fed (Same number first second) a = with_number scope fed number (number_of a)
+with_answer scope fed (Isnull number pointer) a = with_number scope fed number (number_of a)
+with_answer scope fed (Show pointer) a = record fed { text = fed.text ++ shown (number_of a) }
+with_answer scope fed item a = fed
 
 abbrev pub note : Fed → Option Op → ℕ → Answer → Fed
-note fed None line answer = fed
-note fed (Some op) line answer =
-    record fed { ops = fed.ops ++ noted op answer ∷ []; text = fed.text ++ refusal_line line (refusal_text answer) }
+note fed None line a = fed
+note fed (Some o) line a =
+    record fed { ops = fed.ops ++ noted o a ∷ []; text = fed.text ++ refusal_line line (refusal_text a) }
 
 -- An operation's answer: the operation is noted, a refusal is printed, and the script runs on. A script that has ended takes none.
 abbrev pub take_answer : Scope → Fed → Blocks → Answer → Fed
-take_answer scope fed (Line line item rest) answer =
-    run scope rest (with_answer scope (note fed (op_of scope fed item) line answer) item answer)
-take_answer scope fed blocks answer = fed
+take_answer scope fed (Line line item rest) a =
+    run scope rest (with_answer scope (note fed (op_of scope fed item) line a) item a)
+take_answer scope fed blocks a = fed
 
 abbrev pub take_answers : Scope → Fed → List Answer → Fed
 take_answers scope fed [] = fed
-take_answers scope fed (answer ∷ answers) = take_answers scope (take_answer scope fed fed.left answer) answers
+take_answers scope fed (a ∷ more) = take_answers scope (take_answer scope fed fed.left a) more
 
 abbrev pub scope_of : List Item → List Item → Scope
-scope_of program script =
-    record { types = type_names program; pointers = pointer_names script; numbers = number_names script }
+scope_of program script = record {
+  types = type_names program;
+  globals = global_names program;
+  pointers = pointer_names script;
+  numbers = number_names script;
+}
 
 -- a script before its first line: all number registers are 0, and its name is printed
 abbrev pub begun : Scope → ScriptText → Fed
 begun scope script =
-    record { left = End; numbers = replicate (length scope.numbers) 0; ops = []; text = codes "script " ++ (script.name ++ newline) }
+    record { left = Done; numbers = replicate (length scope.numbers) 0; ops = []; text = codes "script " ++ (script.name ++ newline) }
+
+-- a script that has run to its first operation
+abbrev pub started : Scope → ScriptText → Fed
+started scope script = run scope (blocks_from script.line script.items) (begun scope script)
 
 abbrev pub feed_script : Scope → ScriptText → List Answer → Fed
-feed_script scope script answers =
-    take_answers scope (run scope (blocks_from script.line script.items) (begun scope script)) answers
+feed_script scope script answers = take_answers scope (started scope script) answers
 
 -- Script k of a program, fed with answers: it stops before the first operation that has no answer left.
 abbrev pub feed : List Item → ℕ → List Answer → Fed
@@ -134,4 +178,4 @@ feed program k answers = feed_script (scope_of program (script_of program k).ite
 
 -- the script has ended
 abbrev pub has_ended : Fed → Bool
-has_ended fed = is_end fed.left
+has_ended fed = is_done fed.left

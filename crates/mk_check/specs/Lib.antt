@@ -1,3 +1,5 @@
 pub mod Blocks
-pub mod Declared
+pub mod Declarations
 pub mod Feed
+pub mod Lengths
+pub mod Typing

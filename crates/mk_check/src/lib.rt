@@ -1,2 +1,6 @@
-//! What a script does, given the answers to its operations.
+//! Types of scripts, and what a script does, given the answers to its operations.
 #![tactic(auto)]
+
+mod typing_faults;
+
+pub use typing_faults::{TypeKind, TypeStop};

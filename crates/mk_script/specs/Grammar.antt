@@ -1,21 +1,49 @@
--- A text and its program.
-use Rattle.std.specs.Prelude.{◌≡◌, ℕ, List, [], ◌∷◌, length, nat_le, if◌then◌else◌, Option, Some, None}
+-- A text and its program, or its first fault.
+use Rattle.std.specs.Prelude.{◌≡◌, ℕ, ◌+◌, List, [], ◌∷◌, ◌++◌, length, nat_le, ◌==◌, if◌then◌else◌, Ok, Err}
+use Rattle.std.specs.declared.result.Result.{Result}
 use Rattle.mk_script.specs.declared.items.Item.{Item}
+use Rattle.mk_script.specs.declared.faults.TextStop.{TextStop}
+use Rattle.mk_script.specs.declared.faults.TextStop.TheVariants as stop
+use Rattle.mk_script.specs.declared.faults.LineFault.{LineFault}
+use Rattle.mk_script.specs.declared.faults.LineFault.TheVariants.{Text, Limit}
+use Rattle.mk_script.specs.declared.faults.TextKind.TheVariants as kind
+use Rattle.mk_script.specs.declared.faults.Which.TheVariants as which
 use Rattle.mk_script.specs.Words.{lines_of, words_of}
-use Rattle.mk_script.specs.Items.{item_of, ◌>>=◌}
-use Rattle.mk_script.specs.Narrow.{is_narrow}
+use Rattle.mk_script.specs.Scopes.{open_blocks}
+use Rattle.mk_script.specs.Lines.{line_of, has_script, has_none}
 
--- an item a line
-abbrev pub items_of : List (List ℕ) → Option (List Item)
-items_of [] = Some []
-items_of (line ∷ lines) = item_of (words_of line) >>= (λ item. items_of lines >>= (λ items. Some (item ∷ items)))
+-- a fault at a line
+abbrev pub fault_at : ℕ → LineFault → TextStop
+fault_at line (Text kind') = stop.Text line kind'
+fault_at line (Limit which' found) = stop.Limit line which' found
 
-abbrev pub if_narrow : List Item → Option (List Item)
-if_narrow items = if is_narrow items then Some items else None
+-- what the end of the text finds: an open block, or no script; the last line is that of the last item
+abbrev pub at_end : List Item → Result (List Item) TextStop
+at_end items =
+    if has_none (open_blocks items)
+    then (if has_script items then Ok items else Err (stop.Limit (length items) which.Scripts 0))
+    else Err (stop.Text (length items) kind.End)
 
--- The program of a text of at most 1,048,576 bytes: an item a line, all of them a program of the narrow form.
-abbrev pub program_of : List ℕ → Option (List Item)
-program_of text = if nat_le (length text) 1048576 then (items_of (lines_of text) >>= if_narrow) else None
+-- goes on with a line's item, or ends with its fault
+abbrev pub go_on : {A : Type 0} → ℕ → Result Item LineFault → (Item → Result A TextStop) → Result A TextStop
+go_on line (Ok item) next = next item
+go_on line (Err fault) next = Err (fault_at line fault)
+
+-- the items of all lines, where these stand behind the ones that were read
+abbrev pub items_behind : List (List ℕ) → List Item → Result (List Item) TextStop
+items_behind [] before = at_end before
+items_behind (line ∷ lines) before =
+    go_on (length before + 1) (line_of before (words_of line)) (λ item. items_behind lines (before ++ item ∷ []))
+
+-- A text that has no line lacks its first.
+abbrev pub items_of_lines : List (List ℕ) → Result (List Item) TextStop
+items_of_lines [] = Err (stop.Text 1 kind.Header)
+items_of_lines (line ∷ lines) = items_behind (line ∷ lines) []
+
+-- The program of a text of at most 1,048,576 bytes: an item a line; or the first fault.
+abbrev pub program_of : List ℕ → Result (List Item) TextStop
+program_of text =
+    if nat_le (length text) 1048576 then items_of_lines (lines_of text) else Err (stop.Limit 0 which.Bytes 1048577)
 
 abbrev pub IsOfSomeText : List Item → Type 0
-IsOfSomeText items = (text : List ℕ) × (program_of text ≡ Some items)
+IsOfSomeText items = (text : List ℕ) × (program_of text ≡ Ok items)

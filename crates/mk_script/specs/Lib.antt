@@ -1,6 +1,8 @@
+pub mod Canonical
 pub mod Grammar
-pub mod Items
+pub mod Keywords
+pub mod Lines
 pub mod Names
-pub mod Narrow
-pub mod Registers
+pub mod Operands
+pub mod Scopes
 pub mod Words

@@ -58,7 +58,8 @@ impl TypeWords {
     }
 }
 
-/// A line of a script text. Registers, types and scripts are named as in the text.
+/// A line of a script text. Registers, types, globals and scripts are named as in the text, and an
+/// index counts words from the one that its pointer points to.
 #[derive(Drop)]
 pub enum Item {
     /// `heap PAGES RESIDENT`
@@ -70,6 +71,11 @@ pub enum Item {
     TypeLine {
         name: Name,
         words: TypeWords,
+    },
+    /// `global G T`
+    Global {
+        name: Name,
+        ty: Name,
     },
     /// `script S`
     Script {
@@ -89,6 +95,10 @@ pub enum Item {
         pointer: Name,
         ty: Name,
     },
+    /// `free P`
+    Free {
+        pointer: Name,
+    },
     /// `getn N Q i`
     Getn {
         number: Name,
@@ -101,13 +111,97 @@ pub enum Item {
         index: u64,
         number: Name,
     },
+    /// `getp P Q i`
+    Getp {
+        loaded: Name,
+        pointer: Name,
+        index: u64,
+    },
+    /// `setp Q i P`
+    Setp {
+        pointer: Name,
+        index: u64,
+        stored: Name,
+    },
+    /// `casp N Q i P P2`
+    Casp {
+        number: Name,
+        pointer: Name,
+        index: u64,
+        expected: Name,
+        stored: Name,
+    },
+    /// `lea P Q i`
+    Lea {
+        moved: Name,
+        pointer: Name,
+        index: u64,
+    },
+    /// `move P Q`
+    Move {
+        copied: Name,
+        pointer: Name,
+    },
+    /// `clear P`
+    Clear {
+        pointer: Name,
+    },
+    /// `loadg P G`
+    Loadg {
+        loaded: Name,
+        global: Name,
+    },
+    /// `storeg P G`
+    Storeg {
+        stored: Name,
+        global: Name,
+    },
+    /// `same N P Q`
+    Same {
+        number: Name,
+        first: Name,
+        second: Name,
+    },
+    /// `isnull N P`
+    Isnull {
+        number: Name,
+        pointer: Name,
+    },
+    /// `show P`
+    Show {
+        pointer: Name,
+    },
     /// `const N k`
     Const {
         number: Name,
         value: u64,
     },
+    /// `add N A B`
+    Add {
+        number: Name,
+        left: Name,
+        right: Name,
+    },
+    /// `sub N A B`
+    Sub {
+        number: Name,
+        left: Name,
+        right: Name,
+    },
     /// `print N`
     Print {
         number: Name,
     },
+    /// `repeat k`
+    Repeat {
+        rounds: u64,
+    },
+    /// `if N`
+    If {
+        number: Name,
+    },
+    /// `else`
+    Else,
+    /// `end`
+    End,
 }

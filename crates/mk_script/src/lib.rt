@@ -1,16 +1,13 @@
 //! The script language: its items, and the reader of its texts.
 #![tactic(auto)]
 
-mod forms;
+mod faults;
 mod items;
+mod keywords;
 mod names;
-mod narrow_form;
-mod numbers;
-mod parsing;
 mod program;
-mod splitting;
 
+pub use faults::{TextKind, TextStop, Which};
 pub use items::{At, Item, TypeWord, TypeWords};
 pub use names::Name;
-pub use parsing::parse;
 pub use program::Program;

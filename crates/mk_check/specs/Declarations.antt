@@ -6,29 +6,12 @@ use Rattle.mk_never.specs.declared.types.Kind.TheVariants.{Num as NumKind, To}
 use Rattle.mk_script.specs.declared.items.TypeWord.{TypeWord}
 use Rattle.mk_script.specs.declared.items.TypeWord.TheVariants.{Number, Pointer}
 use Rattle.mk_script.specs.declared.items.Item.{Item}
-use Rattle.mk_script.specs.declared.items.Item.TheVariants.{Heap, TypeLine, Ptr, Num}
+use Rattle.mk_script.specs.declared.items.Item.TheVariants.{Heap, TypeLine, Global}
+use Rattle.mk_script.specs.Scopes.{type_names}
 
 abbrev pub place_of : List ℕ → List (List ℕ) → ℕ
 place_of name [] = 0
 place_of name (other ∷ others) = if bytes_eq name other then 0 else place_of name others + 1
-
--- the names of types, in the order of their lines
-abbrev pub type_names : List Item → List (List ℕ)
-type_names [] = []
-type_names (TypeLine name words ∷ items) = name ∷ type_names items
-type_names (item ∷ items) = type_names items
-
--- the names of pointer registers
-abbrev pub pointer_names : List Item → List (List ℕ)
-pointer_names [] = []
-pointer_names (Ptr name at ∷ items) = name ∷ pointer_names items
-pointer_names (item ∷ items) = pointer_names items
-
--- the names of number registers
-abbrev pub number_names : List Item → List (List ℕ)
-number_names [] = []
-number_names (Num name ∷ items) = name ∷ number_names items
-number_names (item ∷ items) = number_names items
 
 abbrev pub kind_of : List (List ℕ) → TypeWord → Kind
 kind_of types Number = NumKind
@@ -43,8 +26,22 @@ kinds_among types (item ∷ items) = kinds_among types items
 abbrev pub types_of : List Item → List (List Kind)
 types_of items = kinds_among (type_names items) items
 
--- the pages of its heap
+abbrev pub globals_among : List (List ℕ) → List Item → List ℕ
+globals_among types [] = []
+globals_among types (Global name ty ∷ items) = place_of ty types ∷ globals_among types items
+globals_among types (item ∷ items) = globals_among types items
+
+-- the types of its globals
+abbrev pub globals_of : List Item → List ℕ
+globals_of items = globals_among (type_names items) items
+
+-- the pages of its heap, and how many of them may be resident
 abbrev pub pages_of : List Item → ℕ
 pages_of [] = 0
 pages_of (Heap pages resident ∷ items) = pages
 pages_of (item ∷ items) = pages_of items
+
+abbrev pub resident_of : List Item → ℕ
+resident_of [] = 0
+resident_of (Heap pages resident ∷ items) = resident
+resident_of (item ∷ items) = resident_of items

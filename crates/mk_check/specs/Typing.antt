@@ -1,0 +1,173 @@
+-- Which programs are well typed, line by line.
+use Rattle.std.specs.Prelude.{ℕ, ◌+◌, ◌-◌, ◌^◌, min, Bool, true, false, not, ◌&&◌, ◌==◌, nat_le, nat_lt, if◌then◌else◌, List, [], ◌∷◌, ◌++◌, length, Option, Some, None, is_some, option_map, slice_get}
+use Rattle.std.specs.List.{list_any}
+use Rattle.std.specs.Str.{bytes_eq}
+use Rattle.mk_script.specs.declared.items.At.{At}
+use Rattle.mk_script.specs.declared.items.TypeWord.{TypeWord}
+use Rattle.mk_script.specs.declared.items.TypeWord.TheVariants.{Number, Pointer}
+use Rattle.mk_script.specs.declared.items.Item.{Item}
+use Rattle.mk_script.specs.declared.items.Item.TheVariants.{Heap, TypeLine, Global, Script, Ptr, Num, New, Free, Getn, Setn, Getp, Setp, Casp, Lea, Move, Clear, Loadg, Storeg, Same, Isnull, Show, Const, Add, Sub, Print, Repeat, If, Else, End}
+use Rattle.mk_script.specs.Scopes.{this_script, number_names}
+use Rattle.mk_check.specs.declared.typing_faults.TypeKind.{TypeKind}
+use Rattle.mk_check.specs.declared.typing_faults.TypeKind.TheVariants as kind
+use Rattle.mk_check.specs.Blocks.{before_next_script}
+use Rattle.mk_check.specs.Lengths.{script_length}
+
+-- Look-ups. A type may be declared in a later line, and so may a global that another line names; a register is
+-- declared before in its script.
+
+abbrev pub type_words : List ℕ → List Item → Option (List TypeWord)
+type_words name [] = None
+type_words name (TypeLine other words ∷ items) = if bytes_eq name other then Some words else type_words name items
+type_words name (item ∷ items) = type_words name items
+
+abbrev pub global_type : List ℕ → List Item → Option (List ℕ)
+global_type name [] = None
+global_type name (Global other ty ∷ items) = if bytes_eq name other then Some ty else global_type name items
+global_type name (item ∷ items) = global_type name items
+
+-- where a pointer register is declared to point
+abbrev pub pointer_at : List ℕ → List Item → Option At
+pointer_at name [] = None
+pointer_at name (Ptr other at ∷ items) = if bytes_eq name other then Some at else pointer_at name items
+pointer_at name (item ∷ items) = pointer_at name items
+
+-- A program, and the lines of the script so far.
+pub record Around : Type 0 where
+  pub program : List Item
+  pub script : List Item
+
+abbrev pub or_else : Option TypeKind → Option TypeKind → Option TypeKind
+or_else (Some k) other = Some k
+or_else None other = other
+
+-- the first of these that fails
+abbrev pub first_of : List (Option TypeKind) → Option TypeKind
+first_of [] = None
+first_of (fault ∷ faults) = or_else fault (first_of faults)
+
+abbrev pub unless : Bool → TypeKind → Option TypeKind
+unless true k = None
+unless false k = Some k
+
+abbrev pub is_type : Around → List ℕ → Option TypeKind
+is_type a name = unless (is_some (type_words name a.program)) kind.NoType
+
+abbrev pub is_global : Around → List ℕ → Option TypeKind
+is_global a name = unless (is_some (global_type name a.program)) kind.NoGlobal
+
+abbrev pub is_pointer : Around → List ℕ → Option TypeKind
+is_pointer a name = unless (is_some (pointer_at name a.script)) kind.NoRegister
+
+abbrev pub is_number : Around → List ℕ → Option TypeKind
+is_number a name = unless (list_any (bytes_eq name) (number_names a.script)) kind.NoRegister
+
+abbrev pub same_at : Option At → Option At → Bool
+same_at (Some s) (Some t) = bytes_eq s.name t.name && (s.offset == t.offset)
+same_at s t = false
+
+abbrev pub moved_by : ℕ → At → At
+moved_by i at = record { name = at.name; offset = at.offset + i }
+
+-- the place i words behind the one that a register is declared for
+abbrev pub place_behind : Around → List ℕ → ℕ → Option At
+place_behind a pointer i = option_map (moved_by i) (pointer_at pointer a.script)
+
+abbrev pub word_among : Option (List TypeWord) → ℕ → Option TypeWord
+word_among None offset = None
+word_among (Some words) offset = slice_get words offset
+
+-- the word of a type at a place; none where that isn't inside
+abbrev pub word_at : Around → Option At → Option TypeWord
+word_at a None = None
+word_at a (Some at) = word_among (type_words at.name a.program) at.offset
+
+abbrev pub is_inside : Around → Option At → Option TypeKind
+is_inside a place = unless (is_some (word_at a place)) kind.Offset
+
+abbrev pub is_number_word : Option TypeWord → Bool
+is_number_word (Some Number) = true
+is_number_word word = false
+
+-- where a pointer word points
+abbrev pub word_points : Option TypeWord → Option At
+word_points (Some (Pointer at)) = Some at
+word_points word = None
+
+-- a type's first word
+abbrev pub base_of : List ℕ → At
+base_of ty = record { name = ty; offset = 0 }
+
+abbrev pub is_base : Option At → Bool
+is_base (Some at) = at.offset == 0
+is_base None = false
+
+-- the pointer words of a type: all names first, and then all offsets
+abbrev pub pointers_have_types : Around → List TypeWord → Option TypeKind
+pointers_have_types a [] = None
+pointers_have_types a (Number ∷ words) = pointers_have_types a words
+pointers_have_types a (Pointer at ∷ words) = or_else (is_type a at.name) (pointers_have_types a words)
+
+abbrev pub pointers_are_inside : Around → List TypeWord → Option TypeKind
+pointers_are_inside a [] = None
+pointers_are_inside a (Number ∷ words) = pointers_are_inside a words
+pointers_are_inside a (Pointer at ∷ words) = or_else (is_inside a (Some at)) (pointers_are_inside a words)
+
+-- a script's length
+abbrev pub is_short : ℕ → Option TypeKind
+is_short count = unless (nat_le count 1000000) (kind.TooLong (min count (2 ^ 64 - 1)))
+
+abbrev pub global_at : Around → List ℕ → Option At
+global_at a name = option_map base_of (global_type name a.program)
+
+-- What is wrong with a line that stands behind these of its script, and before those behind it: the names from left to
+-- right, then offsets, then kinds, then an interior pointer that is freed.
+abbrev pub typing_fault : Around → ℕ → List Item → Item → Option TypeKind
+typing_fault a line behind (Heap pages resident) = None
+typing_fault a line behind (TypeLine name words) = first_of (pointers_have_types a words ∷ pointers_are_inside a words ∷ [])
+typing_fault a line behind (Global name ty) = is_type a ty
+typing_fault a line behind (Script name) = is_short (script_length (record { name = name; line = line + 1; items = before_next_script behind }))
+typing_fault a line behind (Ptr name at) = first_of (is_type a at.name ∷ is_inside a (Some at) ∷ [])
+typing_fault a line behind (Num name) = None
+typing_fault a line behind (New pointer ty) = first_of (is_pointer a pointer ∷ is_type a ty ∷ unless (same_at (pointer_at pointer a.script) (Some (base_of ty))) kind.Kind ∷ [])
+typing_fault a line behind (Free pointer) = first_of (is_pointer a pointer ∷ unless (is_base (pointer_at pointer a.script)) kind.InteriorFree ∷ [])
+typing_fault a line behind (Getn number pointer index) = first_of (is_number a number ∷ is_pointer a pointer ∷ is_inside a (place_behind a pointer index) ∷ unless (is_number_word (word_at a (place_behind a pointer index))) kind.Kind ∷ [])
+typing_fault a line behind (Setn pointer index number) = first_of (is_pointer a pointer ∷ is_number a number ∷ is_inside a (place_behind a pointer index) ∷ unless (is_number_word (word_at a (place_behind a pointer index))) kind.Kind ∷ [])
+typing_fault a line behind (Getp loaded pointer index) = first_of (is_pointer a loaded ∷ is_pointer a pointer ∷ is_inside a (place_behind a pointer index) ∷ unless (same_at (word_points (word_at a (place_behind a pointer index))) (pointer_at loaded a.script)) kind.Kind ∷ [])
+typing_fault a line behind (Setp pointer index stored) = first_of (is_pointer a pointer ∷ is_pointer a stored ∷ is_inside a (place_behind a pointer index) ∷ unless (same_at (word_points (word_at a (place_behind a pointer index))) (pointer_at stored a.script)) kind.Kind ∷ [])
+typing_fault a line behind (Casp number pointer index expected stored) = first_of (is_number a number ∷ is_pointer a pointer ∷ is_pointer a expected ∷ is_pointer a stored ∷ is_inside a (place_behind a pointer index) ∷ unless (same_at (word_points (word_at a (place_behind a pointer index))) (pointer_at expected a.script) && same_at (word_points (word_at a (place_behind a pointer index))) (pointer_at stored a.script)) kind.Kind ∷ [])
+typing_fault a line behind (Lea moved pointer index) = first_of (is_pointer a moved ∷ is_pointer a pointer ∷ is_inside a (place_behind a pointer index) ∷ unless (same_at (pointer_at moved a.script) (place_behind a pointer index)) kind.Kind ∷ [])
+typing_fault a line behind (Move copied pointer) = first_of (is_pointer a copied ∷ is_pointer a pointer ∷ unless (same_at (pointer_at copied a.script) (pointer_at pointer a.script)) kind.Kind ∷ [])
+typing_fault a line behind (Clear pointer) = is_pointer a pointer
+typing_fault a line behind (Loadg loaded global) = first_of (is_pointer a loaded ∷ is_global a global ∷ unless (same_at (pointer_at loaded a.script) (global_at a global)) kind.Kind ∷ [])
+typing_fault a line behind (Storeg stored global) = first_of (is_pointer a stored ∷ is_global a global ∷ unless (same_at (pointer_at stored a.script) (global_at a global)) kind.Kind ∷ [])
+typing_fault a line behind (Same number first second) = first_of (is_number a number ∷ is_pointer a first ∷ is_pointer a second ∷ [])
+typing_fault a line behind (Isnull number pointer) = first_of (is_number a number ∷ is_pointer a pointer ∷ [])
+typing_fault a line behind (Show pointer) = is_pointer a pointer
+typing_fault a line behind (Const number value) = is_number a number
+typing_fault a line behind (Add number left right) = first_of (is_number a number ∷ is_number a left ∷ is_number a right ∷ [])
+typing_fault a line behind (Sub number left right) = first_of (is_number a number ∷ is_number a left ∷ is_number a right ∷ [])
+typing_fault a line behind (Print number) = is_number a number
+typing_fault a line behind (Repeat rounds) = None
+typing_fault a line behind (If number) = is_number a number
+typing_fault a line behind Else = None
+typing_fault a line behind End = None
+
+-- an ill-typed line
+pub record TypingFault : Type 0 where
+  pub line : ℕ
+  pub kind : TypeKind
+
+abbrev pub at_line : ℕ → Option TypeKind → Option TypingFault → Option TypingFault
+at_line line (Some k) other = Some (record { line = line; kind = k })
+at_line line None other = other
+
+-- the least ill-typed line of the items, behind those that were read; the first stands at this line
+abbrev pub fault_from : List Item → ℕ → List Item → List Item → Option TypingFault
+fault_from program line before [] = None
+fault_from program line before (item ∷ items) =
+    at_line line (typing_fault (record { program = program; script = this_script before }) line items item)
+      (fault_from program (line + 1) (before ++ item ∷ []) items)
+
+abbrev pub first_typing_fault : List Item → Option TypingFault
+first_typing_fault program = fault_from program 1 [] program

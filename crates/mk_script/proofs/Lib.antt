@@ -1,4 +1,0 @@
-mod Digits
-mod LastPiece
-pub mod Narrow
-mod Operands

@@ -1,6 +1,0 @@
-use Rattle.std.proofs.Common.{◌≡◌, replicate}
-use Rattle.mk_script.specs.declared.items.TypeWord.TheVariants.{Number}
-use Rattle.mk_script.proofs.forms.number_type.Given as goal
-
-abbrev pub invariant-loop : goal.invariant-loop
-invariant-loop l = l.words.items ≡ replicate l.counter Number

@@ -1,0 +1,79 @@
+-- The first words of lines, and where lines of each form stand.
+use Rattle.std.specs.Prelude.{ℕ, Bool, true, false, not, ◌&&◌, ◌==◌, nat_le, if◌then◌else◌, List, [], ◌∷◌, Option, Some, None}
+use Rattle.std.specs.Str.{bytes_eq}
+use lib.Chars.{codes}
+use Rattle.mk_script.specs.declared.keywords.Keyword.{Keyword}
+use Rattle.mk_script.specs.declared.keywords.Keyword.TheVariants.{Heap, TypeLine, Global, Script, Ptr, Num, New, Free, Getn, Setn, Getp, Setp, Casp, Lea, Move, Clear, Loadg, Storeg, Same, Isnull, Show, Const, Add, Sub, Print, Repeat, If, Else, End}
+
+-- the words and what they stand for
+abbrev pub keywords : List (List ℕ × Keyword)
+keywords =
+    (codes "heap", Heap) ∷
+    (codes "type", TypeLine) ∷
+    (codes "global", Global) ∷
+    (codes "script", Script) ∷
+    (codes "ptr", Ptr) ∷
+    (codes "num", Num) ∷
+    (codes "new", New) ∷
+    (codes "free", Free) ∷
+    (codes "getn", Getn) ∷
+    (codes "setn", Setn) ∷
+    (codes "getp", Getp) ∷
+    (codes "setp", Setp) ∷
+    (codes "casp", Casp) ∷
+    (codes "lea", Lea) ∷
+    (codes "move", Move) ∷
+    (codes "clear", Clear) ∷
+    (codes "loadg", Loadg) ∷
+    (codes "storeg", Storeg) ∷
+    (codes "same", Same) ∷
+    (codes "isnull", Isnull) ∷
+    (codes "show", Show) ∷
+    (codes "const", Const) ∷
+    (codes "add", Add) ∷
+    (codes "sub", Sub) ∷
+    (codes "print", Print) ∷
+    (codes "repeat", Repeat) ∷
+    (codes "if", If) ∷
+    (codes "else", Else) ∷
+    (codes "end", End) ∷
+    []
+
+abbrev pub keyword_among : List (List ℕ × Keyword) → List ℕ → Option Keyword
+keyword_among [] word = None
+keyword_among (k ∷ ks) word = if bytes_eq word k.0 then Some k.1 else keyword_among ks word
+
+abbrev pub keyword_of : List ℕ → Option Keyword
+keyword_of word = keyword_among keywords word
+
+-- whether a line of this form has so many words behind its first
+abbrev pub has_operands : Keyword → ℕ → Bool
+has_operands Heap count = count == 2
+has_operands TypeLine count = nat_le 2 count
+has_operands Global count = count == 2
+has_operands Script count = count == 1
+has_operands Ptr count = count == 2
+has_operands Num count = count == 1
+has_operands New count = count == 2
+has_operands Free count = count == 1
+has_operands Getn count = count == 3
+has_operands Setn count = count == 3
+has_operands Getp count = count == 3
+has_operands Setp count = count == 3
+has_operands Casp count = count == 5
+has_operands Lea count = count == 3
+has_operands Move count = count == 2
+has_operands Clear count = count == 1
+has_operands Loadg count = count == 2
+has_operands Storeg count = count == 2
+has_operands Same count = count == 3
+has_operands Isnull count = count == 2
+has_operands Show count = count == 1
+has_operands Const count = count == 2
+has_operands Add count = count == 3
+has_operands Sub count = count == 3
+has_operands Print count = count == 1
+has_operands Repeat count = count == 1
+has_operands If count = count == 1
+has_operands Else count = count == 0
+has_operands End count = count == 0

@@ -1,0 +1,122 @@
+-- What a line is, behind the lines before it: its item, or the first fault by the order of the six steps.
+use Rattle.std.specs.Prelude.{ℕ, ◌+◌, ◌-◌, ◌^◌, min, Bool, true, false, not, ◌&&◌, ◌||◌, ◌==◌, nat_le, nat_lt, if◌then◌else◌, List, [], ◌∷◌, ◌++◌, length, Option, Some, None, Ok, Err}
+use Rattle.std.specs.declared.result.Result.{Result}
+use Rattle.std.specs.List.{list_any}
+use Rattle.std.specs.Str.{bytes_eq}
+use lib.Chars.{codes}
+use Rattle.mk_script.specs.declared.items.Item.{Item}
+use Rattle.mk_script.specs.declared.items.Item.TheVariants.{Heap, TypeLine, Global, Script, Ptr, Num, Repeat, If, Else, End}
+use Rattle.mk_script.specs.declared.keywords.Keyword.{Keyword}
+use Rattle.mk_script.specs.declared.keywords.Keyword.TheVariants as keyword
+use Rattle.mk_script.specs.declared.faults.LineFault.{LineFault}
+use Rattle.mk_script.specs.declared.faults.LineFault.TheVariants.{Text, Limit}
+use Rattle.mk_script.specs.declared.faults.Which.{Which}
+use Rattle.mk_script.specs.declared.faults.Which.TheVariants as which
+use Rattle.mk_script.specs.declared.faults.TextKind.TheVariants as kind
+use Rattle.mk_script.specs.Keywords.{keyword_of, has_operands}
+use Rattle.mk_script.specs.Operands.{◌>>=◌, have_form, item_from}
+use Rattle.mk_script.specs.Scopes.{type_names, global_names, script_names, pointer_names, number_names, is_script, is_instruction, this_script, OpenBlock, InRepeat, InFirst, InSecond, open_blocks}
+
+-- Steps 1 to 3: the form, its place and its operands.
+
+abbrev pub has_script : List Item → Bool
+has_script before = list_any is_script before
+
+-- whether a line of the form may stand behind these
+abbrev pub is_placed : List Item → Keyword → Bool
+is_placed before keyword.Heap = false
+is_placed before keyword.TypeLine = not (has_script before)
+is_placed before keyword.Global = not (has_script before)
+is_placed before keyword.Script = true
+is_placed before keyword.Ptr = has_script before && not (list_any is_instruction (this_script before))
+is_placed before keyword.Num = has_script before && not (list_any is_instruction (this_script before))
+is_placed before form = has_script before
+
+-- line 1: `heap` with two more words
+abbrev pub heap_line : List (List ℕ) → Result Item LineFault
+heap_line (word ∷ pages ∷ resident ∷ []) = if bytes_eq word (codes "heap") then item_from keyword.Heap (pages ∷ resident ∷ []) else Err (Text kind.Header)
+heap_line words = Err (Text kind.Header)
+
+abbrev pub placed_item : List Item → Option Keyword → List (List ℕ) → Result Item LineFault
+placed_item before None operands = Err (Text kind.Word)
+placed_item before (Some form) operands =
+    if has_operands form (length operands) && have_form form operands && is_placed before form then item_from form operands else Err (Text kind.Word)
+
+abbrev pub other_line : List Item → List (List ℕ) → Result Item LineFault
+other_line before [] = Err (Text kind.Word)
+other_line before (word ∷ operands) = placed_item before (keyword_of word) operands
+
+abbrev pub line_item : List Item → List (List ℕ) → Result Item LineFault
+line_item [] words = heap_line words
+line_item (first ∷ before) words = other_line (first ∷ before) words
+
+-- Step 4: names that are declared twice.
+
+abbrev pub is_among : List ℕ → List (List ℕ) → Bool
+is_among name names = list_any (bytes_eq name) names
+
+abbrev pub register_names : List Item → List (List ℕ)
+register_names lines = pointer_names lines ++ number_names lines
+
+abbrev pub is_twice : List Item → Item → Bool
+is_twice before (TypeLine name words) = is_among name (type_names before)
+is_twice before (Global name ty) = is_among name (global_names before)
+is_twice before (Script name) = is_among name (script_names before)
+is_twice before (Ptr name at) = is_among name (register_names (this_script before))
+is_twice before (Num name) = is_among name (register_names (this_script before))
+is_twice before item = false
+
+-- Step 5: limits, and what is found where one is passed.
+
+abbrev pub at_most : ℕ → ℕ → Which → Option LineFault
+at_most found greatest which = if nat_le found greatest then None else Some (Limit which (min found (2 ^ 64 - 1)))
+
+abbrev pub within : ℕ → ℕ → ℕ → Which → Option LineFault
+within least found greatest which = if nat_le least found && nat_le found greatest then None else Some (Limit which found)
+
+abbrev pub or_else : Option LineFault → Option LineFault → Option LineFault
+or_else (Some fault) other = Some fault
+or_else None other = other
+
+abbrev pub limit_fault : List Item → Item → Option LineFault
+limit_fault before (Heap pages resident) = or_else (within 1 pages 4096 which.Pages) (within 1 resident pages which.Resident)
+limit_fault before (TypeLine name words) =
+    or_else (at_most (length (type_names before) + 1) 64 which.Types) (at_most (length words) 4096 which.Words)
+limit_fault before (Global name ty) = at_most (length (global_names before) + 1) 64 which.Globals
+limit_fault before (Script name) = at_most (length (script_names before) + 1) 16 which.Scripts
+limit_fault before (Ptr name at) = at_most (length (pointer_names (this_script before)) + 1) 8 which.Pointers
+limit_fault before (Num name) = at_most (length (number_names (this_script before)) + 1) 8 which.Numbers
+limit_fault before (Repeat rounds) = at_most (length (open_blocks before) + 1) 32 which.Depth
+limit_fault before (If number) = at_most (length (open_blocks before) + 1) 32 which.Depth
+limit_fault before item = None
+
+-- Step 6: blocks that are ended and aren't open, and a script inside an open block.
+
+abbrev pub may_have_else : List OpenBlock → Bool
+may_have_else [] = false
+may_have_else (InRepeat ∷ blocks) = false
+may_have_else (InFirst ∷ blocks) = true
+may_have_else (InSecond ∷ blocks) = false
+
+abbrev pub has_none : List OpenBlock → Bool
+has_none [] = true
+has_none (block ∷ blocks) = false
+
+abbrev pub ends_rightly : List OpenBlock → Item → Bool
+ends_rightly blocks (Script name) = has_none blocks
+ends_rightly blocks Else = may_have_else blocks
+ends_rightly blocks End = not (has_none blocks)
+ends_rightly blocks item = true
+
+abbrev pub or_item : Option LineFault → Item → Result Item LineFault
+or_item None item = Ok item
+or_item (Some fault) item = Err fault
+
+-- steps 4 to 6
+abbrev pub checked_item : List Item → Item → Result Item LineFault
+checked_item before item =
+    if is_twice before item then Err (Text kind.Twice) else
+    (or_item (limit_fault before item) item >>= (λ item'. if ends_rightly (open_blocks before) item then Ok item' else Err (Text kind.End)))
+
+abbrev pub line_of : List Item → List (List ℕ) → Result Item LineFault
+line_of before words = line_item before words >>= checked_item before

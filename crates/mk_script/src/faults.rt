@@ -1,0 +1,50 @@
+//! What can be wrong with a text.
+
+/// Why a text has no program: the first line that isn't of the grammar, counted from 1, or no memory.
+#[derive(Clone, Copy, Debug, PartialEq, Eq)]
+pub enum TextStop {
+    Text { line: u64, kind: TextKind },
+    /// A quantity is outside its limits. `found` is the number at this line, or 2^64 - 1 where it is
+    /// greater. For bytes the line is 0.
+    Limit { line: u64, which: Which, found: u64 },
+    NoMemory,
+}
+
+/// What is wrong with a line, but for limits.
+#[derive(Clone, Copy, Debug, PartialEq, Eq)]
+pub enum TextKind {
+    /// Line 1 is absent or isn't `heap` with two more words.
+    Header,
+    /// The line has no such form, or stands in a wrong place.
+    Word,
+    /// Something that isn't a number stands in a number's place.
+    Number,
+    /// Something that isn't a name stands in a name's place.
+    Name,
+    /// A name is declared a second time.
+    Twice,
+    /// A block that isn't open is ended, or one that is open isn't.
+    End,
+}
+
+/// The quantities that have limits.
+#[derive(Clone, Copy, Debug, PartialEq, Eq)]
+pub enum Which {
+    Bytes,
+    Pages,
+    Resident,
+    Scripts,
+    Globals,
+    Types,
+    Words,
+    Pointers,
+    Numbers,
+    Depth,
+}
+
+/// What is wrong with a line.
+#[derive(Clone, Copy, Debug, PartialEq, Eq)]
+pub enum LineFault {
+    Text(TextKind),
+    Limit { which: Which, found: u64 },
+}

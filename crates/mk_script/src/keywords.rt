@@ -1,0 +1,35 @@
+//! The first words of lines.
+
+/// The first word of a line, which says what form it has.
+#[derive(Clone, Copy, Debug, PartialEq, Eq)]
+pub enum Keyword {
+    Heap,
+    TypeLine,
+    Global,
+    Script,
+    Ptr,
+    Num,
+    New,
+    Free,
+    Getn,
+    Setn,
+    Getp,
+    Setp,
+    Casp,
+    Lea,
+    Move,
+    Clear,
+    Loadg,
+    Storeg,
+    Same,
+    Isnull,
+    Show,
+    Const,
+    Add,
+    Sub,
+    Print,
+    Repeat,
+    If,
+    Else,
+    End,
+}
