@@ -1,3 +1,4 @@
+pub mod Accesses
 pub mod Canonical
 pub mod Grammar
 pub mod Keywords
@@ -5,4 +6,5 @@ pub mod Lines
 pub mod Names
 pub mod Operands
 pub mod Scopes
+pub mod Spaced
 pub mod Words
