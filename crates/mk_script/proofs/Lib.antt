@@ -1,1 +1,5 @@
+pub mod CanonicalLines
+pub mod LineWords
+pub mod Numbers
+pub mod Said
 pub mod Spacing
