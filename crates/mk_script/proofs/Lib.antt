@@ -1,4 +1,5 @@
 pub mod CanonicalLines
+pub mod Fields
 pub mod LineWords
 pub mod Numbers
 pub mod Said
