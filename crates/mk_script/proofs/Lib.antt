@@ -1,5 +1,6 @@
 pub mod CanonicalLines
 pub mod Fields
+pub mod Forms
 pub mod LineWords
 pub mod Numbers
 pub mod Said
