@@ -1,10 +1,9 @@
 -- The lines of a canonical text are those of its items.
-use Rattle.std.proofs.Common.{◌≡◌, ℕ, ◌+◌, nat_eq, List, [], ◌∷◌, ◌++◌, refl, ap, ◌∙◌, sym, map, append_assoc}
+use Rattle.std.proofs.Common.{◌≡◌, ℕ, nat_eq, List, [], ◌∷◌, ◌++◌, refl, ap, ◌∙◌, map, append_assoc}
 use Rattle.std.specs.List.{slice_split}
 use Rattle.std.proofs.lemmas.List.Splits.{slice_split_at}
-use lib.Chars.{codes}
 use Rattle.mk_script.specs.declared.items.Item.{Item}
-use Rattle.mk_script.specs.Canonical.{words_of_item, line_text, canonical_text}
+use Rattle.mk_script.specs.Canonical.{words_of_item, canonical_text}
 use Rattle.mk_script.specs.Words.{lines_of, without_empty_last}
 use Rattle.mk_script.specs.Spaced.{joined}
 use Rattle.mk_script.proofs.Spacing.{line_text-joined}

@@ -1,12 +1,12 @@
 -- The fields of a type's line: what they say, they say again as they are printed.
-use Rattle.std.proofs.Common.{◌≡◌, ℕ, zero, suc, ◌+◌, ◌<◌, ◌≤◌, ◌^◌, Bool, true, false, ◌&&◌, nat_eq, nat_lt, nat_le, cond, List, [], ◌∷◌, ◌++◌, length, replicate, refl, ap, ◌∙◌, sym, subst, arith, append_assoc, Option, Some, None, Ok, Err, inl, inr}
+use Rattle.std.proofs.Common.{◌≡◌, ℕ, zero, suc, ◌+◌, ◌<◌, ◌^◌, Bool, true, false, nat_eq, nat_le, cond, List, [], ◌∷◌, ◌++◌, length, replicate, refl, ap, ◌∙◌, sym, subst, arith, append_assoc, Option, Some, None, Ok, Err, inl, inr}
 use Rattle.std.specs.declared.result.Result.{Result}
 use Rattle.std.specs.Option.{is_some, option_map, option_and_then, unwrap_or}
 use Rattle.std.specs.Fmt.{decimal}
 use Rattle.std.specs.List.{All, list_all}
-use Rattle.std.proofs.lemmas.List.{append-nil, replicate_more, length-append, length-replicate}
+use Rattle.std.proofs.lemmas.List.{replicate_more, length-append, length-replicate}
 use Rattle.std.proofs.lemmas.List.Elements.{All-nil, All-cons, All-head, All-tail, All-append, All-replicate}
-use Rattle.std.proofs.lemmas.Bool.{and_from, and_parts, eqb-true, ne_eqb, le-leb, leb-true, cond-true, cond-false, cases_Bool, cases_cond, cond_both}
+use Rattle.std.proofs.lemmas.Bool.{and_from, and_parts, eqb-true, le-leb, leb-true, cond-true, cases_cond, cond_both}
 use lib.Chars.{codes}
 use Rattle.mk_script.specs.declared.items.At.{At}
 use Rattle.mk_script.specs.declared.items.TypeWord.{TypeWord}
@@ -35,19 +35,19 @@ numbers_again count some = cond-true _ _ _ (le-leb 1 count some)
 many_numbers : (count : ℕ) → 0 < count → count < 2 ^ 64 → IsFieldOf (codes "n*" ++ decimal count) (replicate count Number)
 many_numbers count some small = record {
   says = ap (λ o. option_and_then numbers o) (number_of-decimal count small) ∙ numbers_again count some;
-  word = is_word-append (codes "n*") (decimal count) refl (is_solid-decimal count small)
+  word = is_word-append (codes "n*") (decimal count) refl (is_solid-decimal count small);
 }
 
 pub numbers_text_again : (count : ℕ) → 0 < count → count < 2 ^ 64 → IsFieldOf (numbers_text count) (replicate count Number)
 numbers_text_again count some small =
     cond_both (nat_eq count 1) (codes "n") (codes "n*" ++ decimal count) (λ field. IsFieldOf field (replicate count Number))
-        (λ one. subst (λ k. IsFieldOf (codes "n") (replicate k Number)) (sym (eqb-true count 1 one)) (record { says = refl; word = refl }))
-        (λ more. many_numbers count some small)
+    (λ one. subst (λ k. IsFieldOf (codes "n") (replicate k Number)) (sym (eqb-true count 1 one)) (record { says = refl; word = refl }))
+    (λ more. many_numbers count some small)
 
 pub pointer_again : (a : At) → IsPlace a → IsFieldOf (codes "p:" ++ at_text a) (Pointer a ∷ [])
 pointer_again a place = record {
   says = ap (λ r. option_map (λ b. Pointer b ∷ []) (ok_part r)) (at_again a place);
-  word = is_word-append (codes "p:") (at_text a) refl (is_solid-at a place)
+  word = is_word-append (codes "p:") (at_text a) refl (is_solid-at a place);
 }
 
 -- fields that each say something, together these words
@@ -63,7 +63,7 @@ one_more : (field : List ℕ) (fields : List (List ℕ)) (first words : List Typ
 one_more field fields first words f fs = record {
   say = ap (λ o. unwrap_or o [] ++ fields_of fields) f.says ∙ ap (λ ws. first ++ ws) fs.say;
   each = and_from _ _ (ap (λ o. is_some o) f.says) fs.each;
-  apart = (f.word, fs.apart)
+  apart = (f.word, fs.apart);
 }
 
 numbers_before_again : (count : ℕ) (fields : List (List ℕ)) (words : List TypeWord) → count < 2 ^ 64 → AreFieldsOf fields words → AreFieldsOf (numbers_before count fields) (replicate count Number ++ words)
@@ -80,7 +80,7 @@ fields_again (Pointer a ∷ words) count all small =
     let later = fields_again words 0 (All-tail IsTypeWord (Pointer a) words all) (omega arith) in
     let place : IsPlace a = All-head IsTypeWord (Pointer a) words all in
     numbers_before_again count ((codes "p:" ++ at_text a) ∷ fields_behind words 0) (Pointer a ∷ words) (omega arith)
-        (one_more (codes "p:" ++ at_text a) (fields_behind words 0) (Pointer a ∷ []) words (pointer_again a place) later)
+    (one_more (codes "p:" ++ at_text a) (fields_behind words 0) (Pointer a ∷ []) words (pointer_again a place) later)
 
 numbers_before_some : (count : ℕ) (fields : List (List ℕ)) → 0 < count + length fields → 0 < length (numbers_before count fields)
 numbers_before_some zero fields some = omega arith
@@ -134,8 +134,8 @@ field_was : (field : List ℕ) (words : List TypeWord) → field_of field ≡ So
 field_was [] words e = absurd cc
 field_was (letter ∷ rest) words e =
     elim (cases_cond (nat_eq letter 110) _ _ (Some words) (sym e)) [
-      inl h ↦ starred_was rest words (sym h)
-    | inr h ↦ elim (cases_cond (nat_eq letter 112) _ _ (Some words) h) [ inl p ↦ pointed_was rest words (sym p) | inr p ↦ absurd cc ]
+      | inl h ↦ starred_was rest words (sym h)
+      | inr h ↦ elim (cases_cond (nat_eq letter 112) _ _ (Some words) h) [ inl p ↦ pointed_was rest words (sym p) | inr p ↦ absurd cc ]
     ]
 
 some_said : (said : Option (List TypeWord)) → is_some said ≡ true → ((words : List TypeWord) → said ≡ Some words → AreSaid words) → AreSaid (unwrap_or said [])

@@ -1,18 +1,17 @@
 -- Words of a line: they are not empty, and have neither a space nor a newline.
-use Rattle.std.proofs.Common.{◌≡◌, ℕ, zero, suc, ◌+◌, ◌<◌, ◌^◌, Bool, true, false, ◌&&◌, ◌||◌, not, nat_eq, nat_lt, cond, List, [], ◌∷◌, ◌++◌, length, get_or, refl, ap, ◌∙◌, sym, arith, rules, filter, map}
+use Rattle.std.proofs.Common.{◌≡◌, ℕ, suc, ◌<◌, ◌^◌, Bool, true, false, ◌&&◌, not, nat_eq, nat_lt, List, [], ◌∷◌, ◌++◌, length, refl, ap, ◌∙◌, sym, arith, filter}
 use Rattle.std.specs.Fmt.{decimal}
 use Rattle.std.specs.Str.{all_ascii_digits}
 use Rattle.std.specs.Char.{is_ascii_digit}
-use Rattle.std.specs.List.{All, AllPass, list_all, slice_split}
-use Rattle.std.proofs.lemmas.List.Elements.{All-nil, All-cons, All-append, All-weaker, All-head, All-tail}
+use Rattle.std.specs.List.{All, list_all, slice_split}
+use Rattle.std.proofs.lemmas.List.Elements.{All-nil, All-cons, All-append, All-weaker}
 use Rattle.std.proofs.lemmas.List.Folds.{list_all-append}
 use Rattle.std.proofs.lemmas.List.Sums.{AllPass-from_list_all}
 use Rattle.std.proofs.lemmas.List.Splits.{slice_split_at, slice_split_none}
 use Rattle.std.proofs.lemmas.List.{append-nil, length-append}
 use Rattle.std.proofs.lemmas.Fmt.{decimal_nonempty}
 use Rattle.std.proofs.lemmas.Bool.Decides.{nat_tests}
-use Rattle.std.proofs.lemmas.Bool.{true≢false, and_from, and_parts, or_cases, lt-ltb, ltb-true, ne_eqb, cond-true}
-use lib.Chars.{codes}
+use Rattle.std.proofs.lemmas.Bool.{true≢false, and_from, and_parts, lt-ltb, ltb-true, cond-true}
 use Rattle.mk_script.specs.Names.{is_name_byte}
 use Rattle.mk_script.specs.Words.{words_of, is_empty}
 use Rattle.mk_script.specs.Spaced.{spaced, joined}
@@ -88,14 +87,15 @@ keeps_words ([] ∷ words) ws = absurd (true≢false (sym ws.0))
 keeps_words ((byte ∷ word) ∷ words) ws = cond-true _ _ _ (not_zero (length word)) ∙ ap (λ rest. (byte ∷ word) ∷ rest) (keeps_words words ws.1)
 
 -- the words of words with spaces between them
-pub words_of-joined : (word : List ℕ) (words : List (List ℕ)) → AreWords (word ∷ words) → words_of (joined (word ∷ words)) ≡ word ∷ words
-words_of-joined word words ws = ap (λ parts. filter (λ word. not (is_empty word)) parts) (split_spaced word words ws.0 ws.1) ∙ keeps_words (word ∷ words) ws
+pub words_of-joined : (words : List (List ℕ)) → AreWords words → words_of (joined words) ≡ words
+words_of-joined [] ws = refl
+words_of-joined (word ∷ words) ws = ap (λ parts. filter (λ part. not (is_empty part)) parts) (split_spaced word words ws.0 ws.1) ∙ keeps_words (word ∷ words) ws
 
 newline_apart : (words : List (List ℕ)) → AreWords words → All (λ byte. nat_eq byte 10 ≡ false) (spaced words)
 newline_apart [] ws = All-nil (λ byte. nat_eq byte 10 ≡ false)
 newline_apart (word ∷ words) ws =
     All-cons (λ byte. nat_eq byte 10 ≡ false) 32 (word ++ spaced words) refl
-        (All-append (λ byte. nat_eq byte 10 ≡ false) word (spaced words) (without 10 word (omega arith) (is_solid-from_is_word word ws.0)) (newline_apart words ws.1))
+    (All-append (λ byte. nat_eq byte 10 ≡ false) word (spaced words) (without 10 word (omega arith) (is_solid-from_is_word word ws.0)) (newline_apart words ws.1))
 
 -- such a line has no newline
 pub without_newline : (words : List (List ℕ)) → AreWords words → All (λ byte. nat_eq byte 10 ≡ false) (joined words)

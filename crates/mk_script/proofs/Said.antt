@@ -1,5 +1,5 @@
 -- What operands say, they say again as they are printed.
-use Rattle.std.proofs.Common.{◌≡◌, ℕ, zero, suc, ◌+◌, ◌<◌, ◌≤◌, ◌^◌, Bool, true, false, ◌&&◌, not, nat_eq, nat_lt, cond, List, [], ◌∷◌, ◌++◌, length, refl, ap, ◌∙◌, sym, subst, arith, one-add, Option, Some, None, Ok, Err, take, drop, inl, inr}
+use Rattle.std.proofs.Common.{◌≡◌, ℕ, zero, suc, ◌+◌, ◌<◌, ◌^◌, Bool, true, false, nat_eq, cond, List, [], ◌∷◌, ◌++◌, length, refl, ap, ◌∙◌, sym, subst, arith, one-add, Option, Some, None, Ok, Err, take, drop, inl, inr}
 use Rattle.std.specs.declared.result.Result.{Result}
 use Rattle.std.specs.Fmt.{decimal}
 use Rattle.std.specs.List.{list_any, list_all, before_first, after_first, position_or_len}
@@ -123,8 +123,8 @@ is_this {x} {y} e P p = let same : x ≡ y = cc in subst P same p
 pub at_was : (w : List ℕ) (a : At) → at w ≡ Ok a → IsPlace a
 at_was w a e =
     elim (cases_cond (list_any is_plus w) _ _ (Ok a) (sym e)) [
-      inl h ↦ with_name (before_first is_plus w) (sym h) (λ n named rest. with_number (after_first is_plus w) rest (λ k small done. is_this done IsPlace (record { named = named; small = small })))
-    | inr h ↦ with_name w (sym h) (λ n named done. is_this done IsPlace (record { named = named; small = omega arith }))
+      | inl h ↦ with_name (before_first is_plus w) (sym h) (λ n named rest. with_number (after_first is_plus w) rest (λ k small done. is_this done IsPlace (record { named = named; small = small })))
+      | inr h ↦ with_name w (sym h) (λ n named done. is_this done IsPlace (record { named = named; small = omega arith }))
     ]
 
 pub with_at : {A P : Type 0} (w : List ℕ) {f : At → Result A LineFault} {y : A} → (at w >>= f) ≡ Ok y → ((a : At) → IsPlace a → f a ≡ Ok y → P) → P
@@ -133,11 +133,11 @@ with_at w {f} {y} e go = let was = then_was (at w) f y e in go was.0 (at_was w w
 pub is_solid-at : (a : At) → IsPlace a → is_solid (at_text a) ≡ true
 is_solid-at a place =
     cond_both (nat_eq a.offset 0) a.name (a.name ++ (codes "+" ++ decimal a.offset)) (λ text. is_solid text ≡ true)
-        (λ none. is_solid-name a.name place.named)
-        (λ some. is_solid-append a.name (codes "+" ++ decimal a.offset) (is_solid-name a.name place.named) (is_solid-decimal a.offset place.small))
+    (λ none. is_solid-name a.name place.named)
+    (λ some. is_solid-append a.name (codes "+" ++ decimal a.offset) (is_solid-name a.name place.named) (is_solid-decimal a.offset place.small))
 
 pub is_word-at : (a : At) → IsPlace a → is_word (at_text a) ≡ true
 is_word-at a place =
     cond_both (nat_eq a.offset 0) a.name (a.name ++ (codes "+" ++ decimal a.offset)) (λ text. is_word text ≡ true)
-        (λ none. is_word-name a.name place.named)
-        (λ some. is_word-append a.name (codes "+" ++ decimal a.offset) (is_word-name a.name place.named) (is_solid-decimal a.offset place.small))
+    (λ none. is_word-name a.name place.named)
+    (λ some. is_word-append a.name (codes "+" ++ decimal a.offset) (is_word-name a.name place.named) (is_solid-decimal a.offset place.small))

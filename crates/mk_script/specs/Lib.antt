@@ -2,6 +2,7 @@ pub mod Accesses
 pub mod Canonical
 pub mod Grammar
 pub mod Keywords
+pub mod Laws
 pub mod Lines
 pub mod Names
 pub mod Operands

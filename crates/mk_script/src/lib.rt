@@ -4,6 +4,7 @@
 mod faults;
 mod items;
 mod keywords;
+pub mod laws;
 mod names;
 mod printing;
 mod program;
