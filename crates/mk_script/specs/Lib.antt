@@ -1,8 +1,11 @@
+pub mod Accesses
 pub mod Canonical
 pub mod Grammar
 pub mod Keywords
+pub mod Laws
 pub mod Lines
 pub mod Names
 pub mod Operands
 pub mod Scopes
+pub mod Spaced
 pub mod Words

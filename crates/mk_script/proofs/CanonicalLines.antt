@@ -1,0 +1,35 @@
+-- The lines of a canonical text are those of its items.
+use Rattle.std.proofs.Common.{◌≡◌, ℕ, nat_eq, List, [], ◌∷◌, ◌++◌, refl, ap, ◌∙◌, map, append_assoc}
+use Rattle.std.specs.List.{slice_split}
+use Rattle.std.proofs.lemmas.List.Splits.{slice_split_at}
+use Rattle.mk_script.specs.declared.items.Item.{Item}
+use Rattle.mk_script.specs.Canonical.{words_of_item, canonical_text}
+use Rattle.mk_script.specs.Words.{lines_of, without_empty_last}
+use Rattle.mk_script.specs.Spaced.{joined}
+use Rattle.mk_script.proofs.Spacing.{line_text-joined}
+use Rattle.mk_script.proofs.LineWords.{AreWords, without_newline}
+
+-- the lines of items, without their newlines
+abbrev pub lines_of_items : List Item → List (List ℕ)
+lines_of_items items = map (λ item. joined (words_of_item item)) items
+
+abbrev pub HaveWords : List Item → Type 0
+HaveWords [] = Unit {0}
+HaveWords (item ∷ items) = AreWords (words_of_item item) × HaveWords items
+
+split_lines : (items : List Item) → HaveWords items → slice_split (λ byte. nat_eq byte 10) (canonical_text items) ≡ lines_of_items items ++ [] ∷ []
+split_lines [] ws = refl
+split_lines (item ∷ items) ws =
+    let line = joined (words_of_item item) in
+    let text : canonical_text (item ∷ items) ≡ line ++ 10 ∷ canonical_text items = rw (line_text-joined (words_of_item item)) (simp append_assoc) in
+    ap (λ bytes. slice_split (λ byte. nat_eq byte 10) bytes) text
+    ∙ slice_split_at (λ byte. nat_eq byte 10) line 10 (canonical_text items) (without_newline (words_of_item item) ws.0) refl
+    ∙ ap (λ lines. line ∷ lines) (split_lines items ws.1)
+
+without_last : (lines : List (List ℕ)) → without_empty_last (lines ++ [] ∷ []) ≡ lines
+without_last [] = refl
+without_last (line ∷ []) = refl
+without_last (line ∷ next ∷ lines) = ap (λ rest. line ∷ rest) (without_last (next ∷ lines))
+
+pub lines_of-canonical_text : (items : List Item) → HaveWords items → lines_of (canonical_text items) ≡ lines_of_items items
+lines_of-canonical_text items ws = ap without_empty_last (split_lines items ws) ∙ without_last (lines_of_items items)

@@ -1,0 +1,9 @@
+pub mod CanonicalLines
+pub mod Fields
+pub mod Forms
+pub mod LineWords
+pub mod LinesAgain
+pub mod Numbers
+pub mod RoundTrip
+pub mod Said
+pub mod Spacing

@@ -1,0 +1,103 @@
+-- Words of a line: they are not empty, and have neither a space nor a newline.
+use Rattle.std.proofs.Common.{◌≡◌, ℕ, suc, ◌<◌, ◌^◌, Bool, true, false, ◌&&◌, not, nat_eq, nat_lt, List, [], ◌∷◌, ◌++◌, length, refl, ap, ◌∙◌, sym, arith, filter}
+use Rattle.std.specs.Fmt.{decimal}
+use Rattle.std.specs.Str.{all_ascii_digits}
+use Rattle.std.specs.Char.{is_ascii_digit}
+use Rattle.std.specs.List.{All, list_all, slice_split}
+use Rattle.std.proofs.lemmas.List.Elements.{All-nil, All-cons, All-append, All-weaker}
+use Rattle.std.proofs.lemmas.List.Folds.{list_all-append}
+use Rattle.std.proofs.lemmas.List.Sums.{AllPass-from_list_all}
+use Rattle.std.proofs.lemmas.List.Splits.{slice_split_at, slice_split_none}
+use Rattle.std.proofs.lemmas.List.{append-nil, length-append}
+use Rattle.std.proofs.lemmas.Fmt.{decimal_nonempty}
+use Rattle.std.proofs.lemmas.Bool.Decides.{nat_tests}
+use Rattle.std.proofs.lemmas.Bool.{true≢false, and_from, and_parts, lt-ltb, ltb-true, cond-true}
+use Rattle.mk_script.specs.Names.{is_name_byte}
+use Rattle.mk_script.specs.Words.{words_of, is_empty}
+use Rattle.mk_script.specs.Spaced.{spaced, joined}
+use Rattle.mk_script.proofs.Numbers.{all_ascii_digits-decimal}
+
+-- whether each byte is above the space
+abbrev pub is_solid : List ℕ → Bool
+is_solid word = list_all (λ byte. nat_lt 32 byte) word
+
+abbrev pub is_word : List ℕ → Bool
+is_word word = nat_lt 0 (length word) && is_solid word
+
+pub is_solid-append : (a b : List ℕ) → is_solid a ≡ true → is_solid b ≡ true → is_solid (a ++ b) ≡ true
+is_solid-append a b p q = list_all-append (λ byte. nat_lt 32 byte) a b ∙ and_from _ _ p q
+
+pub is_solid-from_is_word : (a : List ℕ) → is_word a ≡ true → is_solid a ≡ true
+is_solid-from_is_word a p = (and_parts _ _ p).1
+
+pub is_word-append : (a b : List ℕ) → is_word a ≡ true → is_solid b ≡ true → is_word (a ++ b) ≡ true
+is_word-append a b p q =
+    let parts = and_parts _ _ p in
+    let some : 0 < length a = ltb-true _ _ parts.0 in
+    and_from _ _ (lt-ltb _ _ (omega (arith, length-append a b))) (is_solid-append a b parts.1 q)
+
+name_byte_above : (byte : ℕ) → is_name_byte byte ≡ true → nat_lt 32 byte ≡ true
+name_byte_above byte p = grind (arith, nat_tests)
+
+pub is_solid-names : (name : List ℕ) → list_all is_name_byte name ≡ true → is_solid name ≡ true
+is_solid-names [] p = refl
+is_solid-names (byte ∷ name) p =
+    let parts = and_parts _ _ p in
+    and_from _ _ (name_byte_above byte parts.0) (is_solid-names name parts.1)
+
+digit_above : (byte : ℕ) → is_ascii_digit byte ≡ true → nat_lt 32 byte ≡ true
+digit_above byte p = grind (arith, nat_tests)
+
+pub is_solid-digits : (digits : List ℕ) → all_ascii_digits digits ≡ true → is_solid digits ≡ true
+is_solid-digits [] p = refl
+is_solid-digits (byte ∷ digits) p =
+    let parts = and_parts _ _ p in
+    and_from _ _ (digit_above byte parts.0) (is_solid-digits digits parts.1)
+
+pub is_solid-decimal : (n : ℕ) → n < 2 ^ 64 → is_solid (decimal n) ≡ true
+is_solid-decimal n small = is_solid-digits (decimal n) (all_ascii_digits-decimal n small)
+
+pub is_word-decimal : (n : ℕ) → n < 2 ^ 64 → is_word (decimal n) ≡ true
+is_word-decimal n small = and_from _ _ (lt-ltb _ _ (decimal_nonempty n small)) (is_solid-decimal n small)
+
+-- a byte that is not above the space is in no solid text
+other_byte : (low byte : ℕ) → low < 33 → nat_lt 32 byte ≡ true → nat_eq byte low ≡ false
+other_byte low byte l p = grind (arith, nat_tests)
+
+pub without : (low : ℕ) (text : List ℕ) → low < 33 → is_solid text ≡ true → All (λ byte. nat_eq byte low ≡ false) text
+without low text l p = All-weaker (λ byte. nat_lt 32 byte ≡ true) (λ byte. nat_eq byte low ≡ false) (λ byte. other_byte low byte l) text (AllPass-from_list_all (λ byte. nat_lt 32 byte) text p)
+
+-- words of a line
+abbrev pub AreWords : List (List ℕ) → Type 0
+AreWords [] = Unit {0}
+AreWords (word ∷ words) = (is_word word ≡ true) × AreWords words
+
+pub split_spaced : (word : List ℕ) (words : List (List ℕ)) → is_word word ≡ true → AreWords words → slice_split (λ byte. nat_eq byte 32) (word ++ spaced words) ≡ word ∷ words
+split_spaced word [] p ws = rw append-nil (slice_split_none (λ byte. nat_eq byte 32) word (without 32 word (omega arith) (is_solid-from_is_word word p)))
+split_spaced word (next ∷ words) p ws =
+    slice_split_at (λ byte. nat_eq byte 32) word 32 (next ++ spaced words) (without 32 word (omega arith) (is_solid-from_is_word word p)) refl
+    ∙ ap (λ rest. word ∷ rest) (split_spaced next words ws.0 ws.1)
+
+not_zero : (n : ℕ) → not (nat_eq (suc n) 0) ≡ true
+not_zero n = grind (arith, nat_tests)
+
+keeps_words : (words : List (List ℕ)) → AreWords words → filter (λ word. not (is_empty word)) words ≡ words
+keeps_words [] ws = refl
+keeps_words ([] ∷ words) ws = absurd (true≢false (sym ws.0))
+keeps_words ((byte ∷ word) ∷ words) ws = cond-true _ _ _ (not_zero (length word)) ∙ ap (λ rest. (byte ∷ word) ∷ rest) (keeps_words words ws.1)
+
+-- the words of words with spaces between them
+pub words_of-joined : (words : List (List ℕ)) → AreWords words → words_of (joined words) ≡ words
+words_of-joined [] ws = refl
+words_of-joined (word ∷ words) ws = ap (λ parts. filter (λ part. not (is_empty part)) parts) (split_spaced word words ws.0 ws.1) ∙ keeps_words (word ∷ words) ws
+
+newline_apart : (words : List (List ℕ)) → AreWords words → All (λ byte. nat_eq byte 10 ≡ false) (spaced words)
+newline_apart [] ws = All-nil (λ byte. nat_eq byte 10 ≡ false)
+newline_apart (word ∷ words) ws =
+    All-cons (λ byte. nat_eq byte 10 ≡ false) 32 (word ++ spaced words) refl
+    (All-append (λ byte. nat_eq byte 10 ≡ false) word (spaced words) (without 10 word (omega arith) (is_solid-from_is_word word ws.0)) (newline_apart words ws.1))
+
+-- such a line has no newline
+pub without_newline : (words : List (List ℕ)) → AreWords words → All (λ byte. nat_eq byte 10 ≡ false) (joined words)
+without_newline [] ws = All-nil (λ byte. nat_eq byte 10 ≡ false)
+without_newline (word ∷ words) ws = All-append (λ byte. nat_eq byte 10 ≡ false) word (spaced words) (without 10 word (omega arith) (is_solid-from_is_word word ws.0)) (newline_apart words ws.1)

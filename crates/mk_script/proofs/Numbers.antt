@@ -1,0 +1,37 @@
+-- A number's digits say the number.
+use Rattle.std.proofs.Common.{◌≡◌, ℕ, zero, suc, ◌<◌, ◌^◌, true, ◌||◌, not, nat_eq, List, length, get_or, ap, ◌∙◌, arith, rules, Some}
+use Rattle.std.specs.Fmt.{decimal}
+use Rattle.std.specs.Str.{all_ascii_digits}
+use Rattle.std.proofs.lemmas.Fmt.{digits_decimal, digits_value-decimal, decimal_nonempty, first_decimal, decimal_digit}
+use Rattle.std.proofs.lemmas.Str.Parse.{IsNumeralModel, numerals_by_fold}
+use Rattle.std.proofs.lemmas.Grind.{common_steps}
+use Rattle.std.proofs.lemmas.Bool.{and_from, or_right, lt-ltb, not_from_false, ne_eqb, cond-true}
+use Rattle.mk_script.specs.Names.{value_from, is_numeral, number_of}
+
+own : IsNumeralModel (λ ds. all_ascii_digits ds ≡ true) (value_from 0)
+own = numerals_by_fold _ (search rules) value_from (search rules)
+
+pub all_ascii_digits-decimal : (n : ℕ) → n < 2 ^ 64 → all_ascii_digits (decimal n) ≡ true
+all_ascii_digits-decimal n small = digits_decimal own n small
+
+pub value_from-decimal : (n : ℕ) → n < 2 ^ 64 → value_from 0 (decimal n) ≡ n
+value_from-decimal n small = digits_value-decimal own n small
+
+-- no zero leads, but that of 0 itself
+leads_rightly : (n : ℕ) → n < 2 ^ 64 → ((nat_eq (length (decimal n)) 1) || not (nat_eq (get_or (decimal n) 0 0) 48)) ≡ true
+leads_rightly zero small = let one = decimal_digit 0 (omega arith) in rw one
+leads_rightly (suc n) small =
+    let first : 48 < get_or (decimal (suc n)) 0 0 = first_decimal (suc n) (omega arith) small in
+    or_right _ _ (not_from_false _ (ne_eqb (get_or (decimal (suc n)) 0 0) 48 (λ e. omega arith)))
+
+pub is_numeral-decimal : (n : ℕ) → n < 2 ^ 64 → is_numeral (decimal n) ≡ true
+is_numeral-decimal n small = and_from _ _ (and_from _ _ (all_ascii_digits-decimal n small) (lt-ltb _ _ (decimal_nonempty n small))) (leads_rightly n small)
+
+pub number_of-decimal : (n : ℕ) → n < 2 ^ 64 → number_of (decimal n) ≡ Some n
+number_of-decimal n small =
+    let value = value_from-decimal n small in
+    cond-true _ _ _ (and_from _ _ (is_numeral-decimal n small) (lt-ltb _ _ (rw value small))) ∙ ap Some value
+
+-- a number that a word says is below 2^64
+pub number_of-below : (word : List ℕ) (n : ℕ) → number_of word ≡ Some n → n < 2 ^ 64
+number_of-below word n e = grind (arith, common_steps)

@@ -1,0 +1,39 @@
+-- Words with a space before each, and lines of them.
+use Rattle.std.proofs.Common.{◌≡◌, ℕ, zero, suc, ◌+◌, ◌<◌, List, [], ◌∷◌, ◌++◌, length, get_or, drop, add-one, drop-cons, refl, ap, ◌∙◌, sym, append_assoc, IfOk, Ok, Err}
+use Rattle.std.specs.declared.result.Result.{Result}
+use Rattle.std.proofs.lemmas.List.{append-nil}
+use lib.Chars.{codes}
+use Rattle.mk_script.specs.declared.items.At.{At}
+use Rattle.mk_script.specs.Canonical.{at_text, numbers_before, line_text}
+use Rattle.mk_script.specs.Spaced.{spaced, joined}
+
+pub spaced-append : (xs ys : List (List ℕ)) → spaced (xs ++ ys) ≡ spaced xs ++ spaced ys
+spaced-append [] ys = refl
+spaced-append (x ∷ xs) ys = ap (λ t. codes " " ++ (x ++ t)) (spaced-append xs ys) ∙ simp append_assoc
+
+pub numbers_before-append : (count : ℕ) (fields : List (List ℕ)) → numbers_before count fields ≡ numbers_before count [] ++ fields
+numbers_before-append zero fields = refl
+numbers_before-append (suc more) fields = refl
+
+pub spaced-numbers_before : (count : ℕ) (fields : List (List ℕ)) → spaced (numbers_before count fields) ≡ spaced (numbers_before count []) ++ spaced fields
+spaced-numbers_before count fields = ap spaced (numbers_before-append count fields) ∙ spaced-append (numbers_before count []) fields
+
+-- a line is its words with spaces between them, and a newline
+pub line_text-joined : (words : List (List ℕ)) → line_text words ≡ joined words ++ codes "\n"
+line_text-joined [] = refl
+line_text-joined (word ∷ []) = simp append-nil
+line_text-joined (word ∷ next ∷ words) = ap (λ t. word ++ (codes " " ++ t)) (line_text-joined (next ∷ words)) ∙ simp append_assoc
+
+-- where a text is at hand, another form of it is
+pub then_same : {E : Type 0} (r : Result (List ℕ) E) (x y : List ℕ) → IfOk r (λ p. p ≡ x) → x ≡ y → IfOk r (λ p. p ≡ y)
+then_same (Ok p) x y e f = e ∙ f
+then_same (Err e) x y h f = tt
+
+-- what is left of a list begins with its next item
+pub drop_next : {A : Type 0} (xs : List A) (i : ℕ) (x : A) → i < length xs → x ≡ get_or xs i x → drop i xs ≡ x ∷ drop (i + 1) xs
+drop_next xs i x lt is = rw (add-one, drop-cons xs i x) (ap (λ y. y ∷ drop (suc i) xs) (sym is))
+
+-- the numbers before a pointer, and the pointer
+pub pointer_behind : (p q r s : List ℕ) (count : ℕ) (at : At) (fields : List (List ℕ)) → q ≡ p ++ spaced (numbers_before count []) → r ≡ q ++ (codes " " ++ codes "p:") → s ≡ r ++ at_text at
+    → p ++ spaced (numbers_before count ((codes "p:" ++ at_text at) ∷ fields)) ≡ s ++ spaced fields
+pointer_behind p q r s count at fields e f g = rw (g, f, e, spaced-numbers_before count ((codes "p:" ++ at_text at) ∷ fields)) (simp append_assoc)

@@ -1,0 +1,6 @@
+use Rattle.std.proofs.Common.{◌≡◌, take}
+use Rattle.mk_script.specs.Canonical.{canonical_text}
+use Rattle.mk_script.proofs.printing.print.Given as goal
+
+abbrev pub invariant-loop-item : goal.invariant-loop-item
+invariant-loop-item l = l.printer ≡ canonical_text (take l.item-index l.item-items)
