@@ -3,4 +3,5 @@ pub mod Counts
 pub mod Declarations
 pub mod Feed
 pub mod Lengths
+pub mod Lookups
 pub mod Typing

@@ -2,6 +2,7 @@
 #![tactic(auto)]
 
 mod lengths;
+mod lookups;
 mod typing_faults;
 
 pub use typing_faults::{TypeKind, TypeStop};
