@@ -4,4 +4,5 @@ pub mod Declarations
 pub mod Feed
 pub mod Lengths
 pub mod Lookups
+pub mod Rules
 pub mod Typing

@@ -6,12 +6,10 @@ use Rattle.std.specs.HashSet.{contains_by}
 use Rattle.std.specs.List.{list_any}
 use Rattle.std.specs.Option.{option_copied, option_or}
 use Rattle.std.specs.Str.{bytes_eq}
-use Rattle.mk_script.specs.declared.items.At.{At}
 use Rattle.mk_script.specs.declared.items.Item.{Item}
 use Rattle.mk_script.specs.Scopes.{is_script, number_names, this_script}
 use Rattle.mk_check.specs.declared.lookups.Declarations.{Declarations}
 use Rattle.mk_check.specs.declared.lookups.Registers.{Registers}
-use Rattle.mk_check.specs.declared.lookups.Place.{Place}
 use Rattle.mk_check.specs.Typing.{Around, type_words, global_type, pointer_at}
 
 -- A program, and how many of its lines were read.
@@ -37,9 +35,6 @@ KeepsValues old new = (name : List ℕ) → value_of new name ≡ value_of old n
 -- the lines of the script behind a line
 abbrev pub lines_behind : List Item → Item → List Item
 lines_behind lines item = if is_script item then [] else lines ++ item ∷ []
-
-abbrev pub place_of_at : Place → At
-place_of_at place = record { name = place.name.now; offset = place.offset }
 
 -- they are those of the program
 pub record AreDeclared (declarations : Declarations) (program : List Item) : Type 0 where

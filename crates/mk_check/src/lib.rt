@@ -3,6 +3,8 @@
 
 mod lengths;
 mod lookups;
+mod places;
+mod typing;
 mod typing_faults;
 
 pub use typing_faults::{TypeKind, TypeStop};

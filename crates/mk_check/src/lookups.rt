@@ -14,13 +14,6 @@ use std::alloc::Global;
 use std::collections::{HashMap, HashSet};
 use std::marker::Model;
 
-/// Where a pointer points, maybe behind its type's end.
-#[derive(Clone, Copy)]
-pub struct Place<'a> {
-    pub name: &'a Name,
-    pub offset: u128,
-}
-
 /// Adds a value for a name that has none.
 fn add_first<'a, V: Copy>(
     names: &mut HashMap<&'a [u8], V>,
