@@ -2,7 +2,7 @@
 ghost use Rattle.std.specs.Prelude.{◌≡◌, Some, option_map};
 ghost use Rattle.std.specs.Option.{option_copied};
 ghost use Rattle.mk_check.specs.Rules.{at_of};
-ghost use Rattle.mk_check.specs.Typing.{same_at, word_points, moved_by};
+ghost use Rattle.mk_check.specs.Typing.{base_of, moved_by, same_at, word_points};
 
 use mk_script::{At, Name, TypeWord};
 
@@ -30,6 +30,16 @@ impl<'a> Place<'a> {
         Place {
             name: &at.name,
             offset: u128::from(at.offset) + u128::from(index),
+        }
+    }
+
+    /// A type's first word.
+    pub fn base(ty: &'a Name) -> Place<'a>
+        ensures { at_of result ≡ base_of ty.now }
+    {
+        Place {
+            name: ty,
+            offset: 0,
         }
     }
 
