@@ -1,3 +1,4 @@
 pub mod CountLemmas
+pub mod FaultLemmas
 pub mod LookupLemmas
 pub mod RuleLemmas

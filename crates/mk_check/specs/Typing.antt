@@ -1,5 +1,5 @@
 -- Which programs are well typed, line by line.
-use Rattle.std.specs.Prelude.{ℕ, ◌+◌, ◌-◌, ◌^◌, min, Bool, true, false, ◌&&◌, ◌==◌, nat_le, if◌then◌else◌, List, [], ◌∷◌, ◌++◌, Option, Some, None, is_some, option_map, slice_get}
+use Rattle.std.specs.Prelude.{◌≡◌, ⊤, ℕ, ◌+◌, ◌-◌, ◌^◌, min, Bool, true, false, ◌&&◌, ◌==◌, nat_le, if◌then◌else◌, List, [], ◌∷◌, ◌++◌, Option, Some, None, is_some, option_map, slice_get}
 use Rattle.std.specs.List.{list_any}
 use Rattle.std.specs.Option.{option_or}
 use Rattle.std.specs.Str.{bytes_eq}
@@ -11,6 +11,8 @@ use Rattle.mk_script.specs.declared.items.Item.TheVariants.{Heap, TypeLine, Glob
 use Rattle.mk_script.specs.Scopes.{this_script, number_names}
 use Rattle.mk_check.specs.declared.typing_faults.TypeKind.{TypeKind}
 use Rattle.mk_check.specs.declared.typing_faults.TypeKind.TheVariants as kind
+use Rattle.mk_check.specs.declared.typing_faults.TypeStop.{TypeStop}
+use Rattle.mk_check.specs.declared.typing_faults.TypeStop.TheVariants as stop
 use Rattle.mk_check.specs.Blocks.{before_next_script}
 use Rattle.mk_check.specs.Lengths.{script_length}
 
@@ -179,3 +181,11 @@ fault_from program line before (item ∷ items) =
 
 abbrev pub first_typing_fault : List Item → Option TypingFault
 first_typing_fault program = fault_from program 1 [] program
+
+abbrev pub IsWellTyped : List Item → Type 0
+IsWellTyped program = first_typing_fault program ≡ None
+
+-- a stop names the first fault of the program, or is for memory
+abbrev pub NamesFirstFault : List Item → TypeStop → Type 0
+NamesFirstFault program (stop.IllTyped line k) = first_typing_fault program ≡ Some (record { line = line; kind = k })
+NamesFirstFault program stop.NoMemory = ⊤

@@ -10,7 +10,7 @@ use std::alloc::Global;
 use std::marker::Model;
 
 /// Whether a script begins at the item.
-fn is_script(item: &Item) -> bool
+pub fn is_script(item: &Item) -> bool
     ensures { result ≡ scopes.is_script item.now }
 {
     matches!(item, Item::Script { .. })

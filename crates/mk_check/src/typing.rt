@@ -13,7 +13,7 @@ use crate::lookups::Lookups;
 use crate::places::{Place, place_in};
 use mk_script::{At, Item, Name, TypeWord};
 
-fn unless(holds: bool, kind: TypeKind) -> Option<TypeKind>
+pub fn unless(holds: bool, kind: TypeKind) -> Option<TypeKind>
     ensures { result ≡ rule.unless holds kind }
 {
     if holds { None } else { Some(kind) }
