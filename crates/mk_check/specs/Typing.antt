@@ -1,6 +1,7 @@
 -- Which programs are well typed, line by line.
-use Rattle.std.specs.Prelude.{ℕ, ◌+◌, ◌-◌, ◌^◌, min, Bool, true, false, not, ◌&&◌, ◌==◌, nat_le, nat_lt, if◌then◌else◌, List, [], ◌∷◌, ◌++◌, length, Option, Some, None, is_some, option_map, slice_get}
+use Rattle.std.specs.Prelude.{◌≡◌, ⊤, ℕ, ◌+◌, ◌-◌, ◌^◌, min, Bool, true, false, ◌&&◌, ◌==◌, nat_le, if◌then◌else◌, List, [], ◌∷◌, ◌++◌, Option, Some, None, is_some, option_map, slice_get}
 use Rattle.std.specs.List.{list_any}
+use Rattle.std.specs.Option.{option_or}
 use Rattle.std.specs.Str.{bytes_eq}
 use Rattle.mk_script.specs.declared.items.At.{At}
 use Rattle.mk_script.specs.declared.items.TypeWord.{TypeWord}
@@ -10,6 +11,8 @@ use Rattle.mk_script.specs.declared.items.Item.TheVariants.{Heap, TypeLine, Glob
 use Rattle.mk_script.specs.Scopes.{this_script, number_names}
 use Rattle.mk_check.specs.declared.typing_faults.TypeKind.{TypeKind}
 use Rattle.mk_check.specs.declared.typing_faults.TypeKind.TheVariants as kind
+use Rattle.mk_check.specs.declared.typing_faults.TypeStop.{TypeStop}
+use Rattle.mk_check.specs.declared.typing_faults.TypeStop.TheVariants as stop
 use Rattle.mk_check.specs.Blocks.{before_next_script}
 use Rattle.mk_check.specs.Lengths.{script_length}
 
@@ -37,14 +40,10 @@ pub record Around : Type 0 where
   pub program : List Item
   pub script : List Item
 
-abbrev pub or_else : Option TypeKind → Option TypeKind → Option TypeKind
-or_else (Some k) other = Some k
-or_else None other = other
-
 -- the first of these that fails
-abbrev pub first_of : List (Option TypeKind) → Option TypeKind
-first_of [] = None
-first_of (fault ∷ faults) = or_else fault (first_of faults)
+infixl 10 ◌or◌
+abbrev pub ◌or◌ : Option TypeKind → Option TypeKind → Option TypeKind
+fault or other = option_or fault other
 
 abbrev pub unless : Bool → TypeKind → Option TypeKind
 unless true k = None
@@ -106,12 +105,12 @@ is_base None = false
 abbrev pub pointers_have_types : Around → List TypeWord → Option TypeKind
 pointers_have_types a [] = None
 pointers_have_types a (Number ∷ words) = pointers_have_types a words
-pointers_have_types a (Pointer at ∷ words) = or_else (is_type a at.name) (pointers_have_types a words)
+pointers_have_types a (Pointer at ∷ words) = is_type a at.name or pointers_have_types a words
 
 abbrev pub pointers_are_inside : Around → List TypeWord → Option TypeKind
 pointers_are_inside a [] = None
 pointers_are_inside a (Number ∷ words) = pointers_are_inside a words
-pointers_are_inside a (Pointer at ∷ words) = or_else (is_inside a (Some at)) (pointers_are_inside a words)
+pointers_are_inside a (Pointer at ∷ words) = is_inside a (Some at) or pointers_are_inside a words
 
 -- a script's length
 abbrev pub is_short : ℕ → Option TypeKind
@@ -120,33 +119,44 @@ is_short count = unless (nat_le count 1000000) (kind.TooLong (min count (2 ^ 64 
 abbrev pub global_at : Around → List ℕ → Option At
 global_at a name = option_map base_of (global_type name a.program)
 
+abbrev pub same_kind : Option At → Option At → Option TypeKind
+same_kind s t = unless (same_at s t) kind.Kind
+
+-- a word behind a register holds a number, or points to where another register does
+abbrev pub holds_number : Around → List ℕ → ℕ → Option TypeKind
+holds_number a pointer index = unless (is_number_word (word_at a (place_behind a pointer index))) kind.Kind
+
+abbrev pub points_as : Around → List ℕ → ℕ → List ℕ → Option TypeKind
+points_as a pointer index register =
+    same_kind (word_points (word_at a (place_behind a pointer index))) (pointer_at register a.script)
+
 -- What is wrong with a line that stands behind these of its script, and before those behind it: the names from left to
 -- right, then offsets, then kinds, then an interior pointer that is freed.
 abbrev pub typing_fault : Around → ℕ → List Item → Item → Option TypeKind
 typing_fault a line behind (Heap pages resident) = None
-typing_fault a line behind (TypeLine name words) = first_of (pointers_have_types a words ∷ pointers_are_inside a words ∷ [])
+typing_fault a line behind (TypeLine name words) = pointers_have_types a words or pointers_are_inside a words
 typing_fault a line behind (Global name ty) = is_type a ty
 typing_fault a line behind (Script name) = is_short (script_length (record { name = name; line = line + 1; items = before_next_script behind }))
-typing_fault a line behind (Ptr name at) = first_of (is_type a at.name ∷ is_inside a (Some at) ∷ [])
+typing_fault a line behind (Ptr name at) = is_type a at.name or is_inside a (Some at)
 typing_fault a line behind (Num name) = None
-typing_fault a line behind (New pointer ty) = first_of (is_pointer a pointer ∷ is_type a ty ∷ unless (same_at (pointer_at pointer a.script) (Some (base_of ty))) kind.Kind ∷ [])
-typing_fault a line behind (Free pointer) = first_of (is_pointer a pointer ∷ unless (is_base (pointer_at pointer a.script)) kind.InteriorFree ∷ [])
-typing_fault a line behind (Getn number pointer index) = first_of (is_number a number ∷ is_pointer a pointer ∷ is_inside a (place_behind a pointer index) ∷ unless (is_number_word (word_at a (place_behind a pointer index))) kind.Kind ∷ [])
-typing_fault a line behind (Setn pointer index number) = first_of (is_pointer a pointer ∷ is_number a number ∷ is_inside a (place_behind a pointer index) ∷ unless (is_number_word (word_at a (place_behind a pointer index))) kind.Kind ∷ [])
-typing_fault a line behind (Getp loaded pointer index) = first_of (is_pointer a loaded ∷ is_pointer a pointer ∷ is_inside a (place_behind a pointer index) ∷ unless (same_at (word_points (word_at a (place_behind a pointer index))) (pointer_at loaded a.script)) kind.Kind ∷ [])
-typing_fault a line behind (Setp pointer index stored) = first_of (is_pointer a pointer ∷ is_pointer a stored ∷ is_inside a (place_behind a pointer index) ∷ unless (same_at (word_points (word_at a (place_behind a pointer index))) (pointer_at stored a.script)) kind.Kind ∷ [])
-typing_fault a line behind (Casp number pointer index expected stored) = first_of (is_number a number ∷ is_pointer a pointer ∷ is_pointer a expected ∷ is_pointer a stored ∷ is_inside a (place_behind a pointer index) ∷ unless (same_at (word_points (word_at a (place_behind a pointer index))) (pointer_at expected a.script) && same_at (word_points (word_at a (place_behind a pointer index))) (pointer_at stored a.script)) kind.Kind ∷ [])
-typing_fault a line behind (Lea moved pointer index) = first_of (is_pointer a moved ∷ is_pointer a pointer ∷ is_inside a (place_behind a pointer index) ∷ unless (same_at (pointer_at moved a.script) (place_behind a pointer index)) kind.Kind ∷ [])
-typing_fault a line behind (Move copied pointer) = first_of (is_pointer a copied ∷ is_pointer a pointer ∷ unless (same_at (pointer_at copied a.script) (pointer_at pointer a.script)) kind.Kind ∷ [])
+typing_fault a line behind (New pointer ty) = is_pointer a pointer or is_type a ty or same_kind (pointer_at pointer a.script) (Some (base_of ty))
+typing_fault a line behind (Free pointer) = is_pointer a pointer or unless (is_base (pointer_at pointer a.script)) kind.InteriorFree
+typing_fault a line behind (Getn number pointer index) = is_number a number or is_pointer a pointer or is_inside a (place_behind a pointer index) or holds_number a pointer index
+typing_fault a line behind (Setn pointer index number) = is_pointer a pointer or is_number a number or is_inside a (place_behind a pointer index) or holds_number a pointer index
+typing_fault a line behind (Getp loaded pointer index) = is_pointer a loaded or is_pointer a pointer or is_inside a (place_behind a pointer index) or points_as a pointer index loaded
+typing_fault a line behind (Setp pointer index stored) = is_pointer a pointer or is_pointer a stored or is_inside a (place_behind a pointer index) or points_as a pointer index stored
+typing_fault a line behind (Casp number pointer index expected stored) = is_number a number or is_pointer a pointer or is_pointer a expected or is_pointer a stored or is_inside a (place_behind a pointer index) or points_as a pointer index expected or points_as a pointer index stored
+typing_fault a line behind (Lea moved pointer index) = is_pointer a moved or is_pointer a pointer or is_inside a (place_behind a pointer index) or same_kind (pointer_at moved a.script) (place_behind a pointer index)
+typing_fault a line behind (Move copied pointer) = is_pointer a copied or is_pointer a pointer or same_kind (pointer_at copied a.script) (pointer_at pointer a.script)
 typing_fault a line behind (Clear pointer) = is_pointer a pointer
-typing_fault a line behind (Loadg loaded global) = first_of (is_pointer a loaded ∷ is_global a global ∷ unless (same_at (pointer_at loaded a.script) (global_at a global)) kind.Kind ∷ [])
-typing_fault a line behind (Storeg stored global) = first_of (is_pointer a stored ∷ is_global a global ∷ unless (same_at (pointer_at stored a.script) (global_at a global)) kind.Kind ∷ [])
-typing_fault a line behind (Same number first second) = first_of (is_number a number ∷ is_pointer a first ∷ is_pointer a second ∷ [])
-typing_fault a line behind (Isnull number pointer) = first_of (is_number a number ∷ is_pointer a pointer ∷ [])
+typing_fault a line behind (Loadg loaded global) = is_pointer a loaded or is_global a global or same_kind (pointer_at loaded a.script) (global_at a global)
+typing_fault a line behind (Storeg stored global) = is_pointer a stored or is_global a global or same_kind (pointer_at stored a.script) (global_at a global)
+typing_fault a line behind (Same number first second) = is_number a number or is_pointer a first or is_pointer a second
+typing_fault a line behind (Isnull number pointer) = is_number a number or is_pointer a pointer
 typing_fault a line behind (Show pointer) = is_pointer a pointer
 typing_fault a line behind (Const number value) = is_number a number
-typing_fault a line behind (Add number left right) = first_of (is_number a number ∷ is_number a left ∷ is_number a right ∷ [])
-typing_fault a line behind (Sub number left right) = first_of (is_number a number ∷ is_number a left ∷ is_number a right ∷ [])
+typing_fault a line behind (Add number left right) = is_number a number or is_number a left or is_number a right
+typing_fault a line behind (Sub number left right) = is_number a number or is_number a left or is_number a right
 typing_fault a line behind (Print number) = is_number a number
 typing_fault a line behind (Repeat rounds) = None
 typing_fault a line behind (If number) = is_number a number
@@ -167,7 +177,15 @@ abbrev pub fault_from : List Item → ℕ → List Item → List Item → Option
 fault_from program line before [] = None
 fault_from program line before (item ∷ items) =
     at_line line (typing_fault (record { program = program; script = this_script before }) line items item)
-      (fault_from program (line + 1) (before ++ item ∷ []) items)
+    (fault_from program (line + 1) (before ++ item ∷ []) items)
 
 abbrev pub first_typing_fault : List Item → Option TypingFault
 first_typing_fault program = fault_from program 1 [] program
+
+abbrev pub IsWellTyped : List Item → Type 0
+IsWellTyped program = first_typing_fault program ≡ None
+
+-- a stop names the first fault of the program, or is for memory
+abbrev pub NamesFirstFault : List Item → TypeStop → Type 0
+NamesFirstFault program (stop.IllTyped line k) = first_typing_fault program ≡ Some (record { line = line; kind = k })
+NamesFirstFault program stop.NoMemory = ⊤

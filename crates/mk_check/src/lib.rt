@@ -1,6 +1,13 @@
 //! Types of scripts, and what a script does, given the answers to its operations.
 #![tactic(auto)]
 
+mod checked;
+mod checking;
+mod lengths;
+mod lookups;
+mod places;
+mod typing;
 mod typing_faults;
 
+pub use checked::{Checked, check};
 pub use typing_faults::{TypeKind, TypeStop};

@@ -1,10 +1,23 @@
 //! What can be wrong with a program of the grammar.
 
+use mk_never::NoMemory;
+
 /// Why a program is not well typed: its least ill-typed line, counted from 1, or no memory.
 #[derive(Clone, Copy, Debug, PartialEq, Eq)]
 pub enum TypeStop {
     IllTyped { line: u64, kind: TypeKind },
     NoMemory,
+}
+
+impl From<NoMemory> for TypeStop {
+    ghost use Rattle.std.specs.Prelude.{◌≡◌};
+    ghost use Rattle.mk_check.specs.declared.typing_faults.TypeStop.TheVariants.{NoMemory};
+
+    ghost from_gives = { λ _ stop. stop ≡ NoMemory };
+
+    fn from(_: NoMemory) -> TypeStop {
+        TypeStop::NoMemory
+    }
 }
 
 /// What is wrong with a line.

@@ -1,0 +1,37 @@
+-- The first fault, as lines are read one by one.
+use Rattle.std.proofs.Common.{◌≡◌, ℕ, ◌+◌, ◌<◌, cond, List, ◌∷◌, take, drop, length, get_or, Option, Some, None, count_by, refl, ◌∙◌, arith}
+use Rattle.std.specs.Prelude.{IfOk, Result, Ok, Err}
+use Rattle.std.proofs.lemmas.List.Recursion.{is_count_by}
+use Rattle.std.proofs.lemmas.List.{drop_more, take_more}
+use Rattle.mk_script.specs.declared.items.Item.{Item}
+use Rattle.mk_script.specs.declared.items.Item.TheVariants.{Script}
+use Rattle.mk_script.specs.Scopes.{is_script, script_names}
+use Rattle.mk_check.specs.declared.typing_faults.TypeKind.{TypeKind}
+use Rattle.mk_check.specs.Lookups.{Reading, around}
+use Rattle.mk_check.specs.Typing.{at_line, typing_fault, fault_from}
+
+pub IfOk-map : {T E : Type 0} {P Q : T → Type 0} (r : Result T E) → ((x : T) → P x → Q x) → IfOk r P → IfOk r Q
+IfOk-map (Ok x) f p = f x p
+IfOk-map (Err e) f p = tt
+
+module _ (program : List Item) (i : ℕ) (item : Item) (within : i < length program) (read : item ≡ get_or program i item) (reading : Reading) (at : reading ≡ record { program = program; count = i }) (behind : List Item) (rest : behind ≡ drop (i + 1) program) where
+  fault_from-next : (fault : Option TypeKind) → fault ≡ typing_fault (around reading) (i + 1) behind item
+      → fault_from program (i + 1) (take i program) (drop i program) ≡ at_line (i + 1) fault (fault_from program (i + 1 + 1) (take (i + 1) program) (drop (i + 1) program))
+  fault_from-next fault is = rw (is, at, rest, drop_more program i item within, take_more program i item within, ← read) refl
+
+  -- the line is ill typed
+  pub fault_from-some : (fault : Option TypeKind) (what : TypeKind) → fault ≡ typing_fault (around reading) (i + 1) behind item → fault ≡ Some what
+      → fault_from program (i + 1) (take i program) (drop i program) ≡ Some (record { line = i + 1; kind = what })
+  fault_from-some fault what is some = fault_from-next fault is ∙ rw some refl
+
+  -- it isn't
+  pub fault_from-none : (fault : Option TypeKind) → fault ≡ typing_fault (around reading) (i + 1) behind item → fault ≡ None
+      → fault_from program (i + 1) (take i program) (drop i program) ≡ fault_from program (i + 1 + 1) (take (i + 1) program) (drop (i + 1) program)
+  fault_from-none fault is none = fault_from-next fault is ∙ rw none refl
+
+script_names-cons : (item : Item) (items : List Item) → length (script_names (item ∷ items)) ≡ cond (is_script item) (1 + length (script_names items)) (length (script_names items))
+script_names-cons (Script name) items = omega arith
+script_names-cons item items = refl
+
+pub length-script_names : (items : List Item) → length (script_names items) ≡ count_by is_script items
+length-script_names items = is_count_by (λ xs. length (script_names xs)) is_script refl script_names-cons items

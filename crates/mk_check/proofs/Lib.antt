@@ -1,0 +1,4 @@
+pub mod CountLemmas
+pub mod FaultLemmas
+pub mod LookupLemmas
+pub mod RuleLemmas

@@ -1,0 +1,10 @@
+use Rattle.std.proofs.Common.{◌≡◌, count_by, rules, sym, ap, ◌∙◌, length}
+use Rattle.mk_script.specs.Scopes.{is_script, script_names}
+use Rattle.mk_check.proofs.FaultLemmas.{length-script_names}
+use Rattle.mk_check.proofs.checked.Checked.scripts.Goals as goal
+
+pub returns : goal.returns
+returns c =
+    let items = c.items-items.result.now in
+    let counted : c.count.result ≡ count_by is_script items = search rules in
+    counted ∙ sym (length-script_names items) ∙ ap (λ xs. length (script_names xs)) (c.items-items.ensures.items ∙ c.self.view_is)

@@ -1,0 +1,16 @@
+use Rattle.std.proofs.Common.{arith}
+use Rattle.mk_check.specs.declared.lengths.PartCount.{PartCount}
+use Rattle.mk_check.proofs.CountLemmas.{reverse-set, reverse-none}
+use Rattle.mk_check.proofs.lengths.OpenParts.turn.Goals as goal
+use Rattle.mk_check.proofs.lengths.OpenParts.turn.Goals.{in-Some, in_default}
+
+pub returns : goal.returns
+returns c =
+    let parts = c.self.inside.outermost_first in
+    let turned = λ (count : PartCount). let t : PartCount = record { lines = 0; second = count.lines } in t in
+    elim c.match-last_mut.branch [
+      | in-Some w ↦ rw (w.self-inside-is, ← c.self.view_is)
+          (reverse-set turned parts.items parts.len w.in-Some.innermost.now parts.ok.0 (omega (arith, w.in-Some.ensures.item)) w.in-Some.ensures.value)
+      | in_default w ↦ rw (w.self-inside-is, ← c.self.view_is)
+          (reverse-none turned parts.items parts.len parts.ok.0 (omega (arith, w.in_default.ensures.item)))
+    ]

@@ -1,0 +1,6 @@
+use Rattle.std.proofs.Common.{take}
+use Rattle.mk_check.specs.Lookups.{AreDeclared}
+use Rattle.mk_check.proofs.lookups.Declarations.of_program.Given as goal
+
+abbrev pub invariant-loop-item : goal.invariant-loop-item
+invariant-loop-item l = AreDeclared l.declarations (take l.item-index l.program)

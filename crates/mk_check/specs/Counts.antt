@@ -1,0 +1,58 @@
+-- What is counted of the open parts of a script that is read from its end, the innermost first. A count that passes
+-- 2^64 - 1 stays there.
+use Rattle.std.specs.Prelude.{ℕ, ◌+◌, ◌*◌, ◌-◌, ◌^◌, min, max, if◌then◌else◌, List, [], ◌∷◌, map}
+use Rattle.mk_script.specs.declared.items.Item.{Item}
+use Rattle.mk_script.specs.declared.items.Item.TheVariants.{Repeat, If, Else, End}
+use Rattle.mk_script.specs.Scopes.{is_instruction}
+use Rattle.mk_check.specs.declared.lengths.PartCount.{PartCount}
+use Rattle.mk_check.specs.Blocks.{Part, branch}
+use Rattle.mk_check.specs.Lengths.{length_of}
+
+abbrev pub saturated : ℕ → ℕ
+saturated n = min n (2 ^ 64 - 1)
+
+-- the counts of a part's lines and of its second branch
+abbrev pub count_of : Part → PartCount
+count_of part = record { lines = saturated (length_of part.blocks); second = saturated (length_of (branch part.second)) }
+
+abbrev pub counts_of : List Part → List PartCount
+counts_of parts = map count_of parts
+
+abbrev pub no_count : PartCount
+no_count = record { lines = 0; second = 0 }
+
+abbrev pub innermost : List PartCount → PartCount
+innermost [] = no_count
+innermost (count ∷ counts) = count
+
+abbrev pub outer : List PartCount → List PartCount
+outer [] = []
+outer (count ∷ counts) = counts
+
+-- the innermost part's counts changed so
+abbrev pub with_innermost : (PartCount → PartCount) → List PartCount → List PartCount
+with_innermost f [] = []
+with_innermost f (count ∷ counts) = f count ∷ counts
+
+-- as many instructions before the innermost part
+abbrev pub with_count : ℕ → List PartCount → List PartCount
+with_count n counts = with_innermost (λ count. record count { lines = saturated (count.lines + n) }) counts
+
+-- the innermost part was a second branch
+abbrev pub with_second : List PartCount → List PartCount
+with_second counts = with_innermost (λ count. record { lines = 0; second = count.lines }) counts
+
+-- what an `if` of these branches counts, and a `repeat` of this body
+abbrev pub if_count : PartCount → ℕ
+if_count branches = saturated (1 + max branches.lines branches.second)
+
+abbrev pub repeat_count : ℕ → PartCount → ℕ
+repeat_count rounds body = saturated (1 + rounds * (1 + body.lines))
+
+-- the counts with an item before them
+abbrev pub counts_with : Item → List PartCount → List PartCount
+counts_with (Repeat rounds) counts = with_count (repeat_count rounds (innermost counts)) (outer counts)
+counts_with (If number) counts = with_count (if_count (innermost counts)) (outer counts)
+counts_with Else counts = with_second counts
+counts_with End counts = no_count ∷ counts
+counts_with item counts = if is_instruction item then with_count 1 counts else counts

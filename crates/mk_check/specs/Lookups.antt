@@ -1,0 +1,47 @@
+-- What look-ups by name know of a program.
+use Rattle.std.specs.Prelude.{◌≡◌, ℕ, if◌then◌else◌, List, [], ◌∷◌, ◌++◌, take, Option, Some, None}
+use Rattle.std.specs.Borrow.{Bor}
+use Rattle.std.specs.HashMap.{HashMap, get_by}
+use Rattle.std.specs.HashSet.{contains_by}
+use Rattle.std.specs.List.{list_any}
+use Rattle.std.specs.Option.{option_copied, option_or}
+use Rattle.std.specs.Str.{bytes_eq}
+use Rattle.mk_script.specs.declared.items.Item.{Item}
+use Rattle.mk_script.specs.Scopes.{is_script, number_names, this_script}
+use Rattle.mk_check.specs.declared.lookups.Declarations.{Declarations}
+use Rattle.mk_check.specs.declared.lookups.Registers.{Registers}
+use Rattle.mk_check.specs.Typing.{Around, type_words, global_type, pointer_at}
+
+-- A program, and how many of its lines were read.
+pub record Reading : Type 0 where
+  pub program : List Item
+  pub count : ℕ
+
+abbrev pub around : Reading → Around
+around reading = record { program = reading.program; script = this_script (take reading.count reading.program) }
+
+-- what a map has for a name
+abbrev pub value_of : {X S : Type 0} → HashMap (Bor (List ℕ)) X S → List ℕ → Option X
+value_of names name = get_by (λ key. bytes_eq name key.now) names
+
+-- the value is added for the name, unless it has one
+abbrev pub AddsFirst : {X S : Type 0} → HashMap (Bor (List ℕ)) X S → HashMap (Bor (List ℕ)) X S → List ℕ → X → Type 0
+AddsFirst old new name value =
+    (other : List ℕ) → value_of new other ≡ option_or (value_of old other) (if bytes_eq other name then Some value else None)
+
+abbrev pub KeepsValues : {X S : Type 0} → HashMap (Bor (List ℕ)) X S → HashMap (Bor (List ℕ)) X S → Type 0
+KeepsValues old new = (name : List ℕ) → value_of new name ≡ value_of old name
+
+-- the lines of the script behind a line
+abbrev pub lines_behind : List Item → Item → List Item
+lines_behind lines item = if is_script item then [] else lines ++ item ∷ []
+
+-- they are those of the program
+pub record AreDeclared (declarations : Declarations) (program : List Item) : Type 0 where
+  pub types : (name : List ℕ) → option_copied (value_of declarations.types name) ≡ type_words name program
+  pub globals : (name : List ℕ) → option_copied (value_of declarations.globals name) ≡ global_type name program
+
+-- they are those of a script's lines
+pub record AreRegisters (registers : Registers) (lines : List Item) : Type 0 where
+  pub pointers : (name : List ℕ) → option_copied (value_of registers.pointers name) ≡ pointer_at name lines
+  pub numbers : (name : List ℕ) → contains_by (λ key. bytes_eq name key.now) registers.numbers ≡ list_any (bytes_eq name) (number_names lines)

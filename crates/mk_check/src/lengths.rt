@@ -1,0 +1,157 @@
+//! How many instructions a script executes at most.
+ghost use Rattle.std.specs.Prelude.{◌≡◌, ℕ, ◌-◌, ◌^◌, [], ◌∷◌, OnOk, IfOk, IfNone, IfSome, min};
+ghost use Rattle.mk_script.specs.Scopes as scopes;
+ghost use Rattle.mk_check.specs.Blocks.{blocks_from, before_next_script};
+ghost use Rattle.mk_check.specs.Lengths.{length_of};
+
+use mk_never::NoMemory;
+use mk_script::Item;
+use std::alloc::Global;
+use std::marker::Model;
+
+/// Whether a script begins at the item.
+pub fn is_script(item: &Item) -> bool
+    ensures { result ≡ scopes.is_script item.now }
+{
+    matches!(item, Item::Script { .. })
+}
+
+/// Whether the item is a line of a script, behind its declarations.
+fn is_instruction(item: &Item) -> bool
+    ensures { result ≡ scopes.is_instruction item.now }
+{
+    !matches!(
+        item,
+        Item::Heap { .. }
+            | Item::TypeLine { .. }
+            | Item::Global { .. }
+            | Item::Script { .. }
+            | Item::Ptr { .. }
+            | Item::Num { .. }
+    )
+}
+
+/// Counts of an open part of a script: of its lines, and of the branch behind its `else`.
+#[derive(Clone, Copy)]
+struct PartCount {
+    lines: u64,
+    second: u64,
+}
+
+/// The counts of the open parts of a script that is read from its end.
+#[derive(Drop)]
+struct OpenParts {
+    outermost_first: Vec<PartCount>,
+}
+
+impl Model for OpenParts {
+    ghost use Rattle.std.specs.Prelude.{List, reverse};
+    ghost use Rattle.mk_check.specs.declared.lengths.PartCount.{PartCount};
+
+    ghost Value = { List PartCount };
+
+    ghost view = { λ o. reverse o.outermost_first.items };
+}
+
+impl OpenParts {
+    ghost use Rattle.mk_check.specs.Counts.{no_count, innermost, outer, with_count, with_second, counts_with};
+
+    fn new(alloc: Global) -> OpenParts
+        ensures { result ≡ [] }
+    {
+        OpenParts {
+            outermost_first: Vec::new(alloc),
+        }
+    }
+
+    /// Opens a part inside the others.
+    fn open(&mut self) -> Result<(), NoMemory>
+        ensures { OnOk result (self.new ≡ no_count ∷ self.old) }
+    {
+        self.outermost_first
+            .push(PartCount {
+                lines: 0,
+                second: 0,
+            })
+            .map_err(|_| NoMemory)
+    }
+
+    /// Takes the innermost part away.
+    fn close(&mut self) -> PartCount
+        ensures count { result ≡ innermost self.old }
+        ensures left { self.new ≡ outer self.old }
+    {
+        self.outermost_first.pop().unwrap_or(PartCount {
+            lines: 0,
+            second: 0,
+        })
+    }
+
+    /// Counts instructions before the innermost part.
+    fn add(&mut self, instructions: u64)
+        ensures { self.new ≡ with_count instructions self.old }
+    {
+        if let Some(innermost) = self.outermost_first.last_mut() {
+            innermost.lines = innermost.lines.saturating_add(instructions);
+        }
+    }
+
+    /// Makes the innermost part the second branch of the part before it.
+    fn turn(&mut self)
+        ensures { self.new ≡ with_second self.old }
+    {
+        if let Some(innermost) = self.outermost_first.last_mut() {
+            innermost.second = innermost.lines;
+            innermost.lines = 0;
+        }
+    }
+
+    /// Reads the item before those that were read.
+    fn read(&mut self, item: &Item) -> Result<(), NoMemory>
+        ensures { OnOk result (self.new ≡ counts_with item.now self.old) }
+    {
+        match item {
+            Item::Repeat { rounds } => {
+                let body = self.close();
+                let round = body.lines.saturating_add(1);
+                self.add(rounds.saturating_mul(round).saturating_add(1));
+            }
+            Item::If { .. } => {
+                let branches = self.close();
+                self.add(branches.lines.max(branches.second).saturating_add(1));
+            }
+            Item::Else => self.turn(),
+            Item::End => return self.open(),
+            _ => {
+                if is_instruction(item) {
+                    self.add(1);
+                }
+            }
+        }
+        Ok(())
+    }
+}
+
+/// How many instructions a script of these items executes at most, or 2^64 - 1 where it is more.
+pub fn script_length(alloc: Global, items: &[Item]) -> Result<u64, NoMemory>
+    ensures { IfOk result (λ count. (line : ℕ) → count ≡ min (length_of (blocks_from line items.now)) (2 ^ 64 - 1)) }
+{
+    let mut parts = OpenParts::new(alloc);
+    parts.open()?;
+    for item in items.iter().rev() {
+        parts.read(item)?;
+    }
+    Ok(parts.close().lines)
+}
+
+/// The items before the next script.
+pub fn items_of_script(behind: &[Item]) -> &[Item]
+    ensures { result.now ≡ before_next_script behind.now }
+{
+    for (place, item) in behind.iter().enumerate() {
+        if is_script(item) {
+            return &behind[..place];
+        }
+    }
+    behind
+}

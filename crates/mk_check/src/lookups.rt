@@ -1,0 +1,186 @@
+//! What names stand for, as the lines of a program are read.
+ghost use Rattle.std.specs.Prelude.{◌≡◌, ◌+◌, ◌<◌, List, [], ◌∷◌, ◌++◌, length, IfOk, OnOk, OnErr};
+ghost use Rattle.std.specs.List.{list_any};
+ghost use Rattle.std.specs.Option.{option_copied};
+ghost use Rattle.std.specs.Str.{bytes_eq};
+ghost use Rattle.mk_script.specs.declared.items.Item.{Item};
+ghost use Rattle.mk_script.specs.Scopes.{number_names};
+ghost use Rattle.mk_check.specs.Typing.{type_words, global_type, pointer_at};
+ghost use Rattle.mk_check.specs.Lookups.{around, AddsFirst, KeepsValues};
+
+use mk_never::NoMemory;
+use mk_script::{At, Item, Name, TypeWord};
+use std::alloc::Global;
+use std::collections::{HashMap, HashSet};
+use std::marker::Model;
+
+/// Adds a value for a name that has none.
+fn add_first<'a, V: Copy>(
+    names: &mut HashMap<&'a [u8], V>,
+    name: &'a Name,
+    value: V,
+) -> Result<(), NoMemory>
+    ensures added { OnOk result (AddsFirst names.old names.new name.now value) }
+    ensures unchanged { OnErr result (KeepsValues names.old names.new) }
+{
+    let key = name.as_bytes();
+    if !names.contains_key(&key) {
+        let Ok(_) = names.insert(key, value) else {
+            return Err(NoMemory);
+        };
+    }
+    Ok(())
+}
+
+/// The words of types and the types of globals.
+#[derive(Drop)]
+struct Declarations<'a> {
+    types: HashMap<&'a [u8], &'a [TypeWord]>,
+    globals: HashMap<&'a [u8], &'a Name>,
+}
+
+impl<'a> Declarations<'a> {
+    ghost use Rattle.mk_check.specs.Lookups.{AreDeclared};
+
+    fn new(alloc: Global) -> Declarations<'a>
+        ensures { AreDeclared result [] }
+    {
+        Declarations {
+            types: HashMap::new(alloc),
+            globals: HashMap::new(alloc),
+        }
+    }
+
+    fn add(&mut self, item: &'a Item) -> Result<(), NoMemory>
+        ensures { OnOk result ((items : List Item) → AreDeclared self.old items → AreDeclared self.new (items ++ item.now ∷ [])) }
+    {
+        match item {
+            Item::TypeLine { name, words } => add_first(&mut self.types, name, words.as_slice()),
+            Item::Global { name, ty } => add_first(&mut self.globals, name, ty),
+            _ => Ok(()),
+        }
+    }
+
+    fn of_program(alloc: Global, program: &'a [Item]) -> Result<Declarations<'a>, NoMemory>
+        ensures { IfOk result (λ declarations. AreDeclared declarations program.now) }
+    {
+        let mut declarations = Declarations::new(alloc);
+        for item in program {
+            declarations.add(item)?;
+        }
+        Ok(declarations)
+    }
+}
+
+/// The registers of a script: where pointers are declared to point, and the numbers.
+#[derive(Drop)]
+struct Registers<'a> {
+    pointers: HashMap<&'a [u8], &'a At>,
+    numbers: HashSet<&'a [u8]>,
+}
+
+impl<'a> Registers<'a> {
+    ghost use Rattle.mk_check.specs.Lookups.{lines_behind, AreRegisters};
+
+    fn new(alloc: Global) -> Registers<'a>
+        ensures { AreRegisters result [] }
+    {
+        Registers {
+            pointers: HashMap::new(alloc),
+            numbers: HashSet::new(alloc),
+        }
+    }
+
+    fn add(&mut self, item: &'a Item) -> Result<(), NoMemory>
+        ensures added { OnOk result ((lines : List Item) → AreRegisters self.old lines → AreRegisters self.new (lines_behind lines item.now)) }
+        ensures unchanged { OnErr result ((lines : List Item) → AreRegisters self.old lines → AreRegisters self.new lines) }
+    {
+        match item {
+            Item::Script { .. } => {
+                self.pointers.clear();
+                self.numbers.clear();
+                Ok(())
+            }
+            Item::Ptr { name, at } => add_first(&mut self.pointers, name, at),
+            Item::Num { name } => match self.numbers.insert(name.as_bytes()) {
+                Ok(_) => Ok(()),
+                Err(_) => Err(NoMemory),
+            },
+            _ => Ok(()),
+        }
+    }
+}
+
+/// Look-ups of names in a program of which some lines were read.
+#[derive(Drop)]
+pub struct Lookups<'a> {
+    program: &'a [Item],
+    count: usize,
+    declarations: Declarations<'a>,
+    registers: Registers<'a>,
+}
+
+impl<'a> Model for Lookups<'a> {
+    ghost use Rattle.std.specs.Prelude.{◌≤◌, length, take};
+    ghost use Rattle.mk_script.specs.Scopes.{this_script};
+    ghost use Rattle.mk_check.specs.Lookups.{Reading, AreDeclared, AreRegisters};
+
+    ghost Value = { Reading };
+
+    ghost view = { λ l. record { program = l.program.now; count = l.count } };
+
+    ghost invariant = { λ l. (l.count ≤ length l.program.now) × AreDeclared l.declarations l.program.now × AreRegisters l.registers (this_script (take l.count l.program.now)) };
+}
+
+impl<'a> Lookups<'a> {
+    /// No line is read.
+    pub fn new(alloc: Global, program: &'a [Item]) -> Result<Lookups<'a>, NoMemory>
+        ensures { IfOk result (λ lookups. lookups ≡ record { program = program.now; count = 0 }) }
+    {
+        Ok(Lookups {
+            program,
+            count: 0,
+            declarations: Declarations::of_program(alloc, program)?,
+            registers: Registers::new(alloc),
+        })
+    }
+
+    /// Reads the next line.
+    pub fn read(&mut self) -> Result<(), NoMemory>
+        requires { self.old.count < length self.old.program }
+        ensures { OnOk result (self.new ≡ record self.old { count = self.old.count + 1 }) }
+    {
+        let program = self.program;
+        self.registers.add(&program[self.count])?;
+        self.count += 1;
+        Ok(())
+    }
+
+    /// The words of a type.
+    pub fn type_words(&self, name: &Name) -> Option<&'a [TypeWord]>
+        ensures { option_copied result ≡ type_words name.now self.now.program }
+    {
+        self.declarations.types.get(&name.as_bytes()).copied()
+    }
+
+    /// The type of a global.
+    pub fn global_type(&self, name: &Name) -> Option<&'a Name>
+        ensures { option_copied result ≡ global_type name.now self.now.program }
+    {
+        self.declarations.globals.get(&name.as_bytes()).copied()
+    }
+
+    /// Where a pointer register of the script so far is declared to point.
+    pub fn pointer_at(&self, name: &Name) -> Option<&'a At>
+        ensures { option_copied result ≡ pointer_at name.now (around self.now).script }
+    {
+        self.registers.pointers.get(&name.as_bytes()).copied()
+    }
+
+    /// Whether a number register of the script so far has this name.
+    pub fn has_number(&self, name: &Name) -> bool
+        ensures { result ≡ list_any (bytes_eq name.now) (number_names (around self.now).script) }
+    {
+        self.registers.numbers.contains(&name.as_bytes())
+    }
+}

@@ -1,0 +1,62 @@
+//! What a heap is started with.
+ghost use Rattle.std.specs.Prelude.{◌≡◌, ◌<◌, ◌≤◌, length, [], ◌∷◌, ◌++◌, OnOk, OnErr};
+
+use mk_never::{NoMemory, TypeTable};
+use std::alloc::Global;
+use std::marker::Model;
+
+/// The globals of a program, numbered from 0: the number of each one's type. There are at most 64.
+#[derive(Drop)]
+pub struct GlobalTable {
+    types: Vec<u64>,
+}
+
+impl Model for GlobalTable {
+    ghost use Rattle.std.specs.Prelude.{ℕ, List, length, ◌≤◌};
+
+    ghost Value = { List ℕ };
+
+    ghost view = { λ g. g.types.items };
+
+    ghost invariant = { λ g. length g.types.items ≤ 64 };
+}
+
+impl GlobalTable {
+    /// No globals. The allocator is kept for `add`; no memory is taken.
+    pub fn new(alloc: Global) -> GlobalTable
+        ensures { result ≡ [] }
+    {
+        GlobalTable {
+            types: Vec::new(alloc),
+        }
+    }
+
+    /// Appends a global of this type, whose number is the count of the globals before it.
+    pub fn add(&mut self, ty: u64) -> Result<(), NoMemory>
+        requires { length self.old < 64 }
+        ensures added { OnOk result (self.new ≡ self.old ++ ty ∷ []) }
+        ensures unchanged { OnErr result (self.new ≡ self.old) }
+    {
+        self.types.push(ty).map_err(|_| NoMemory)
+    }
+
+    /// The types, in the order of the globals' numbers.
+    pub fn types(&self) -> &[u64]
+        ensures types { result.now ≡ self.now }
+        ensures within { length self.now ≤ 64 }
+    {
+        self.types.as_slice()
+    }
+}
+
+/// What a heap is started with: pages of 64 words and how many of them may be resident, the count of
+/// its callers and of the threads that mark, and the types and globals of its program.
+#[derive(Drop)]
+pub struct Config {
+    pub pages: u64,
+    pub resident: u64,
+    pub callers: u64,
+    pub markers: u64,
+    pub types: TypeTable,
+    pub globals: GlobalTable,
+}
