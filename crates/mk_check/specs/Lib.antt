@@ -2,4 +2,5 @@ pub mod Blocks
 pub mod Declarations
 pub mod Feed
 pub mod Lengths
+pub mod Steps
 pub mod Typing

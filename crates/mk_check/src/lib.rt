@@ -1,6 +1,7 @@
 //! Types of scripts, and what a script does, given the answers to its operations.
 #![tactic(auto)]
 
+mod feeding;
 mod typing_faults;
 
 pub use typing_faults::{TypeKind, TypeStop};

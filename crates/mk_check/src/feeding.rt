@@ -1,0 +1,4 @@
+//! A script that is fed with answers.
+
+mod instructions;
+mod tree;
