@@ -3,4 +3,5 @@ pub mod Declarations
 pub mod Feed
 pub mod Lengths
 pub mod Steps
+pub mod Trees
 pub mod Typing
