@@ -1,4 +1,5 @@
 //! A script that is fed with answers.
 
 mod instructions;
+mod running;
 mod tree;
