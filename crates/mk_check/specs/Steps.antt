@@ -8,6 +8,8 @@ use Rattle.mk_script.specs.declared.items.Item.{Item}
 use Rattle.mk_script.specs.declared.items.Item.TheVariants as item
 use Rattle.mk_check.specs.declared.feeding.instructions.Instruction.{Instruction}
 use Rattle.mk_check.specs.declared.feeding.instructions.Instruction.TheVariants.{Nothing, Const, Add, Sub, Print, Ask, Store, Load, Show}
+use Rattle.mk_check.specs.declared.feeding.instructions.Element.{Element}
+use Rattle.mk_check.specs.declared.feeding.instructions.Element.TheVariants as element
 use Rattle.mk_check.specs.Declarations.{place_of}
 use Rattle.mk_check.specs.Blocks.{Blocks}
 use Rattle.mk_check.specs.Blocks as blocks
@@ -36,19 +38,35 @@ none_left (Choice number first second rest) = false
 abbrev pub number_place : Scope → List ℕ → ℕ
 number_place scope name = place_of name scope.numbers
 
+-- the operation of an instruction that keeps no number
+abbrev pub op_among : Scope → Item → Option Op
+op_among scope (item.New pointer ty) = Some (op.New (pointer_place scope pointer) (place_of ty scope.types) false)
+op_among scope (item.Free pointer) = Some (op.Free (pointer_place scope pointer))
+op_among scope (item.Getp loaded pointer index) = Some (op.GetPtr (pointer_place scope loaded) (pointer_place scope pointer) index)
+op_among scope (item.Setp pointer index stored) = Some (op.SetPtr (pointer_place scope pointer) index (pointer_place scope stored))
+op_among scope (item.Lea moved pointer index) = Some (op.Lea (pointer_place scope moved) (pointer_place scope pointer) index)
+op_among scope (item.Move copied pointer) = Some (op.Move (pointer_place scope copied) (pointer_place scope pointer))
+op_among scope (item.Clear pointer) = Some (op.Clear (pointer_place scope pointer))
+op_among scope (item.Loadg loaded global) = Some (op.GetGlobal (pointer_place scope loaded) (place_of global scope.globals))
+op_among scope (item.Storeg stored global) = Some (op.SetGlobal (place_of global scope.globals) (pointer_place scope stored))
+op_among scope other = None
+
+-- one that keeps a number
+abbrev pub load_among : Scope → Item → Option Instruction
+load_among scope (item.Getn number pointer index) = Some (Load (number_place scope number) (op.GetNum (pointer_place scope pointer) index))
+load_among scope (item.Casp number pointer index expected stored) = Some (Load (number_place scope number) (op.CasPtr (pointer_place scope pointer) index (pointer_place scope expected) (pointer_place scope stored)))
+load_among scope (item.Same number first second) = Some (Load (number_place scope number) (op.Same (pointer_place scope first) (pointer_place scope second)))
+load_among scope (item.Isnull number pointer) = Some (Load (number_place scope number) (op.IsNull (pointer_place scope pointer)))
+load_among scope other = None
+
+abbrev pub asking : Option Op → Instruction
+asking None = Nothing
+asking (Some o) = Ask o
+
 abbrev pub instruction_of : Scope → Item → Instruction
-instruction_of scope (item.New pointer ty) = Ask (op.New (pointer_place scope pointer) (place_of ty scope.types) false)
-instruction_of scope (item.Free pointer) = Ask (op.Free (pointer_place scope pointer))
 instruction_of scope (item.Getn number pointer index) = Load (number_place scope number) (op.GetNum (pointer_place scope pointer) index)
 instruction_of scope (item.Setn pointer index number) = Store (pointer_place scope pointer) index (number_place scope number)
-instruction_of scope (item.Getp loaded pointer index) = Ask (op.GetPtr (pointer_place scope loaded) (pointer_place scope pointer) index)
-instruction_of scope (item.Setp pointer index stored) = Ask (op.SetPtr (pointer_place scope pointer) index (pointer_place scope stored))
 instruction_of scope (item.Casp number pointer index expected stored) = Load (number_place scope number) (op.CasPtr (pointer_place scope pointer) index (pointer_place scope expected) (pointer_place scope stored))
-instruction_of scope (item.Lea moved pointer index) = Ask (op.Lea (pointer_place scope moved) (pointer_place scope pointer) index)
-instruction_of scope (item.Move copied pointer) = Ask (op.Move (pointer_place scope copied) (pointer_place scope pointer))
-instruction_of scope (item.Clear pointer) = Ask (op.Clear (pointer_place scope pointer))
-instruction_of scope (item.Loadg loaded global) = Ask (op.GetGlobal (pointer_place scope loaded) (place_of global scope.globals))
-instruction_of scope (item.Storeg stored global) = Ask (op.SetGlobal (place_of global scope.globals) (pointer_place scope stored))
 instruction_of scope (item.Same number first second) = Load (number_place scope number) (op.Same (pointer_place scope first) (pointer_place scope second))
 instruction_of scope (item.Isnull number pointer) = Load (number_place scope number) (op.IsNull (pointer_place scope pointer))
 instruction_of scope (item.Show pointer) = Show (pointer_place scope pointer)
@@ -56,7 +74,14 @@ instruction_of scope (item.Const number value) = Const (number_place scope numbe
 instruction_of scope (item.Add number left right) = Add (number_place scope number) (number_place scope left) (number_place scope right)
 instruction_of scope (item.Sub number left right) = Sub (number_place scope number) (number_place scope left) (number_place scope right)
 instruction_of scope (item.Print number) = Print (number_place scope number)
-instruction_of scope other = Nothing
+instruction_of scope other = asking (op_among scope other)
+
+abbrev pub element_of : Scope → Item → Element
+element_of scope (item.Repeat rounds) = element.Repeat rounds
+element_of scope (item.If number) = element.If (number_place scope number)
+element_of scope item.Else = element.Else
+element_of scope item.End = element.End
+element_of scope other = element.Line (instruction_of scope other)
 
 -- the blocks with numbers for their names
 abbrev pub steps_of : Scope → Blocks → Steps

@@ -1,5 +1,6 @@
 //! A script that is fed with answers.
 
 mod instructions;
+mod names;
 mod running;
 mod tree;
