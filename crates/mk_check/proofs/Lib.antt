@@ -1,3 +1,4 @@
 pub mod Moves
 pub mod StepLaws
 pub mod Numbered
+pub mod OtherLines

@@ -59,22 +59,19 @@ load_among scope (item.Same number first second) = Some (Load (number_place scop
 load_among scope (item.Isnull number pointer) = Some (Load (number_place scope number) (op.IsNull (pointer_place scope pointer)))
 load_among scope other = None
 
-abbrev pub asking : Option Op → Instruction
-asking None = Nothing
-asking (Some o) = Ask o
+abbrev pub or_asking : Option Instruction → Option Op → Instruction
+or_asking (Some instruction) o = instruction
+or_asking None (Some o) = Ask o
+or_asking None None = Nothing
 
 abbrev pub instruction_of : Scope → Item → Instruction
-instruction_of scope (item.Getn number pointer index) = Load (number_place scope number) (op.GetNum (pointer_place scope pointer) index)
 instruction_of scope (item.Setn pointer index number) = Store (pointer_place scope pointer) index (number_place scope number)
-instruction_of scope (item.Casp number pointer index expected stored) = Load (number_place scope number) (op.CasPtr (pointer_place scope pointer) index (pointer_place scope expected) (pointer_place scope stored))
-instruction_of scope (item.Same number first second) = Load (number_place scope number) (op.Same (pointer_place scope first) (pointer_place scope second))
-instruction_of scope (item.Isnull number pointer) = Load (number_place scope number) (op.IsNull (pointer_place scope pointer))
 instruction_of scope (item.Show pointer) = Show (pointer_place scope pointer)
 instruction_of scope (item.Const number value) = Const (number_place scope number) value
 instruction_of scope (item.Add number left right) = Add (number_place scope number) (number_place scope left) (number_place scope right)
 instruction_of scope (item.Sub number left right) = Sub (number_place scope number) (number_place scope left) (number_place scope right)
 instruction_of scope (item.Print number) = Print (number_place scope number)
-instruction_of scope other = asking (op_among scope other)
+instruction_of scope other = or_asking (load_among scope other) (op_among scope other)
 
 abbrev pub element_of : Scope → Item → Element
 element_of scope (item.Repeat rounds) = element.Repeat rounds

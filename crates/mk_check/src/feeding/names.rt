@@ -86,7 +86,7 @@ impl<'a> Model for Names<'a> {
 impl<'a> Names<'a> {
     ghost use Rattle.mk_check.specs.NamesInScope.{HasFew};
     ghost use Rattle.mk_check.specs.Feed.{pointer_place};
-    ghost use Rattle.mk_check.specs.Steps.{op_among, load_among, element_of};
+    ghost use Rattle.mk_check.specs.Steps.{op_among, load_among, or_asking, element_of};
 
     pub fn of(alloc: Global, program: &'a [Item], script: &'a [Item]) -> Result<Names<'a>, NoMemory>
         ensures { IfOk result (λ names. names ≡ scope_of program.now script.now) }
@@ -248,5 +248,77 @@ impl<'a> Names<'a> {
             number: self.number(number),
             op,
         })
+    }
+
+    fn instruction(&self, item: &Item) -> Instruction
+        requires { HasFew self.now }
+        ensures { result ≡ instruction_of self.now item.now }
+    {
+        match item {
+            Item::Setn {
+                pointer,
+                index,
+                number,
+            } => Instruction::Store {
+                q: self.pointer(pointer),
+                i: *index,
+                number: self.number(number),
+            },
+            Item::Show { pointer } => Instruction::Show {
+                p: self.pointer(pointer),
+            },
+            Item::Const { number, value } => Instruction::Const {
+                number: self.number(number),
+                value: *value,
+            },
+            Item::Add {
+                number,
+                left,
+                right,
+            } => Instruction::Add {
+                number: self.number(number),
+                left: self.number(left),
+                right: self.number(right),
+            },
+            Item::Sub {
+                number,
+                left,
+                right,
+            } => Instruction::Sub {
+                number: self.number(number),
+                left: self.number(left),
+                right: self.number(right),
+            },
+            Item::Print { number } => Instruction::Print {
+                number: self.number(number),
+            },
+            _ => self.asking(item),
+        }
+    }
+
+    /// The instruction, where it asks for an operation.
+    fn asking(&self, item: &Item) -> Instruction
+        requires { HasFew self.now }
+        ensures { result ≡ or_asking (load_among self.now item.now) (op_among self.now item.now) }
+    {
+        match (self.load(item), self.op(item)) {
+            (Some(instruction), _) => instruction,
+            (None, Some(op)) => Instruction::Ask { op },
+            (None, None) => Instruction::Nothing,
+        }
+    }
+
+    /// What a line adds to a script's tree.
+    pub fn element(&self, item: &Item) -> Element
+        requires { HasFew self.now }
+        ensures { result ≡ element_of self.now item.now }
+    {
+        match item {
+            Item::Repeat { rounds } => Element::Repeat(*rounds),
+            Item::If { number } => Element::If(self.number(number)),
+            Item::Else => Element::Else,
+            Item::End => Element::End,
+            _ => Element::Line(self.instruction(item)),
+        }
     }
 }
