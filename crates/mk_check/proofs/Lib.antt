@@ -1,3 +1,4 @@
+pub mod Builds
 pub mod Moves
 pub mod StepLaws
 pub mod Numbered

@@ -1,4 +1,5 @@
 pub mod Blocks
+pub mod Building
 pub mod Declarations
 pub mod Feed
 pub mod Lengths
