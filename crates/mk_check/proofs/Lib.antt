@@ -2,4 +2,5 @@ pub mod Builds
 pub mod Moves
 pub mod StepLaws
 pub mod Numbered
+pub mod NumberedParts
 pub mod OtherLines

@@ -1,12 +1,16 @@
 //! A script's tree, built from its last line on.
 ghost use Rattle.std.specs.Prelude.{◌≡◌, ◌+◌, ◌<◌, ◌^◌, ◌++◌, [], ◌∷◌, length, IfOk, OnOk};
 ghost use Rattle.mk_check.specs.declared.feeding.instructions.Element.TheVariants as element;
-ghost use Rattle.mk_check.specs.Steps.{Done};
+ghost use Rattle.mk_check.specs.Blocks.{blocks_from};
+ghost use Rattle.mk_check.specs.Steps.{Done, steps_of};
+ghost use Rattle.mk_check.specs.NamesInScope.{HasFew};
 ghost use Rattle.mk_check.specs.Trees.{IsBelow, steps_at, trees};
 
 use crate::feeding::instructions::{Element, Instruction};
+use crate::feeding::names::Names;
 use crate::feeding::tree::{Node, Tree};
 use mk_never::NoMemory;
+use mk_script::Item;
 use std::alloc::Global;
 use std::marker::Model;
 
@@ -172,4 +176,24 @@ impl Builder {
         };
         (tree, first)
     }
+}
+
+/// The tree of a script's items, the first of which stands at this line, and the node of its first
+/// line.
+pub fn tree_of(
+    alloc: Global,
+    names: &Names<'_>,
+    line: u64,
+    items: &[Item],
+) -> Result<(Tree, usize), NoMemory>
+    requires few { HasFew names.now }
+    requires lines { line + length items.now < 2 ^ 64 }
+    ensures steps { IfOk result (λ t. steps_at (trees t.0) t.1 ≡ steps_of names.now (blocks_from line items.now)) }
+    ensures within { IfOk result (λ t. t.1 < length t.0) }
+{
+    let mut builder = Builder::start(alloc)?;
+    for index in (0..items.len()).rev() {
+        builder.add(line + index as u64, names.element(&items[index]))?;
+    }
+    Ok(builder.finish())
 }
