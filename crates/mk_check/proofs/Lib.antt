@@ -1,5 +1,6 @@
 pub mod Builds
 pub mod Moves
+pub mod Stands
 pub mod StepLaws
 pub mod Numbered
 pub mod NumberedParts

@@ -17,7 +17,7 @@ kept_of fed = record { numbers = fed.numbers; text = fed.text }
 abbrev pub stopped_of : Scope → Fed → Stopped
 stopped_of scope fed = record { left = steps_of scope fed.left; kept = kept_of fed }
 
-is_done-steps_of : (scope : Scope) (b : Blocks) → none_left (steps_of scope b) ≡ is_done b
+pub is_done-steps_of : (scope : Scope) (b : Blocks) → none_left (steps_of scope b) ≡ is_done b
 is_done-steps_of scope Done = refl
 is_done-steps_of scope (Line line item rest) = refl
 is_done-steps_of scope (Rounds rounds body rest) = refl
@@ -123,7 +123,7 @@ ops-run_line scope fed (If number) = refl
 ops-run_line scope fed Else = refl
 ops-run_line scope fed End = refl
 
-kept_of-with_answer : (scope : Scope) (fed : Fed) (item : Item) (a : Answer)
+pub kept_of-with_answer : (scope : Scope) (fed : Fed) (item : Item) (a : Answer)
     → kept_of (with_answer scope fed item a) ≡ answered (instruction_of scope item) a (kept_of fed)
 kept_of-with_answer scope fed (Heap pages resident) a = refl
 kept_of-with_answer scope fed (TypeLine name words) a = refl
@@ -155,7 +155,7 @@ kept_of-with_answer scope fed (If number) a = refl
 kept_of-with_answer scope fed Else a = refl
 kept_of-with_answer scope fed End a = refl
 
-ops-with_answer : (scope : Scope) (fed : Fed) (item : Item) (a : Answer) → (with_answer scope fed item a).ops ≡ fed.ops
+pub ops-with_answer : (scope : Scope) (fed : Fed) (item : Item) (a : Answer) → (with_answer scope fed item a).ops ≡ fed.ops
 ops-with_answer scope fed (Heap pages resident) a = refl
 ops-with_answer scope fed (TypeLine name words) a = refl
 ops-with_answer scope fed (Global name ty) a = refl

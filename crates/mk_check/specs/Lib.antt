@@ -2,6 +2,7 @@ pub mod Blocks
 pub mod Building
 pub mod Declarations
 pub mod Feed
+pub mod Feeding
 pub mod Lengths
 pub mod NamesInScope
 pub mod Steps

@@ -4,4 +4,5 @@
 mod feeding;
 mod typing_faults;
 
+pub use feeding::Feed;
 pub use typing_faults::{TypeKind, TypeStop};

@@ -1,7 +1,7 @@
 //! A script that runs.
-ghost use Rattle.std.specs.Prelude.{◌≡◌, ◌+◌, ◌*◌, ◌<◌, ◌++◌, [], ◌∷◌, true, false, length, slice_index, slice_set, IsTrue, IfOk, OnOk, OnErr, is_some};
+ghost use Rattle.std.specs.Prelude.{◌≡◌, ◌+◌, ◌*◌, ◌<◌, ◌++◌, [], ◌∷◌, true, false, length, slice_index, slice_set, IsTrue, IfOk, OnOk, OnErr, is_some, replicate, codes};
 ghost use Rattle.std.specs.Fmt.{decimal};
-ghost use Rattle.mk_check.specs.Feed.{refusal_line, refusal_text, number_of, shown};
+ghost use Rattle.mk_check.specs.Feed.{refusal_line, refusal_text, newline, number_of, shown};
 ghost use Rattle.mk_check.specs.Steps as steps;
 ghost use Rattle.mk_check.specs.Trees.{kept_in, with_kept, left_in, stopped_in, IsWithin, entered, left_block, branched, LeavesBlock, GoesOn, HasStopped};
 
@@ -9,6 +9,7 @@ use crate::feeding::instructions::Instruction;
 use crate::feeding::tree::{Frame, Node, Tree};
 use mk_core::Answer;
 use mk_never::{NoMemory, Op};
+use mk_script::Name;
 use std::alloc::Global;
 use std::marker::Model;
 
@@ -40,6 +41,77 @@ fn answered_number(answer: Answer) -> u64
 }
 
 impl Running {
+    /// A script before its first line, with as many number registers as `numbers`.
+    pub fn begin(alloc: Global, at: usize, numbers: usize, name: &Name) -> Result<Running, NoMemory>
+        ensures { IfOk result (λ r. r ≡ record {
+            at = at;
+            frames = [];
+            numbers = replicate numbers 0;
+            text = codes "script " ++ (name.now ++ newline) }) }
+    {
+        let Ok(numbers) = Vec::from_elem(alloc, 0, numbers) else {
+            return Err(NoMemory);
+        };
+        let mut running = Running {
+            at,
+            frames: Vec::new(alloc),
+            numbers,
+            text: Vec::new(alloc),
+        };
+        running.print(b"script ")?;
+        running.print(name.as_bytes())?;
+        running.print(b"\n")?;
+        Ok(running)
+    }
+
+    /// A copy at another node, with no text.
+    pub fn copy_at(&self, alloc: Global, at: usize) -> Result<Running, NoMemory>
+        ensures { IfOk result (λ r. r ≡ record self.now { at = at; text = [] }) }
+    {
+        let Ok(frames) = Vec::from_slice(alloc, &self.frames) else {
+            return Err(NoMemory);
+        };
+        let Ok(numbers) = Vec::from_slice(alloc, &self.numbers) else {
+            return Err(NoMemory);
+        };
+        Ok(Running {
+            at,
+            frames,
+            numbers,
+            text: Vec::new(alloc),
+        })
+    }
+
+    /// Goes to where another is, with its text behind the text so far.
+    pub fn follow(&mut self, later: Running) -> Result<(), NoMemory>
+        ensures ok { OnOk result (self.new ≡ record later { text = self.old.text ++ later.text }) }
+        ensures err { OnErr result (self.new ≡ self.old) }
+    {
+        let Running {
+            at,
+            frames,
+            numbers,
+            text,
+        } = later;
+        self.print(&text)?;
+        self.at = at;
+        self.frames = frames;
+        self.numbers = numbers;
+        Ok(())
+    }
+
+    pub fn at(&self) -> usize
+        ensures { result ≡ self.now.at }
+    {
+        self.at
+    }
+
+    pub fn text(&self) -> &[u8]
+        ensures { result.now ≡ self.now.text }
+    {
+        self.text.as_slice()
+    }
+
     /// Appends a piece of text.
     fn print(&mut self, piece: &[u8]) -> Result<(), NoMemory>
         ensures ok { OnOk result (self.new ≡ record self.old { text = self.old.text ++ piece.now }) }
@@ -62,7 +134,7 @@ impl Running {
     }
 
     /// Appends the line that an answer prints which refuses the instruction of a line.
-    fn print_refusal(&mut self, alloc: Global, line: u64, answer: Answer) -> Result<(), NoMemory>
+    pub fn print_refusal(&mut self, alloc: Global, line: u64, answer: Answer) -> Result<(), NoMemory>
         ensures { OnOk result
             (self.new ≡ record self.old { text = self.old.text ++ refusal_line line (refusal_text answer) }) }
     {
@@ -216,7 +288,7 @@ impl Running {
     }
 
     /// Runs on to the next operation, or to the end.
-    fn run(&mut self, alloc: Global, tree: &Tree) -> Result<(), NoMemory>
+    pub fn run(&mut self, alloc: Global, tree: &Tree) -> Result<(), NoMemory>
         requires { IsWithin (length tree.now) self.old }
         ensures { OnOk result (HasStopped tree.now self.old self.new) }
     {
@@ -225,7 +297,7 @@ impl Running {
     }
 
     /// The instruction takes its answer.
-    fn take(&mut self, instruction: Instruction, answer: Answer) -> Result<(), NoMemory>
+    pub fn take(&mut self, instruction: Instruction, answer: Answer) -> Result<(), NoMemory>
         ensures { OnOk result (self.new ≡ with_kept self.old (steps.answered instruction answer (kept_in self.old))) }
     {
         match instruction {
