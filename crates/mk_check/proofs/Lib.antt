@@ -2,3 +2,10 @@ pub mod CountLemmas
 pub mod FaultLemmas
 pub mod LookupLemmas
 pub mod RuleLemmas
+pub mod Builds
+pub mod Moves
+pub mod Stands
+pub mod StepLaws
+pub mod Numbered
+pub mod NumberedParts
+pub mod OtherLines

@@ -1,8 +1,13 @@
 pub mod Blocks
 pub mod Counts
+pub mod Building
 pub mod Declarations
 pub mod Feed
+pub mod Feeding
 pub mod Lengths
 pub mod Lookups
 pub mod Rules
+pub mod NamesInScope
+pub mod Steps
+pub mod Trees
 pub mod Typing

@@ -10,4 +10,8 @@ mod typing;
 mod typing_faults;
 
 pub use checked::{Checked, check};
+mod feeding;
+mod typing_faults;
+
+pub use feeding::Feed;
 pub use typing_faults::{TypeKind, TypeStop};

@@ -1,0 +1,272 @@
+-- A script with numbers for its names does what the script does.
+use Rattle.std.proofs.Common.{◌≡◌, ℕ, zero, suc, Bool, true, false, List, [], ◌∷◌, ◌++◌, refl, ap, sym, ◌∙◌, if◌then◌else◌}
+use Rattle.std.specs.Prelude.{◌==◌, is_some, Option, Some, None}
+use Rattle.mk_never.specs.declared.operations.Op.{Op}
+use Rattle.mk_core.specs.declared.events.Answer.{Answer}
+use Rattle.mk_script.specs.declared.items.Item.{Item}
+use Rattle.mk_script.specs.declared.items.Item.TheVariants.{Heap, TypeLine, Global, Script, Ptr, Num, New, Free, Getn, Setn, Getp, Setp, Casp, Lea, Move, Clear, Loadg, Storeg, Same, Isnull, Show, Const, Add, Sub, Print, Repeat, If, Else, End}
+use Rattle.mk_check.specs.Declarations.{place_of}
+use Rattle.mk_check.specs.Blocks.{Blocks, Done, Line, Rounds, Choice, followed_by, is_done}
+use Rattle.mk_check.specs.Feed.{Scope, Fed, number_in, op_of, run_line, then_run, run_rounds, run, with_answer, note, take_answer}
+use Rattle.mk_check.specs.Steps.{Steps, then_steps, none_left, steps_of, instruction_of, Kept, Stopped, asked, after_line, then_ran, ran_rounds, ran, answered, ran_on}
+use Rattle.mk_check.specs.Steps as steps
+
+abbrev pub kept_of : Fed → Kept
+kept_of fed = record { numbers = fed.numbers; text = fed.text }
+
+abbrev pub stopped_of : Scope → Fed → Stopped
+stopped_of scope fed = record { left = steps_of scope fed.left; kept = kept_of fed }
+
+pub is_done-steps_of : (scope : Scope) (b : Blocks) → none_left (steps_of scope b) ≡ is_done b
+is_done-steps_of scope Done = refl
+is_done-steps_of scope (Line line item rest) = refl
+is_done-steps_of scope (Rounds rounds body rest) = refl
+is_done-steps_of scope (Choice number first second rest) = refl
+
+steps_of-followed_by : (scope : Scope) (a b : Blocks) → steps_of scope (followed_by a b) ≡ then_steps (steps_of scope a) (steps_of scope b)
+steps_of-followed_by scope Done b = refl
+steps_of-followed_by scope (Line line item rest) b = ap (steps.Line line (instruction_of scope item)) (steps_of-followed_by scope rest b)
+steps_of-followed_by scope (Rounds rounds body rest) b = ap (steps.Rounds rounds (steps_of scope body)) (steps_of-followed_by scope rest b)
+steps_of-followed_by scope (Choice number first second rest) b =
+    ap (steps.Choice (place_of number scope.numbers) (steps_of scope first) (steps_of scope second)) (steps_of-followed_by scope rest b)
+
+pub op_of-asked : (scope : Scope) (fed : Fed) (item : Item) → op_of scope fed item ≡ asked fed.numbers (instruction_of scope item)
+op_of-asked scope fed (Heap pages resident) = refl
+op_of-asked scope fed (TypeLine name words) = refl
+op_of-asked scope fed (Global name ty) = refl
+op_of-asked scope fed (Script name) = refl
+op_of-asked scope fed (Ptr name at) = refl
+op_of-asked scope fed (Num name) = refl
+op_of-asked scope fed (New pointer ty) = refl
+op_of-asked scope fed (Free pointer) = refl
+op_of-asked scope fed (Getn number pointer index) = refl
+op_of-asked scope fed (Setn pointer index number) = refl
+op_of-asked scope fed (Getp loaded pointer index) = refl
+op_of-asked scope fed (Setp pointer index stored) = refl
+op_of-asked scope fed (Casp number pointer index expected stored) = refl
+op_of-asked scope fed (Lea moved pointer index) = refl
+op_of-asked scope fed (Move copied pointer) = refl
+op_of-asked scope fed (Clear pointer) = refl
+op_of-asked scope fed (Loadg loaded global) = refl
+op_of-asked scope fed (Storeg stored global) = refl
+op_of-asked scope fed (Same number first second) = refl
+op_of-asked scope fed (Isnull number pointer) = refl
+op_of-asked scope fed (Show pointer) = refl
+op_of-asked scope fed (Const number value) = refl
+op_of-asked scope fed (Add number left right) = refl
+op_of-asked scope fed (Sub number left right) = refl
+op_of-asked scope fed (Print number) = refl
+op_of-asked scope fed (Repeat rounds) = refl
+op_of-asked scope fed (If number) = refl
+op_of-asked scope fed Else = refl
+op_of-asked scope fed End = refl
+
+kept_of-run_line : (scope : Scope) (fed : Fed) (item : Item) → kept_of (run_line scope fed item) ≡ after_line (instruction_of scope item) (kept_of fed)
+kept_of-run_line scope fed (Heap pages resident) = refl
+kept_of-run_line scope fed (TypeLine name words) = refl
+kept_of-run_line scope fed (Global name ty) = refl
+kept_of-run_line scope fed (Script name) = refl
+kept_of-run_line scope fed (Ptr name at) = refl
+kept_of-run_line scope fed (Num name) = refl
+kept_of-run_line scope fed (New pointer ty) = refl
+kept_of-run_line scope fed (Free pointer) = refl
+kept_of-run_line scope fed (Getn number pointer index) = refl
+kept_of-run_line scope fed (Setn pointer index number) = refl
+kept_of-run_line scope fed (Getp loaded pointer index) = refl
+kept_of-run_line scope fed (Setp pointer index stored) = refl
+kept_of-run_line scope fed (Casp number pointer index expected stored) = refl
+kept_of-run_line scope fed (Lea moved pointer index) = refl
+kept_of-run_line scope fed (Move copied pointer) = refl
+kept_of-run_line scope fed (Clear pointer) = refl
+kept_of-run_line scope fed (Loadg loaded global) = refl
+kept_of-run_line scope fed (Storeg stored global) = refl
+kept_of-run_line scope fed (Same number first second) = refl
+kept_of-run_line scope fed (Isnull number pointer) = refl
+kept_of-run_line scope fed (Show pointer) = refl
+kept_of-run_line scope fed (Const number value) = refl
+kept_of-run_line scope fed (Add number left right) = refl
+kept_of-run_line scope fed (Sub number left right) = refl
+kept_of-run_line scope fed (Print number) = refl
+kept_of-run_line scope fed (Repeat rounds) = refl
+kept_of-run_line scope fed (If number) = refl
+kept_of-run_line scope fed Else = refl
+kept_of-run_line scope fed End = refl
+
+ops-run_line : (scope : Scope) (fed : Fed) (item : Item) → (run_line scope fed item).ops ≡ fed.ops
+ops-run_line scope fed (Heap pages resident) = refl
+ops-run_line scope fed (TypeLine name words) = refl
+ops-run_line scope fed (Global name ty) = refl
+ops-run_line scope fed (Script name) = refl
+ops-run_line scope fed (Ptr name at) = refl
+ops-run_line scope fed (Num name) = refl
+ops-run_line scope fed (New pointer ty) = refl
+ops-run_line scope fed (Free pointer) = refl
+ops-run_line scope fed (Getn number pointer index) = refl
+ops-run_line scope fed (Setn pointer index number) = refl
+ops-run_line scope fed (Getp loaded pointer index) = refl
+ops-run_line scope fed (Setp pointer index stored) = refl
+ops-run_line scope fed (Casp number pointer index expected stored) = refl
+ops-run_line scope fed (Lea moved pointer index) = refl
+ops-run_line scope fed (Move copied pointer) = refl
+ops-run_line scope fed (Clear pointer) = refl
+ops-run_line scope fed (Loadg loaded global) = refl
+ops-run_line scope fed (Storeg stored global) = refl
+ops-run_line scope fed (Same number first second) = refl
+ops-run_line scope fed (Isnull number pointer) = refl
+ops-run_line scope fed (Show pointer) = refl
+ops-run_line scope fed (Const number value) = refl
+ops-run_line scope fed (Add number left right) = refl
+ops-run_line scope fed (Sub number left right) = refl
+ops-run_line scope fed (Print number) = refl
+ops-run_line scope fed (Repeat rounds) = refl
+ops-run_line scope fed (If number) = refl
+ops-run_line scope fed Else = refl
+ops-run_line scope fed End = refl
+
+pub kept_of-with_answer : (scope : Scope) (fed : Fed) (item : Item) (a : Answer)
+    → kept_of (with_answer scope fed item a) ≡ answered (instruction_of scope item) a (kept_of fed)
+kept_of-with_answer scope fed (Heap pages resident) a = refl
+kept_of-with_answer scope fed (TypeLine name words) a = refl
+kept_of-with_answer scope fed (Global name ty) a = refl
+kept_of-with_answer scope fed (Script name) a = refl
+kept_of-with_answer scope fed (Ptr name at) a = refl
+kept_of-with_answer scope fed (Num name) a = refl
+kept_of-with_answer scope fed (New pointer ty) a = refl
+kept_of-with_answer scope fed (Free pointer) a = refl
+kept_of-with_answer scope fed (Getn number pointer index) a = refl
+kept_of-with_answer scope fed (Setn pointer index number) a = refl
+kept_of-with_answer scope fed (Getp loaded pointer index) a = refl
+kept_of-with_answer scope fed (Setp pointer index stored) a = refl
+kept_of-with_answer scope fed (Casp number pointer index expected stored) a = refl
+kept_of-with_answer scope fed (Lea moved pointer index) a = refl
+kept_of-with_answer scope fed (Move copied pointer) a = refl
+kept_of-with_answer scope fed (Clear pointer) a = refl
+kept_of-with_answer scope fed (Loadg loaded global) a = refl
+kept_of-with_answer scope fed (Storeg stored global) a = refl
+kept_of-with_answer scope fed (Same number first second) a = refl
+kept_of-with_answer scope fed (Isnull number pointer) a = refl
+kept_of-with_answer scope fed (Show pointer) a = refl
+kept_of-with_answer scope fed (Const number value) a = refl
+kept_of-with_answer scope fed (Add number left right) a = refl
+kept_of-with_answer scope fed (Sub number left right) a = refl
+kept_of-with_answer scope fed (Print number) a = refl
+kept_of-with_answer scope fed (Repeat rounds) a = refl
+kept_of-with_answer scope fed (If number) a = refl
+kept_of-with_answer scope fed Else a = refl
+kept_of-with_answer scope fed End a = refl
+
+pub ops-with_answer : (scope : Scope) (fed : Fed) (item : Item) (a : Answer) → (with_answer scope fed item a).ops ≡ fed.ops
+ops-with_answer scope fed (Heap pages resident) a = refl
+ops-with_answer scope fed (TypeLine name words) a = refl
+ops-with_answer scope fed (Global name ty) a = refl
+ops-with_answer scope fed (Script name) a = refl
+ops-with_answer scope fed (Ptr name at) a = refl
+ops-with_answer scope fed (Num name) a = refl
+ops-with_answer scope fed (New pointer ty) a = refl
+ops-with_answer scope fed (Free pointer) a = refl
+ops-with_answer scope fed (Getn number pointer index) a = refl
+ops-with_answer scope fed (Setn pointer index number) a = refl
+ops-with_answer scope fed (Getp loaded pointer index) a = refl
+ops-with_answer scope fed (Setp pointer index stored) a = refl
+ops-with_answer scope fed (Casp number pointer index expected stored) a = refl
+ops-with_answer scope fed (Lea moved pointer index) a = refl
+ops-with_answer scope fed (Move copied pointer) a = refl
+ops-with_answer scope fed (Clear pointer) a = refl
+ops-with_answer scope fed (Loadg loaded global) a = refl
+ops-with_answer scope fed (Storeg stored global) a = refl
+ops-with_answer scope fed (Same number first second) a = refl
+ops-with_answer scope fed (Isnull number pointer) a = refl
+ops-with_answer scope fed (Show pointer) a = refl
+ops-with_answer scope fed (Const number value) a = refl
+ops-with_answer scope fed (Add number left right) a = refl
+ops-with_answer scope fed (Sub number left right) a = refl
+ops-with_answer scope fed (Print number) a = refl
+ops-with_answer scope fed (Repeat rounds) a = refl
+ops-with_answer scope fed (If number) a = refl
+ops-with_answer scope fed Else a = refl
+ops-with_answer scope fed End a = refl
+
+-- What is kept of a run, and the operations that were answered before it.
+pub record Agrees (scope : Scope) (fed : Fed) (stopped : Stopped) (ops : List Op) : Type 0 where
+  pub stop : stopped_of scope fed ≡ stopped
+  pub answers : fed.ops ≡ ops
+
+then_run_agrees : (scope : Scope) (fed : Fed) (go : Fed → Fed) (rest : Blocks) (go' : Kept → Stopped)
+    → ((f : Fed) → Agrees scope (go f) (go' (kept_of f)) f.ops)
+    → Agrees scope (then_run fed go rest) (then_ran (stopped_of scope fed) go' (steps_of scope rest)) fed.ops
+then_run_agrees scope fed go rest go' h = by_left fed.left
+  where
+    by_left : (left : Blocks) → Agrees scope (then_run (record fed { left = left }) go rest)
+        (then_ran (stopped_of scope (record fed { left = left })) go' (steps_of scope rest)) fed.ops
+    by_left Done = h (record fed { left = Done })
+    by_left (Line line item left) = record {
+      stop = ap (λ (s : Steps). let at : Stopped = record { left = s; kept = kept_of fed } in at) (steps_of-followed_by scope (Line line item left) rest);
+      answers = refl;
+    }
+    by_left (Rounds rounds body left) = record {
+      stop = ap (λ (s : Steps). let at : Stopped = record { left = s; kept = kept_of fed } in at) (steps_of-followed_by scope (Rounds rounds body left) rest);
+      answers = refl;
+    }
+    by_left (Choice number first second left) = record {
+      stop = ap (λ (s : Steps). let at : Stopped = record { left = s; kept = kept_of fed } in at) (steps_of-followed_by scope (Choice number first second left) rest);
+      answers = refl;
+    }
+
+-- a part that agrees, and then the rest
+then_agrees : (scope : Scope) (fed : Fed) (go : Fed → Fed) (rest : Blocks) (stopped : Stopped) (go' : Kept → Stopped) (ops : List Op)
+    → Agrees scope fed stopped ops
+    → ((f : Fed) → Agrees scope (go f) (go' (kept_of f)) f.ops)
+    → Agrees scope (then_run fed go rest) (then_ran stopped go' (steps_of scope rest)) ops
+then_agrees scope fed go rest stopped go' ops a h =
+    let b = then_run_agrees scope fed go rest go' h in
+    record {
+      stop = b.stop ∙ ap (λ (s : Stopped). then_ran s go' (steps_of scope rest)) a.stop;
+      answers = b.answers ∙ a.answers;
+    }
+
+run_rounds_agrees : (scope : Scope) (rounds : ℕ) (body : Blocks) (go : Fed → Fed) (go' : Kept → Stopped)
+    → ((f : Fed) → Agrees scope (go f) (go' (kept_of f)) f.ops)
+    → (fed : Fed) → Agrees scope (run_rounds rounds body go fed) (ran_rounds rounds (steps_of scope body) go' (kept_of fed)) fed.ops
+run_rounds_agrees scope zero body go go' h fed = record { stop = refl; answers = refl }
+run_rounds_agrees scope (suc more) body go go' h fed =
+    then_agrees scope (go fed) (run_rounds more body go) (Rounds more body Done) (go' (kept_of fed)) (ran_rounds more (steps_of scope body) go') fed.ops
+    (h fed) (run_rounds_agrees scope more body go go' h)
+
+-- The steps stop where the blocks do.
+pub run_agrees : (scope : Scope) (b : Blocks) (fed : Fed) → Agrees scope (run scope b fed) (ran (steps_of scope b) (kept_of fed)) fed.ops
+run_agrees scope Done fed = record { stop = refl; answers = refl }
+run_agrees scope (Line line item rest) fed =
+    by_test (is_some (op_of scope fed item)) (is_some (asked fed.numbers (instruction_of scope item))) (ap (λ (o : Option Op). is_some o) (op_of-asked scope fed item))
+    (let a = run_agrees scope rest (run_line scope fed item) in
+    record {
+      stop = a.stop ∙ ap (ran (steps_of scope rest)) (kept_of-run_line scope fed item);
+      answers = a.answers ∙ ops-run_line scope fed item;
+    })
+  where
+    by_test : (s t : Bool) → s ≡ t
+        → Agrees scope (run scope rest (run_line scope fed item)) (ran (steps_of scope rest) (after_line (instruction_of scope item) (kept_of fed))) fed.ops
+        → Agrees scope (if s then record fed { left = Line line item rest } else run scope rest (run_line scope fed item))
+        (if t then record { left = steps.Line line (instruction_of scope item) (steps_of scope rest); kept = kept_of fed } else ran (steps_of scope rest) (after_line (instruction_of scope item) (kept_of fed)))
+        fed.ops
+    by_test true true e h = record { stop = refl; answers = refl }
+    by_test true false e h = cc
+    by_test false true e h = cc
+    by_test false false e h = h
+run_agrees scope (Rounds rounds body rest) fed =
+    then_agrees scope (run_rounds rounds body (run scope body) fed) (run scope rest) rest
+    (ran_rounds rounds (steps_of scope body) (ran (steps_of scope body)) (kept_of fed)) (ran (steps_of scope rest)) fed.ops
+    (run_rounds_agrees scope rounds body (run scope body) (ran (steps_of scope body)) (run_agrees scope body) fed)
+    (run_agrees scope rest)
+run_agrees scope (Choice number first second rest) fed =
+    then_agrees scope (if number_in scope fed number == 0 then run scope second fed else run scope first fed) (run scope rest) rest
+    (if number_in scope fed number == 0 then ran (steps_of scope second) (kept_of fed) else ran (steps_of scope first) (kept_of fed))
+    (ran (steps_of scope rest)) fed.ops
+    (by_test (number_in scope fed number == 0) (run_agrees scope first fed) (run_agrees scope second fed))
+    (run_agrees scope rest)
+  where
+    by_test : (t : Bool) → Agrees scope (run scope first fed) (ran (steps_of scope first) (kept_of fed)) fed.ops
+        → Agrees scope (run scope second fed) (ran (steps_of scope second) (kept_of fed)) fed.ops
+        → Agrees scope (if t then run scope second fed else run scope first fed)
+        (if t then ran (steps_of scope second) (kept_of fed) else ran (steps_of scope first) (kept_of fed)) fed.ops
+    by_test true f g = g
+    by_test false f g = f

@@ -1,0 +1,65 @@
+-- The parts of a script, with numbers for their names.
+use Rattle.std.proofs.Common.{◌≡◌, ℕ, ◌+◌, ◌-◌, ◌<◌, List, [], ◌∷◌, length, map, drop, refl, ap, sym, ◌∙◌, arith}
+use Rattle.std.specs.Prelude.{slice_index_or, Option, Some, None}
+use Rattle.std.proofs.lemmas.List.{drop_more}
+use Rattle.mk_script.specs.declared.items.Item.{Item}
+use Rattle.mk_script.specs.declared.items.Item.TheVariants.{Heap, TypeLine, Global, Script, Ptr, Num, New, Free, Getn, Setn, Getp, Setp, Casp, Lea, Move, Clear, Loadg, Storeg, Same, Isnull, Show, Const, Add, Sub, Print, Repeat, If, Else, End}
+use Rattle.mk_check.specs.Blocks.{Part, with_line, with_item, parts_from}
+use Rattle.mk_check.specs.Feed.{Scope}
+use Rattle.mk_check.specs.Steps.{Line, instruction_of, element_of}
+use Rattle.mk_check.specs.declared.feeding.instructions.Element.TheVariants as element
+use Rattle.mk_check.specs.Building.{StepPart, part_of, with_element}
+
+line_of_parts : (scope : Scope) (line : ℕ) (item : Item) (parts : List Part)
+    → map (part_of scope) (with_line line item parts) ≡ with_element line (element.Line (instruction_of scope item)) (map (part_of scope) parts)
+line_of_parts scope line item [] = refl
+line_of_parts scope line item (part ∷ parts) = refl
+
+pub part_of-with_item : (scope : Scope) (line : ℕ) (item : Item) (parts : List Part)
+    → map (part_of scope) (with_item line item parts) ≡ with_element line (element_of scope item) (map (part_of scope) parts)
+part_of-with_item scope line (Heap pages resident) parts = line_of_parts scope line (Heap pages resident) parts
+part_of-with_item scope line (TypeLine name words) parts = line_of_parts scope line (TypeLine name words) parts
+part_of-with_item scope line (Global name ty) parts = line_of_parts scope line (Global name ty) parts
+part_of-with_item scope line (Script name) parts = line_of_parts scope line (Script name) parts
+part_of-with_item scope line (Ptr name at) parts = line_of_parts scope line (Ptr name at) parts
+part_of-with_item scope line (Num name) parts = line_of_parts scope line (Num name) parts
+part_of-with_item scope line (New pointer ty) parts = line_of_parts scope line (New pointer ty) parts
+part_of-with_item scope line (Free pointer) parts = line_of_parts scope line (Free pointer) parts
+part_of-with_item scope line (Getn number pointer index) parts = line_of_parts scope line (Getn number pointer index) parts
+part_of-with_item scope line (Setn pointer index number) parts = line_of_parts scope line (Setn pointer index number) parts
+part_of-with_item scope line (Getp loaded pointer index) parts = line_of_parts scope line (Getp loaded pointer index) parts
+part_of-with_item scope line (Setp pointer index stored) parts = line_of_parts scope line (Setp pointer index stored) parts
+part_of-with_item scope line (Casp number pointer index expected stored) parts = line_of_parts scope line (Casp number pointer index expected stored) parts
+part_of-with_item scope line (Lea moved pointer index) parts = line_of_parts scope line (Lea moved pointer index) parts
+part_of-with_item scope line (Move copied pointer) parts = line_of_parts scope line (Move copied pointer) parts
+part_of-with_item scope line (Clear pointer) parts = line_of_parts scope line (Clear pointer) parts
+part_of-with_item scope line (Loadg loaded global) parts = line_of_parts scope line (Loadg loaded global) parts
+part_of-with_item scope line (Storeg stored global) parts = line_of_parts scope line (Storeg stored global) parts
+part_of-with_item scope line (Same number first second) parts = line_of_parts scope line (Same number first second) parts
+part_of-with_item scope line (Isnull number pointer) parts = line_of_parts scope line (Isnull number pointer) parts
+part_of-with_item scope line (Show pointer) parts = line_of_parts scope line (Show pointer) parts
+part_of-with_item scope line (Const number value) parts = line_of_parts scope line (Const number value) parts
+part_of-with_item scope line (Add number left right) parts = line_of_parts scope line (Add number left right) parts
+part_of-with_item scope line (Sub number left right) parts = line_of_parts scope line (Sub number left right) parts
+part_of-with_item scope line (Print number) parts = line_of_parts scope line (Print number) parts
+part_of-with_item scope line (Repeat rounds) [] = refl
+part_of-with_item scope line (Repeat rounds) (body ∷ []) = refl
+part_of-with_item scope line (Repeat rounds) (body ∷ part ∷ parts) = refl
+part_of-with_item scope line (If number) [] = refl
+part_of-with_item scope line (If number) (first ∷ []) = refl
+part_of-with_item scope line (If number) (first ∷ part ∷ parts) = refl
+part_of-with_item scope line Else [] = refl
+part_of-with_item scope line Else (second ∷ parts) = refl
+part_of-with_item scope line End parts = refl
+
+-- the parts from an item are those behind it, with the item before them
+pub parts_from_more : (scope : Scope) (line i next : ℕ) (items : List Item) (item : Item) → i < length items → item ≡ slice_index_or items i item → next ≡ i + 1
+    → with_element (line + i) (element_of scope item) (map (part_of scope) (parts_from (line + next) (drop next items)))
+    ≡ map (part_of scope) (parts_from (line + i) (drop i items))
+parts_from_more scope line i next items item h is more =
+    let e : line + next ≡ (line + i) + 1 = omega arith in
+    let all : drop i items ≡ item ∷ drop (i + 1) items = drop_more items i item h ∙ ap (λ (x : Item). x ∷ drop (i + 1) items) (sym is) in
+    ap (λ (n : ℕ). with_element (line + i) (element_of scope item) (map (part_of scope) (parts_from n (drop next items)))) e
+    ∙ (ap (λ (n : ℕ). with_element (line + i) (element_of scope item) (map (part_of scope) (parts_from ((line + i) + 1) (drop n items)))) more
+    ∙ (sym (part_of-with_item scope (line + i) item (parts_from ((line + i) + 1) (drop (i + 1) items)))
+    ∙ ap (λ (xs : List Item). map (part_of scope) (parts_from (line + i) xs)) (sym all)))

@@ -1,0 +1,33 @@
+use Rattle.std.proofs.Common.{◌≡◌, ℕ, List, ◌++◌, true, refl, ap, sym, ◌∙◌, subst}
+use Rattle.std.specs.Prelude.{Option, is_some}
+use Rattle.std.proofs.lemmas.Result.{IfOk-weaker}
+use Rattle.mk_never.specs.declared.operations.Op.{Op}
+use Rattle.mk_check.specs.declared.feeding.tree.Node.{Node}
+use Rattle.mk_check.specs.declared.feeding.tree.Node.TheVariants as node
+use Rattle.mk_check.specs.Feed.{refusal_line, refusal_text}
+use Rattle.mk_check.specs.Steps.{asked, answered, ran_on}
+use Rattle.mk_check.specs.Trees.{Place, IsTree, node_at, with_kept, kept_in, left_in, stopped_in, HasStopped}
+use Rattle.mk_check.specs.Feeding.{FeedState, IsAtStop, op_of_node, op_in, TakesAnswer}
+use Rattle.mk_check.proofs.Stands.{answer_stands, answer_stops}
+use Rattle.mk_check.proofs.feeding.Feed.answer.Goals as goal
+
+pub returns-clause-ok : goal.returns-clause-ok
+returns-clause-ok c =
+    let nodes = c.self.inside.tree in
+    let p = c.self.inside.running in
+    let before : FeedState = record { nodes = nodes; place = p } in
+    let after : FeedState = record { nodes = nodes; place = c.follow.new.self } in
+    let n = node.Line c.in-Line.line c.in-Line.instruction c.in-Line.next in
+    let here : node_at nodes p.at ≡ n = ap (node_at nodes) (sym c.at.ensures) ∙ sym c.in-Line.ensures.value in
+    let asks : is_some (asked p.numbers c.in-Line.instruction) ≡ true =
+    ap (λ (m : Node). is_some (op_of_node p.numbers m)) (sym here) ∙ (ap (λ (s : FeedState). is_some (op_in s)) c.self.view_is ∙ c.requires) in
+    let starts : c.take.new.self ≡ with_kept (record p { at = c.in-Line.next }) (answered c.in-Line.instruction c.args.answer (record { numbers = p.numbers; text = refusal_line c.in-Line.line (refusal_text c.args.answer) })) =
+    c.in_ok-take.ensures ∙ ap (λ (q : Place). with_kept q (answered c.in-Line.instruction c.args.answer (kept_in q)))
+    (c.in_ok-print_refusal.ensures ∙ ap (λ (q : Place). let later : Place = record q { text = q.text ++ refusal_line c.in-Line.line (refusal_text c.args.answer) } in later) c.in_ok-later.ensures) in
+    let stops = λ (e : c.follow.new.self ≡ record c.run.new.self { text = p.text ++ c.run.new.self.text }).
+    answer_stops nodes p c.take.new.self c.run.new.self c.follow.new.self c.in-Line.line c.in-Line.instruction c.in-Line.next c.args.answer
+    c.in-Line.ensures.tree c.self.invariant.within here starts c.in_ok-run.ensures e in
+    IfOk-weaker c.follow.result (λ _. c.follow.new.self ≡ record c.run.new.self { text = p.text ++ c.run.new.self.text }) (λ _. TakesAnswer c.args.self.now c.args.answer after)
+    (λ _ e. subst (λ (s : FeedState). TakesAnswer s c.args.answer after) c.self.view_is
+    (λ program k answers st. answer_stands program k answers c.args.answer before after c.in-Line.line c.in-Line.instruction c.in-Line.next
+    c.in-Line.ensures.tree c.self.invariant.within here asks (stops e) st)) c.follow.ensures.ok

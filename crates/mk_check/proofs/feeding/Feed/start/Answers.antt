@@ -1,0 +1,32 @@
+use Rattle.std.proofs.Common.{◌≡◌, ℕ, List, [], ◌++◌, length, refl, ap, sym, ◌∙◌, subst}
+use Rattle.std.specs.Prelude.{replicate, codes}
+use Rattle.mk_script.specs.declared.items.Item.{Item}
+use Rattle.mk_check.specs.Blocks.{ScriptText, script_of, blocks_from}
+use Rattle.mk_check.specs.Feed.{Scope, scope_of, begun, newline}
+use Rattle.mk_check.specs.Steps.{steps_of}
+use Rattle.mk_check.specs.Trees.{Place, steps_at, trees}
+use Rattle.mk_check.specs.Feeding.{script_scope}
+use Rattle.mk_check.proofs.Stands.{start_stands, start_stops}
+use Rattle.mk_check.proofs.feeding.Feed.start.Goals as goal
+
+pub returns : goal.returns
+returns c =
+    let program = c.args.program.now in
+    let k = c.args.script in
+    let lines = c.script_at-lines in
+    let scope = script_scope program k in
+    let names : c.in_ok-names.names ≡ scope = c.in_ok-names.ensures ∙ ap (scope_of program) lines.ensures.items in
+    let script : ScriptText = script_of program k in
+    let steps : steps_at (trees c.in_ok-tree.tree) c.in_ok-tree.at ≡ steps_of scope (blocks_from script.line script.items) =
+    c.in_ok-tree.ensures.steps
+    ∙ (ap (λ (s : Scope). steps_of s (blocks_from lines.result.line lines.result.items.now)) names
+    ∙ (ap (λ (l : ℕ). steps_of scope (blocks_from l lines.result.items.now)) lines.ensures.line
+    ∙ ap (λ (xs : List Item). steps_of scope (blocks_from script.line xs)) lines.ensures.items)) in
+    let count : c.numbers.result ≡ length scope.numbers = c.numbers.ensures ∙ ap (λ (s : Scope). length s.numbers) names in
+    let at = c.in_ok-tree.at in
+    let begins : c.in_ok-running.running ≡ record { at = at; frames = []; numbers = (begun scope script).numbers; text = (begun scope script).text } =
+    c.in_ok-running.ensures
+    ∙ (ap (λ (n : ℕ). let p : Place = record { at = at; frames = []; numbers = replicate n 0; text = codes "script " ++ (lines.result.name.now ++ newline) } in p) count
+    ∙ ap (λ (name : List ℕ). let p : Place = record { at = at; frames = []; numbers = (begun scope script).numbers; text = codes "script " ++ (name ++ newline) } in p) lines.ensures.name) in
+    start_stands program k (record { nodes = c.in_ok-tree.tree; place = c.run.new.self })
+    (start_stops c.in_ok-tree.tree scope script c.in_ok-tree.at c.in_ok-running.running c.run.new.self steps begins c.in_ok-run.ensures)

@@ -1,0 +1,37 @@
+use Rattle.std.proofs.Common.{◌≡◌, ℕ, ◌<◌, List, [], ◌∷◌, ◌++◌, length, ap, sym, ◌∙◌, subst, refl, IfOk}
+use Rattle.std.proofs.lemmas.Result.{IfOk-weaker}
+use Rattle.mk_check.specs.declared.feeding.instructions.Element.TheVariants as element
+use Rattle.mk_check.specs.declared.feeding.tree.Node.{Node}
+use Rattle.mk_check.specs.declared.feeding.tree.Node.TheVariants as node
+use Rattle.mk_check.specs.declared.feeding.building.Part.{Part}
+use Rattle.mk_check.specs.Building.{Built, grown, with_part, Adds}
+use Rattle.mk_check.proofs.Builds.{popped, if_added}
+use Rattle.mk_check.proofs.feeding.building.Builder.add_if.Goals as goal
+
+pub grow-requires : goal.grow-requires
+grow-requires c =
+    let b = c.args.self.now in
+    let inner = c.in-Some.branches in
+    let part = c.in-Some-pop.part in
+    let parts = c.pop-2.new.self.items in
+    let was : b.parts ≡ (parts ++ part ∷ []) ++ inner ∷ [] =
+    sym (ap (λ (x : Built). x.parts) c.self.view_is) ∙ (c.in-Some.ensures.items ∙ ap (λ (ps : List Part). ps ++ inner ∷ []) c.in-Some-pop.ensures.items) in
+    let p = popped b inner (parts ++ part ∷ []) c.requires was in
+    let q = popped (record b { parts = parts ++ part ∷ [] }) part parts p.0 refl in
+    let nodes : b.nodes ≡ c.self.inside.tree = sym (ap (λ (x : Built). x.nodes) c.self.view_is) in
+    let below : (j : ℕ) → j < length b.nodes → j < length c.self.inside.tree = λ j h. subst (λ (ns : List Node). j < length ns) nodes h in
+    (below inner.steps p.1, below inner.second p.2, below part.steps q.1)
+
+pub returns : goal.returns
+returns c =
+    let b = c.args.self.now in
+    let inner = c.in-Some.branches in
+    let part = c.in-Some-pop.part in
+    let parts = c.pop-2.new.self.items in
+    let was : b.parts ≡ (parts ++ part ∷ []) ++ inner ∷ [] =
+    sym (ap (λ (x : Built). x.parts) c.self.view_is) ∙ (c.in-Some.ensures.items ∙ ap (λ (ps : List Part). ps ++ inner ∷ []) c.in-Some-pop.ensures.items) in
+    let n = node.Choice c.args.number inner.steps inner.second part.steps in
+    let new = λ (ns : List Node). grown (record { nodes = ns; parts = parts }) n part.second in
+    IfOk-weaker c.grow.result (λ _. c.grow.new.self ≡ new c.self.inside.tree) (λ _. Adds c.args.line (element.If c.args.number) b c.grow.new.self)
+    (λ _ e. subst (λ (x : Built). Adds c.args.line (element.If c.args.number) b x)
+    (sym (e ∙ ap (λ (x : Built). new x.nodes) c.self.view_is)) (if_added b parts part inner c.args.line c.args.number c.requires was)) c.grow.ensures

@@ -1,0 +1,13 @@
+use Rattle.std.proofs.Common.{◌≡◌, length}
+use Rattle.mk_check.specs.Steps.{ran}
+use Rattle.mk_check.specs.Trees.{Place, kept_in, left_in, IsWithin, work_in}
+use Rattle.mk_check.proofs.feeding.running.Running.run.Given as goal
+
+abbrev pub invariant-loop : goal.invariant-loop
+invariant-loop l = record {
+  within : IsWithin (length l.tree) l.self;
+  run : ran (left_in l.tree l.self) (kept_in l.self) ≡ ran (left_in l.tree l.initial.self) (kept_in l.initial.self);
+}
+
+abbrev pub decreases-loop : goal.decreases-loop
+decreases-loop l = work_in l.tree l.self

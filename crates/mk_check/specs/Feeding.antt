@@ -1,0 +1,57 @@
+-- What a script that is fed stands for.
+use Rattle.std.specs.Prelude.{◌≡◌, ℕ, ◌++◌, List, [], ◌∷◌, length, Option, Some, None}
+use Rattle.mk_never.specs.declared.operations.Op.{Op}
+use Rattle.mk_core.specs.declared.events.Answer.{Answer}
+use Rattle.mk_script.specs.declared.items.Item.{Item}
+use Rattle.mk_check.specs.declared.feeding.tree.Node.{Node}
+use Rattle.mk_check.specs.declared.feeding.tree.Node.TheVariants as node
+use Rattle.mk_check.specs.Blocks.{Blocks, Done, Line, Rounds, Choice, script_of}
+use Rattle.mk_check.specs.Feed.{Scope, Fed, op_of, scope_of, feed}
+use Rattle.mk_check.specs.Steps.{asked, steps_of}
+use Rattle.mk_check.specs.Trees.{Place, left_in, node_at, IsWithin, StopsAt}
+
+-- the nodes of a script, and where it is
+pub record FeedState : Type 0 where
+  pub nodes : List Node
+  pub place : Place
+
+-- it is at an operation or at its end
+pub record IsAtStop (s : FeedState) : Type 0 where
+  pub within : IsWithin (length s.nodes) s.place
+  pub stops : StopsAt (node_at s.nodes s.place.at) s.place
+
+abbrev pub op_of_node : List ℕ → Node → Option Op
+op_of_node numbers node.Done = None
+op_of_node numbers (node.Line line instruction next) = asked numbers instruction
+op_of_node numbers (node.Rounds rounds body next) = None
+op_of_node numbers (node.Choice number first second next) = None
+
+-- the operation that it is at
+abbrev pub op_in : FeedState → Option Op
+op_in s = op_of_node s.place.numbers (node_at s.nodes s.place.at)
+
+abbrev pub first_op : Scope → Fed → Blocks → Option Op
+first_op scope fed Done = None
+first_op scope fed (Line line item rest) = op_of scope fed item
+first_op scope fed (Rounds rounds body rest) = None
+first_op scope fed (Choice number first second rest) = None
+
+abbrev pub script_scope : List Item → ℕ → Scope
+script_scope program k = scope_of program (script_of program k).items
+
+-- the operation that script k of a program asks for, once it was fed with these answers
+abbrev pub next_op : List Item → ℕ → List Answer → Option Op
+next_op program k answers = first_op (script_scope program k) (feed program k answers) (feed program k answers).left
+
+-- Script k of a program, fed with these answers: it takes them all, and has what the script then has. Names are
+-- numbers in what is left.
+pub record StandsFor (program : List Item) (k : ℕ) (s : FeedState) (answers : List Answer) : Type 0 where
+  pub taken : length (feed program k answers).ops ≡ length answers
+  pub left : left_in s.nodes s.place ≡ steps_of (script_scope program k) (feed program k answers).left
+  pub numbers : s.place.numbers ≡ (feed program k answers).numbers
+  pub text : s.place.text ≡ (feed program k answers).text
+
+-- Whatever the first stands for, the second stands for that with the answer behind it.
+abbrev pub TakesAnswer : FeedState → Answer → FeedState → Type 0
+TakesAnswer old answer new = (program : List Item) (k : ℕ) (answers : List Answer)
+    → StandsFor program k old answers → StandsFor program k new (answers ++ answer ∷ [])

@@ -1,0 +1,166 @@
+-- A script with numbers for its names, and what it does. It is the script of the definitions in Feed, with less to look up.
+use Rattle.std.specs.Prelude.{ℕ, zero, suc, ◌+◌, ◌-◌, ◌%◌, ◌^◌, Bool, true, false, List, [], ◌∷◌, ◌++◌, slice_index, slice_set, ◌==◌, if◌then◌else◌, Option, Some, None, is_some}
+use Rattle.std.specs.Fmt.{decimal}
+use Rattle.mk_never.specs.declared.operations.Op.{Op}
+use Rattle.mk_never.specs.declared.operations.Op.TheVariants as op
+use Rattle.mk_core.specs.declared.events.Answer.{Answer}
+use Rattle.mk_script.specs.declared.items.Item.{Item}
+use Rattle.mk_script.specs.declared.items.Item.TheVariants as item
+use Rattle.mk_check.specs.declared.feeding.instructions.Instruction.{Instruction}
+use Rattle.mk_check.specs.declared.feeding.instructions.Instruction.TheVariants.{Nothing, Const, Add, Sub, Print, Ask, Store, Load, Show}
+use Rattle.mk_check.specs.declared.feeding.instructions.Element.{Element}
+use Rattle.mk_check.specs.declared.feeding.instructions.Element.TheVariants as element
+use Rattle.mk_check.specs.Declarations.{place_of}
+use Rattle.mk_check.specs.Blocks.{Blocks}
+use Rattle.mk_check.specs.Blocks as blocks
+use Rattle.mk_check.specs.Feed.{Scope, Fed, pointer_place, newline, refusal_line, refusal_text, number_of, shown}
+
+-- Lines to run, as Blocks has them.
+pub data Steps : Type 0 where
+  Done : Steps
+  Line : (line : ℕ) → Instruction → Steps → Steps
+  Rounds : (rounds : ℕ) → (body : Steps) → Steps → Steps
+  Choice : (number : ℕ) → (first second : Steps) → Steps → Steps
+
+-- the steps of the first, and then those of the second
+abbrev pub then_steps : Steps → Steps → Steps
+then_steps Done more = more
+then_steps (Line line instruction rest) more = Line line instruction (then_steps rest more)
+then_steps (Rounds rounds body rest) more = Rounds rounds body (then_steps rest more)
+then_steps (Choice number first second rest) more = Choice number first second (then_steps rest more)
+
+abbrev pub none_left : Steps → Bool
+none_left Done = true
+none_left (Line line instruction rest) = false
+none_left (Rounds rounds body rest) = false
+none_left (Choice number first second rest) = false
+
+abbrev pub number_place : Scope → List ℕ → ℕ
+number_place scope name = place_of name scope.numbers
+
+-- the operation of an instruction that keeps no number
+abbrev pub op_among : Scope → Item → Option Op
+op_among scope (item.New pointer ty) = Some (op.New (pointer_place scope pointer) (place_of ty scope.types) false)
+op_among scope (item.Free pointer) = Some (op.Free (pointer_place scope pointer))
+op_among scope (item.Getp loaded pointer index) = Some (op.GetPtr (pointer_place scope loaded) (pointer_place scope pointer) index)
+op_among scope (item.Setp pointer index stored) = Some (op.SetPtr (pointer_place scope pointer) index (pointer_place scope stored))
+op_among scope (item.Lea moved pointer index) = Some (op.Lea (pointer_place scope moved) (pointer_place scope pointer) index)
+op_among scope (item.Move copied pointer) = Some (op.Move (pointer_place scope copied) (pointer_place scope pointer))
+op_among scope (item.Clear pointer) = Some (op.Clear (pointer_place scope pointer))
+op_among scope (item.Loadg loaded global) = Some (op.GetGlobal (pointer_place scope loaded) (place_of global scope.globals))
+op_among scope (item.Storeg stored global) = Some (op.SetGlobal (place_of global scope.globals) (pointer_place scope stored))
+op_among scope other = None
+
+-- one that keeps a number
+abbrev pub load_among : Scope → Item → Option Instruction
+load_among scope (item.Getn number pointer index) = Some (Load (number_place scope number) (op.GetNum (pointer_place scope pointer) index))
+load_among scope (item.Casp number pointer index expected stored) = Some (Load (number_place scope number) (op.CasPtr (pointer_place scope pointer) index (pointer_place scope expected) (pointer_place scope stored)))
+load_among scope (item.Same number first second) = Some (Load (number_place scope number) (op.Same (pointer_place scope first) (pointer_place scope second)))
+load_among scope (item.Isnull number pointer) = Some (Load (number_place scope number) (op.IsNull (pointer_place scope pointer)))
+load_among scope other = None
+
+abbrev pub or_asking : Option Instruction → Option Op → Instruction
+or_asking (Some instruction) o = instruction
+or_asking None (Some o) = Ask o
+or_asking None None = Nothing
+
+abbrev pub instruction_of : Scope → Item → Instruction
+instruction_of scope (item.Setn pointer index number) = Store (pointer_place scope pointer) index (number_place scope number)
+instruction_of scope (item.Show pointer) = Show (pointer_place scope pointer)
+instruction_of scope (item.Const number value) = Const (number_place scope number) value
+instruction_of scope (item.Add number left right) = Add (number_place scope number) (number_place scope left) (number_place scope right)
+instruction_of scope (item.Sub number left right) = Sub (number_place scope number) (number_place scope left) (number_place scope right)
+instruction_of scope (item.Print number) = Print (number_place scope number)
+instruction_of scope other = or_asking (load_among scope other) (op_among scope other)
+
+abbrev pub element_of : Scope → Item → Element
+element_of scope (item.Repeat rounds) = element.Repeat rounds
+element_of scope (item.If number) = element.If (number_place scope number)
+element_of scope item.Else = element.Else
+element_of scope item.End = element.End
+element_of scope other = element.Line (instruction_of scope other)
+
+-- the blocks with numbers for their names
+abbrev pub steps_of : Scope → Blocks → Steps
+steps_of scope blocks.Done = Done
+steps_of scope (blocks.Line line item rest) = Line line (instruction_of scope item) (steps_of scope rest)
+steps_of scope (blocks.Rounds rounds body rest) = Rounds rounds (steps_of scope body) (steps_of scope rest)
+steps_of scope (blocks.Choice number first second rest) =
+    Choice (number_place scope number) (steps_of scope first) (steps_of scope second) (steps_of scope rest)
+
+-- the number registers, and the text so far
+pub record Kept : Type 0 where
+  pub numbers : List ℕ
+  pub text : List ℕ
+
+pub record Stopped : Type 0 where
+  pub left : Steps
+  pub kept : Kept
+
+-- the operation that an instruction asks for
+abbrev pub asked : List ℕ → Instruction → Option Op
+asked numbers Nothing = None
+asked numbers (Const number value) = None
+asked numbers (Add number left right) = None
+asked numbers (Sub number left right) = None
+asked numbers (Print number) = None
+asked numbers (Ask o) = Some o
+asked numbers (Store q i number) = Some (op.SetNum q i (slice_index numbers number))
+asked numbers (Load number o) = Some o
+asked numbers (Show p) = Some (op.IsNull p)
+
+abbrev pub with_value : Kept → ℕ → ℕ → Kept
+with_value kept number value = record kept { numbers = slice_set kept.numbers number value }
+
+abbrev pub with_text : Kept → List ℕ → Kept
+with_text kept text = record kept { text = kept.text ++ text }
+
+-- what another instruction does
+abbrev pub after_line : Instruction → Kept → Kept
+after_line Nothing kept = kept
+after_line (Const number value) kept = with_value kept number value
+after_line (Add number left right) kept =
+    with_value kept number ((slice_index kept.numbers left + slice_index kept.numbers right) % 2 ^ 64)
+after_line (Sub number left right) kept =
+    with_value kept number ((2 ^ 64 + slice_index kept.numbers left - slice_index kept.numbers right) % 2 ^ 64)
+after_line (Print number) kept = with_text kept (decimal (slice_index kept.numbers number) ++ newline)
+after_line (Ask o) kept = kept
+after_line (Store q i number) kept = kept
+after_line (Load number o) kept = kept
+after_line (Show p) kept = kept
+
+abbrev pub then_ran : Stopped → (Kept → Stopped) → Steps → Stopped
+then_ran stopped go rest = if none_left stopped.left then go stopped.kept else record stopped { left = then_steps stopped.left rest }
+
+abbrev pub ran_rounds : ℕ → Steps → (Kept → Stopped) → Kept → Stopped
+ran_rounds zero body go kept = record { left = Done; kept = kept }
+ran_rounds (suc more) body go kept = then_ran (go kept) (ran_rounds more body go) (Rounds more body Done)
+
+-- where the steps stop: at the first operation, or at their end
+abbrev pub ran : Steps → Kept → Stopped
+ran Done kept = record { left = Done; kept = kept }
+ran (Line line instruction rest) kept =
+    if is_some (asked kept.numbers instruction) then record { left = Line line instruction rest; kept = kept } else ran rest (after_line instruction kept)
+ran (Rounds rounds body rest) kept = then_ran (ran_rounds rounds body (ran body) kept) (ran rest) rest
+ran (Choice number first second rest) kept =
+    then_ran (if slice_index kept.numbers number == 0 then ran second kept else ran first kept) (ran rest) rest
+
+-- the instruction takes its answer
+abbrev pub answered : Instruction → Answer → Kept → Kept
+answered Nothing a kept = kept
+answered (Const number value) a kept = kept
+answered (Add number left right) a kept = kept
+answered (Sub number left right) a kept = kept
+answered (Print number) a kept = kept
+answered (Ask o) a kept = kept
+answered (Store q i number) a kept = kept
+answered (Load number o) a kept = with_value kept number (number_of a)
+answered (Show p) a kept = with_text kept (shown (number_of a))
+
+-- where the steps stop that begin with an instruction which is answered
+abbrev pub ran_on : Steps → Answer → Kept → Stopped
+ran_on Done a kept = record { left = Done; kept = kept }
+ran_on (Line line instruction rest) a kept =
+    ran rest (answered instruction a (with_text kept (refusal_line line (refusal_text a))))
+ran_on (Rounds rounds body rest) a kept = record { left = Rounds rounds body rest; kept = kept }
+ran_on (Choice number first second rest) a kept = record { left = Choice number first second rest; kept = kept }

@@ -1,0 +1,131 @@
+-- What the nodes of a tree stand for, and where a script is in it.
+use Rattle.std.specs.Prelude.{◌≡◌, ℕ, zero, suc, ◌+◌, ◌*◌, ◌-◌, ◌<◌, ◌++◌, ◌==◌, max, Bool, true, false, List, [], ◌∷◌, length, fold, slice_index, slice_index_or, if◌then◌else◌, Option, Some, None, is_some}
+use Rattle.mk_never.specs.declared.operations.Op.{Op}
+use Rattle.mk_check.specs.declared.feeding.tree.Node.{Node}
+use Rattle.mk_check.specs.declared.feeding.tree.Node.TheVariants as node
+use Rattle.mk_check.specs.declared.feeding.tree.Frame.{Frame}
+use Rattle.mk_check.specs.declared.feeding.tree.Frame.TheVariants as frame
+use Rattle.mk_check.specs.Steps.{Steps, Done, Line, Rounds, Choice, then_steps, Kept, Stopped, asked, ran}
+
+-- the steps from a node; from one that isn't there, none
+abbrev pub steps_at : List Steps → ℕ → Steps
+steps_at built at = slice_index_or built at Done
+
+-- the steps of a node, where these are built of the nodes before it
+abbrev pub steps_from : List Steps → Node → Steps
+steps_from built node.Done = Done
+steps_from built (node.Line line instruction next) = Line line instruction (steps_at built next)
+steps_from built (node.Rounds rounds body next) = Rounds rounds (steps_at built body) (steps_at built next)
+steps_from built (node.Choice number first second next) = Choice number (steps_at built first) (steps_at built second) (steps_at built next)
+
+abbrev pub with_node : List Steps → Node → List Steps
+with_node built n = built ++ steps_from built n ∷ []
+
+-- the steps from each node
+abbrev pub trees : List Node → List Steps
+trees nodes = fold with_node [] nodes
+
+-- the node names nodes before this place alone
+abbrev pub IsBelow : ℕ → Node → Type 0
+IsBelow place node.Done = Unit {0}
+IsBelow place (node.Line line instruction next) = next < place
+IsBelow place (node.Rounds rounds body next) = (body < place) × (next < place)
+IsBelow place (node.Choice number first second next) = (first < place) × (second < place) × (next < place)
+
+abbrev pub node_at : List Node → ℕ → Node
+node_at nodes at = slice_index_or nodes at node.Done
+
+abbrev pub IsTree : List Node → Type 0
+IsTree nodes = (at : ℕ) → at < length nodes → IsBelow at (node_at nodes at)
+
+-- A script's node, its open blocks, the outermost first, its number registers, and its text so far.
+pub record Place : Type 0 where
+  pub at : ℕ
+  pub frames : List Frame
+  pub numbers : List ℕ
+  pub text : List ℕ
+
+-- the steps of an open block, before those behind it
+abbrev pub frame_steps : List Steps → Steps → Frame → Steps
+frame_steps built behind (frame.Rounds rounds body next) = Rounds rounds (steps_at built body) (then_steps (steps_at built next) behind)
+frame_steps built behind (frame.Branch next) = then_steps (steps_at built next) behind
+
+abbrev pub behind_frames : List Steps → List Frame → Steps
+behind_frames built frames = fold (frame_steps built) Done frames
+
+-- what is left to run
+abbrev pub left_in : List Node → Place → Steps
+left_in nodes p = then_steps (steps_at (trees nodes) p.at) (behind_frames (trees nodes) p.frames)
+
+abbrev pub kept_in : Place → Kept
+kept_in p = record { numbers = p.numbers; text = p.text }
+
+abbrev pub with_kept : Place → Kept → Place
+with_kept p kept = record p { numbers = kept.numbers; text = kept.text }
+
+abbrev pub stopped_in : List Node → Place → Stopped
+stopped_in nodes p = record { left = left_in nodes p; kept = kept_in p }
+
+abbrev pub FrameIsWithin : ℕ → Frame → Type 0
+FrameIsWithin count (frame.Rounds rounds body next) = (body < count) × (next < count)
+FrameIsWithin count (frame.Branch next) = next < count
+
+abbrev pub FramesAreWithin : ℕ → List Frame → Type 0
+FramesAreWithin count [] = Unit {0}
+FramesAreWithin count (f ∷ frames) = FrameIsWithin count f × FramesAreWithin count frames
+
+-- it names nodes of so many alone
+pub record IsWithin (count : ℕ) (p : Place) : Type 0 where
+  pub at : p.at < count
+  pub frames : FramesAreWithin count p.frames
+
+-- the script stops at the node: at an operation, or at its end
+abbrev pub StopsAt : Node → Place → Type 0
+StopsAt node.Done p = p.frames ≡ []
+StopsAt (node.Line line instruction next) p = is_some (asked p.numbers instruction) ≡ true
+StopsAt (node.Rounds rounds body next) p = ⊥
+StopsAt (node.Choice number first second next) p = ⊥
+
+-- a `repeat` begins, or goes on, with so many rounds left
+abbrev pub entered : Place → ℕ → ℕ → ℕ → Place
+entered p zero body next = record p { at = next }
+entered p (suc more) body next = record p { at = body; frames = p.frames ++ frame.Rounds more body next ∷ [] }
+
+-- an open block ends, which is no longer among the frames
+abbrev pub left_block : Place → Frame → Place
+left_block p (frame.Rounds rounds body next) = entered p rounds body next
+left_block p (frame.Branch next) = record p { at = next }
+
+-- an `if` begins
+abbrev pub branched : Place → ℕ → ℕ → ℕ → ℕ → Place
+branched p number first second next =
+    record p { at = if slice_index p.numbers number == 0 then second else first; frames = p.frames ++ frame.Branch next ∷ [] }
+
+-- the innermost block is left
+pub record LeavesBlock (old new : Place) : Type 0 where
+  pub frame : Frame
+  pub frames : List Frame
+  pub was : old.frames ≡ frames ++ frame ∷ []
+  pub is : new ≡ left_block (record old { frames = frames }) frame
+
+-- at least how many moves are left
+abbrev pub work_of : Steps → ℕ
+work_of Done = 0
+work_of (Line line instruction rest) = 1 + work_of rest
+work_of (Rounds rounds body rest) = 1 + (rounds * (1 + work_of body) + work_of rest)
+work_of (Choice number first second rest) = 1 + (max (work_of first) (work_of second) + work_of rest)
+
+abbrev pub work_in : List Node → Place → ℕ
+work_in nodes p = 2 * work_of (left_in nodes p) + length p.frames
+
+-- The place moves on, and stops where it would have stopped.
+pub record GoesOn (nodes : List Node) (old new : Place) : Type 0 where
+  pub within : IsWithin (length nodes) new
+  pub run : ran (left_in nodes new) (kept_in new) ≡ ran (left_in nodes old) (kept_in old)
+  pub nearer : work_in nodes new < work_in nodes old
+
+-- The place is where the steps stop.
+pub record HasStopped (nodes : List Node) (old new : Place) : Type 0 where
+  pub within : IsWithin (length nodes) new
+  pub at : StopsAt (node_at nodes new.at) new
+  pub run : stopped_in nodes new ≡ ran (left_in nodes old) (kept_in old)

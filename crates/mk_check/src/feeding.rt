@@ -1,0 +1,107 @@
+//! A script that is fed with answers.
+ghost use Rattle.std.specs.Prelude.{◌≡◌, ◌<◌, ◌↔◌, [], length, IsTrue, IsSome, IsNone, IfOk, OnOk, OnErr};
+ghost use Rattle.mk_script.specs.Scopes.{script_names};
+
+mod building;
+mod instructions;
+mod names;
+mod running;
+mod scripts;
+mod tree;
+
+use building::tree_of;
+use mk_core::Answer;
+use mk_never::{NoMemory, Op};
+use mk_script::Item;
+use names::Names;
+use running::Running;
+use scripts::script_at;
+use std::alloc::Global;
+use std::marker::Model;
+use tree::{Node, Tree};
+
+/// A script of a program that runs on given answers: it is at an operation that waits for its answer,
+/// or at its end.
+#[derive(Drop)]
+pub struct Feed {
+    tree: Tree,
+    running: Running,
+}
+
+impl Model for Feed {
+    ghost use Rattle.mk_check.specs.Feeding.{FeedState, IsAtStop};
+
+    ghost Value = { FeedState };
+
+    ghost view = { λ f. record { nodes = f.tree; place = f.running } };
+
+    ghost invariant = { λ f. IsAtStop (record { nodes = f.tree; place = f.running }) };
+}
+
+impl Feed {
+    ghost use Rattle.std.specs.Prelude.{ℕ, List};
+    ghost use Rattle.mk_core.specs.declared.events.Answer.{Answer};
+    ghost use Rattle.mk_script.specs.declared.items.Item.{Item};
+    ghost use Rattle.mk_check.specs.Feed.{feed, has_ended};
+    ghost use Rattle.mk_check.specs.NamesInScope.{HasFew};
+    ghost use Rattle.mk_check.specs.Feeding.{script_scope, op_in, next_op, StandsFor, TakesAnswer};
+
+    /// Script `script` of a program, from 0 on, which has no answer yet.
+    pub fn start(alloc: Global, program: &[Item], script: u64) -> Result<Feed, NoMemory>
+        requires exists { script < length (script_names program.now) }
+        requires few { HasFew (script_scope program.now script) }
+        ensures { IfOk result (λ f. StandsFor program.now script f []) }
+    {
+        let lines = script_at(program, script);
+        let names = Names::of(alloc, program, lines.items)?;
+        let (tree, at) = tree_of(alloc, &names, lines.line, lines.items)?;
+        let mut running = Running::begin(alloc, at, names.numbers(), lines.name)?;
+        running.run(alloc, &tree)?;
+        Ok(Feed { tree, running })
+    }
+
+    /// The operation that waits for its answer, with `full` false in a `New`; none at the end.
+    pub fn op(&self) -> Option<Op>
+        ensures value { result ≡ op_in self.now }
+        ensures next { (program : List Item) (k : ℕ) (answers : List Answer)
+            → StandsFor program k self.now answers → result ≡ next_op program k answers }
+        ensures none { (program : List Item) (k : ℕ) (answers : List Answer)
+            → StandsFor program k self.now answers
+            → IsNone result ↔ IsTrue (has_ended (feed program k answers)) }
+    {
+        match self.tree.node(self.running.at()) {
+            Node::Line { instruction, .. } => self.running.asked(instruction),
+            _ => None,
+        }
+    }
+
+    /// Answers the operation that waits, and runs on to the next, or to the end.
+    pub fn answer(&mut self, alloc: Global, answer: Answer) -> Result<(), NoMemory>
+        requires { IsSome (op_in self.old) }
+        ensures ok { OnOk result (TakesAnswer self.old answer self.new) }
+        ensures err { OnErr result (self.new ≡ self.old) }
+    {
+        let Node::Line {
+            line,
+            instruction,
+            next,
+        } = self.tree.node(self.running.at())
+        else {
+            unreachable!()
+        };
+        // A copy runs on, so that no memory leaves the script as it was.
+        let mut later = self.running.copy_at(alloc, next)?;
+        later.print_refusal(alloc, line, answer)?;
+        later.take(instruction, answer)?;
+        later.run(alloc, &self.tree)?;
+        self.running.follow(later)
+    }
+
+    /// The text so far.
+    pub fn text(&self) -> &[u8]
+        ensures { (program : List Item) (k : ℕ) (answers : List Answer)
+            → StandsFor program k self.now answers → result.now ≡ (feed program k answers).text }
+    {
+        self.running.text()
+    }
+}

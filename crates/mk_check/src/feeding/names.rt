@@ -1,0 +1,324 @@
+//! Names of a program and of one of its scripts, with their numbers.
+ghost use Rattle.std.specs.Prelude.{◌≡◌, ◌+◌, ◌<◌, ◌≤◌, ◌^◌, length, map, IfOk};
+ghost use Rattle.std.specs.Option.{option_copied};
+ghost use Rattle.mk_check.specs.Declarations.{place_of};
+ghost use Rattle.mk_check.specs.NamesInScope.{declared_name, names_of, now_of};
+ghost use Rattle.mk_check.specs.Feed.{scope_of};
+ghost use Rattle.mk_check.specs.Steps.{instruction_of, number_place};
+
+use crate::feeding::instructions::{Element, Instruction};
+use mk_never::{NoMemory, Op};
+use mk_script::{Item, Name};
+use std::alloc::Global;
+use std::marker::Model;
+
+/// What a name is declared to be.
+#[derive(Clone, Copy)]
+pub enum Sort {
+    Type,
+    Global,
+    Pointer,
+    Number,
+}
+
+fn declared(sort: Sort, item: &Item) -> Option<&Name>
+    ensures { option_copied result ≡ declared_name sort item.now }
+{
+    match (sort, item) {
+        (Sort::Type, Item::TypeLine { name, .. })
+        | (Sort::Global, Item::Global { name, .. })
+        | (Sort::Pointer, Item::Ptr { name, .. })
+        | (Sort::Number, Item::Num { name }) => Some(name),
+        _ => None,
+    }
+}
+
+/// The names of a sort, in the order of their lines.
+fn names_among(alloc: Global, sort: Sort, items: &[Item]) -> Result<Vec<&Name>, NoMemory>
+    ensures { IfOk result (λ names. now_of names.items ≡ names_of sort items.now) }
+{
+    let mut names = Vec::new(alloc);
+    for item in items {
+        if let Some(name) = declared(sort, item) {
+            let Ok(()) = names.push(name) else {
+                return Err(NoMemory);
+            };
+        }
+    }
+    Ok(names)
+}
+
+/// The place of a name; behind all of them, where it isn't among them.
+fn place_among(names: &[&Name], name: &Name) -> usize
+    ensures value { result ≡ place_of name.now (now_of names.now) }
+    ensures within { result ≤ length names.now }
+{
+    for (index, other) in names.iter().enumerate() {
+        if name.is(other) {
+            return index;
+        }
+    }
+    names.len()
+}
+
+/// The names that a script may use.
+#[derive(Drop)]
+pub struct Names<'a> {
+    types: Vec<&'a Name>,
+    globals: Vec<&'a Name>,
+    pointers: Vec<&'a Name>,
+    numbers: Vec<&'a Name>,
+}
+
+impl<'a> Model for Names<'a> {
+    ghost use Rattle.mk_check.specs.Feed.{Scope};
+    ghost use Rattle.mk_check.specs.NamesInScope.{now_of};
+
+    ghost Value = { Scope };
+
+    ghost view = { λ n. record {
+        types = now_of n.types.items;
+        globals = now_of n.globals.items;
+        pointers = now_of n.pointers.items;
+        numbers = now_of n.numbers.items } };
+}
+
+impl<'a> Names<'a> {
+    ghost use Rattle.mk_check.specs.NamesInScope.{HasFew};
+    ghost use Rattle.mk_check.specs.Feed.{pointer_place};
+    ghost use Rattle.mk_check.specs.Steps.{op_among, load_among, or_asking, element_of};
+
+    pub fn of(alloc: Global, program: &'a [Item], script: &'a [Item]) -> Result<Names<'a>, NoMemory>
+        ensures { IfOk result (λ names. names ≡ scope_of program.now script.now) }
+    {
+        Ok(Names {
+            types: names_among(alloc, Sort::Type, program)?,
+            globals: names_among(alloc, Sort::Global, program)?,
+            pointers: names_among(alloc, Sort::Pointer, script)?,
+            numbers: names_among(alloc, Sort::Number, script)?,
+        })
+    }
+
+    /// How many number registers there are.
+    pub fn numbers(&self) -> usize
+        ensures { result ≡ length self.now.numbers }
+    {
+        self.numbers.len()
+    }
+
+    fn ty(&self, name: &Name) -> u64
+        ensures { result ≡ place_of name.now self.now.types }
+    {
+        place_among(&self.types, name) as u64
+    }
+
+    fn global(&self, name: &Name) -> u8
+        requires { HasFew self.now }
+        ensures { result ≡ place_of name.now self.now.globals }
+    {
+        place_among(&self.globals, name) as u8
+    }
+
+    fn pointer(&self, name: &Name) -> u8
+        requires { HasFew self.now }
+        ensures { result ≡ pointer_place self.now name.now }
+    {
+        place_among(&self.pointers, name) as u8
+    }
+
+    fn number(&self, name: &Name) -> usize
+        ensures { result ≡ number_place self.now name.now }
+    {
+        place_among(&self.numbers, name)
+    }
+
+    /// The operation of an instruction that keeps no number.
+    fn op(&self, item: &Item) -> Option<Op>
+        requires { HasFew self.now }
+        ensures { result ≡ op_among self.now item.now }
+    {
+        let op = match item {
+            Item::New { pointer, ty } => Op::New {
+                d: self.pointer(pointer),
+                ty: self.ty(ty),
+                full: false,
+            },
+            Item::Free { pointer } => Op::Free {
+                p: self.pointer(pointer),
+            },
+            Item::Getp {
+                loaded,
+                pointer,
+                index,
+            } => Op::GetPtr {
+                d: self.pointer(loaded),
+                q: self.pointer(pointer),
+                i: *index,
+            },
+            Item::Setp {
+                pointer,
+                index,
+                stored,
+            } => Op::SetPtr {
+                q: self.pointer(pointer),
+                i: *index,
+                p: self.pointer(stored),
+            },
+            Item::Lea {
+                moved,
+                pointer,
+                index,
+            } => Op::Lea {
+                d: self.pointer(moved),
+                q: self.pointer(pointer),
+                i: *index,
+            },
+            Item::Move { copied, pointer } => Op::Move {
+                d: self.pointer(copied),
+                q: self.pointer(pointer),
+            },
+            Item::Clear { pointer } => Op::Clear {
+                d: self.pointer(pointer),
+            },
+            Item::Loadg { loaded, global } => Op::GetGlobal {
+                d: self.pointer(loaded),
+                g: self.global(global),
+            },
+            Item::Storeg { stored, global } => Op::SetGlobal {
+                g: self.global(global),
+                p: self.pointer(stored),
+            },
+            _ => return None,
+        };
+        Some(op)
+    }
+
+    /// The operation of an instruction that keeps a number, and its register.
+    fn load(&self, item: &Item) -> Option<Instruction>
+        requires { HasFew self.now }
+        ensures { result ≡ load_among self.now item.now }
+    {
+        let (number, op) = match item {
+            Item::Getn {
+                number,
+                pointer,
+                index,
+            } => (
+                number,
+                Op::GetNum {
+                    q: self.pointer(pointer),
+                    i: *index,
+                },
+            ),
+            Item::Casp {
+                number,
+                pointer,
+                index,
+                expected,
+                stored,
+            } => (
+                number,
+                Op::CasPtr {
+                    q: self.pointer(pointer),
+                    i: *index,
+                    p: self.pointer(expected),
+                    r: self.pointer(stored),
+                },
+            ),
+            Item::Same {
+                number,
+                first,
+                second,
+            } => (
+                number,
+                Op::Same {
+                    p: self.pointer(first),
+                    q: self.pointer(second),
+                },
+            ),
+            Item::Isnull { number, pointer } => (
+                number,
+                Op::IsNull {
+                    p: self.pointer(pointer),
+                },
+            ),
+            _ => return None,
+        };
+        Some(Instruction::Load {
+            number: self.number(number),
+            op,
+        })
+    }
+
+    fn instruction(&self, item: &Item) -> Instruction
+        requires { HasFew self.now }
+        ensures { result ≡ instruction_of self.now item.now }
+    {
+        match item {
+            Item::Setn {
+                pointer,
+                index,
+                number,
+            } => Instruction::Store {
+                q: self.pointer(pointer),
+                i: *index,
+                number: self.number(number),
+            },
+            Item::Show { pointer } => Instruction::Show {
+                p: self.pointer(pointer),
+            },
+            Item::Const { number, value } => Instruction::Const {
+                number: self.number(number),
+                value: *value,
+            },
+            Item::Add {
+                number,
+                left,
+                right,
+            } => Instruction::Add {
+                number: self.number(number),
+                left: self.number(left),
+                right: self.number(right),
+            },
+            Item::Sub {
+                number,
+                left,
+                right,
+            } => Instruction::Sub {
+                number: self.number(number),
+                left: self.number(left),
+                right: self.number(right),
+            },
+            Item::Print { number } => Instruction::Print {
+                number: self.number(number),
+            },
+            _ => self.asking(item),
+        }
+    }
+
+    /// The instruction, where it asks for an operation.
+    fn asking(&self, item: &Item) -> Instruction
+        requires { HasFew self.now }
+        ensures { result ≡ or_asking (load_among self.now item.now) (op_among self.now item.now) }
+    {
+        match (self.load(item), self.op(item)) {
+            (Some(instruction), _) => instruction,
+            (None, Some(op)) => Instruction::Ask { op },
+            (None, None) => Instruction::Nothing,
+        }
+    }
+
+    /// What a line adds to a script's tree.
+    pub fn element(&self, item: &Item) -> Element
+        requires { HasFew self.now }
+        ensures { result ≡ element_of self.now item.now }
+    {
+        match item {
+            Item::Repeat { rounds } => Element::Repeat(*rounds),
+            Item::If { number } => Element::If(self.number(number)),
+            Item::Else => Element::Else,
+            Item::End => Element::End,
+            _ => Element::Line(self.instruction(item)),
+        }
+    }
+}

@@ -1,0 +1,317 @@
+//! A script that runs.
+ghost use Rattle.std.specs.Prelude.{◌≡◌, ◌+◌, ◌*◌, ◌<◌, ◌++◌, [], ◌∷◌, true, false, length, slice_index, slice_set, IsTrue, IfOk, OnOk, OnErr, is_some, replicate, codes};
+ghost use Rattle.std.specs.Fmt.{decimal};
+ghost use Rattle.mk_check.specs.Feed.{refusal_line, refusal_text, newline, number_of, shown};
+ghost use Rattle.mk_check.specs.Steps as steps;
+ghost use Rattle.mk_check.specs.Trees.{kept_in, with_kept, left_in, stopped_in, IsWithin, entered, left_block, branched, LeavesBlock, GoesOn, HasStopped};
+
+use crate::feeding::instructions::Instruction;
+use crate::feeding::tree::{Frame, Node, Tree};
+use mk_core::Answer;
+use mk_never::{NoMemory, Op};
+use mk_script::Name;
+use std::alloc::Global;
+use std::marker::Model;
+
+/// Where a script is: its node, its open blocks, the outermost first, its number registers, and its
+/// text so far.
+#[derive(Drop)]
+pub struct Running {
+    at: usize,
+    frames: Vec<Frame>,
+    numbers: Vec<u64>,
+    text: Vec<u8>,
+}
+
+impl Model for Running {
+    ghost use Rattle.mk_check.specs.Trees.{Place};
+
+    ghost Value = { Place };
+
+    ghost view = { λ r. record { at = r.at; frames = r.frames.items; numbers = r.numbers.items; text = r.text.items } };
+}
+
+fn answered_number(answer: Answer) -> u64
+    ensures { result ≡ number_of answer }
+{
+    match answer {
+        Answer::Num(number) => number,
+        _ => 0,
+    }
+}
+
+impl Running {
+    /// A script before its first line, with as many number registers as `numbers`.
+    pub fn begin(alloc: Global, at: usize, numbers: usize, name: &Name) -> Result<Running, NoMemory>
+        ensures { IfOk result (λ r. r ≡ record {
+            at = at;
+            frames = [];
+            numbers = replicate numbers 0;
+            text = codes "script " ++ (name.now ++ newline) }) }
+    {
+        let Ok(numbers) = Vec::from_elem(alloc, 0, numbers) else {
+            return Err(NoMemory);
+        };
+        let mut running = Running {
+            at,
+            frames: Vec::new(alloc),
+            numbers,
+            text: Vec::new(alloc),
+        };
+        running.print(b"script ")?;
+        running.print(name.as_bytes())?;
+        running.print(b"\n")?;
+        Ok(running)
+    }
+
+    /// A copy at another node, with no text.
+    pub fn copy_at(&self, alloc: Global, at: usize) -> Result<Running, NoMemory>
+        ensures { IfOk result (λ r. r ≡ record self.now { at = at; text = [] }) }
+    {
+        let Ok(frames) = Vec::from_slice(alloc, &self.frames) else {
+            return Err(NoMemory);
+        };
+        let Ok(numbers) = Vec::from_slice(alloc, &self.numbers) else {
+            return Err(NoMemory);
+        };
+        Ok(Running {
+            at,
+            frames,
+            numbers,
+            text: Vec::new(alloc),
+        })
+    }
+
+    /// Goes to where another is, with its text behind the text so far.
+    pub fn follow(&mut self, later: Running) -> Result<(), NoMemory>
+        ensures ok { OnOk result (self.new ≡ record later { text = self.old.text ++ later.text }) }
+        ensures err { OnErr result (self.new ≡ self.old) }
+    {
+        let Running {
+            at,
+            frames,
+            numbers,
+            text,
+        } = later;
+        self.print(&text)?;
+        self.at = at;
+        self.frames = frames;
+        self.numbers = numbers;
+        Ok(())
+    }
+
+    pub fn at(&self) -> usize
+        ensures { result ≡ self.now.at }
+    {
+        self.at
+    }
+
+    pub fn text(&self) -> &[u8]
+        ensures { result.now ≡ self.now.text }
+    {
+        self.text.as_slice()
+    }
+
+    /// Appends a piece of text.
+    fn print(&mut self, piece: &[u8]) -> Result<(), NoMemory>
+        ensures ok { OnOk result (self.new ≡ record self.old { text = self.old.text ++ piece.now }) }
+        ensures err { OnErr result (self.new ≡ self.old) }
+    {
+        match self.text.extend_from_slice(piece) {
+            Ok(()) => Ok(()),
+            Err(_) => Err(NoMemory),
+        }
+    }
+
+    /// Appends a number in decimal.
+    fn print_number(&mut self, alloc: Global, number: u64) -> Result<(), NoMemory>
+        ensures { OnOk result (self.new ≡ record self.old { text = self.old.text ++ decimal number }) }
+    {
+        let Ok(digits) = number.to_string(alloc) else {
+            return Err(NoMemory);
+        };
+        self.print(digits.as_bytes())
+    }
+
+    /// Appends the line that an answer prints which refuses the instruction of a line.
+    pub fn print_refusal(&mut self, alloc: Global, line: u64, answer: Answer) -> Result<(), NoMemory>
+        ensures { OnOk result
+            (self.new ≡ record self.old { text = self.old.text ++ refusal_line line (refusal_text answer) }) }
+    {
+        let refusal: &[u8] = match answer {
+            Answer::Done | Answer::Num(_) | Answer::Word(_) => return Ok(()),
+            Answer::Full => b": full\n",
+            Answer::Fault => b": fault\n",
+            Answer::Null => b": null\n",
+            Answer::Double => b": double\n",
+        };
+        self.print_number(alloc, line)?;
+        self.print(refusal)
+    }
+
+    fn number(&self, number: usize) -> u64
+        ensures { result ≡ slice_index self.now.numbers number }
+    {
+        self.numbers.get(number).copied().unwrap_or(0)
+    }
+
+    fn set(&mut self, number: usize, value: u64)
+        ensures { self.new ≡ record self.old { numbers = slice_set self.old.numbers number value } }
+    {
+        if number < self.numbers.len() {
+            self.numbers[number] = value;
+        }
+    }
+
+    /// The operation that an instruction asks for.
+    pub fn asked(&self, instruction: Instruction) -> Option<Op>
+        ensures { result ≡ steps.asked self.now.numbers instruction }
+    {
+        match instruction {
+            Instruction::Ask { op } | Instruction::Load { op, .. } => Some(op),
+            Instruction::Store { q, i, number } => Some(Op::SetNum {
+                q,
+                i,
+                n: self.number(number),
+            }),
+            Instruction::Show { p } => Some(Op::IsNull { p }),
+            _ => None,
+        }
+    }
+
+    /// Runs an instruction that asks for no operation.
+    fn run_line(&mut self, alloc: Global, instruction: Instruction) -> Result<(), NoMemory>
+        ensures { OnOk result (self.new ≡ with_kept self.old (steps.after_line instruction (kept_in self.old))) }
+    {
+        match instruction {
+            Instruction::Const { number, value } => self.set(number, value),
+            Instruction::Add {
+                number,
+                left,
+                right,
+            } => self.set(number, self.number(left).wrapping_add(self.number(right))),
+            Instruction::Sub {
+                number,
+                left,
+                right,
+            } => self.set(number, self.number(left).wrapping_sub(self.number(right))),
+            Instruction::Print { number } => {
+                self.print_number(alloc, self.number(number))?;
+                self.print(b"\n")?;
+            }
+            _ => {}
+        }
+        Ok(())
+    }
+
+    fn open(&mut self, frame: Frame) -> Result<(), NoMemory>
+        ensures { OnOk result (self.new ≡ record self.old { frames = self.old.frames ++ frame ∷ [] }) }
+    {
+        match self.frames.push(frame) {
+            Ok(()) => Ok(()),
+            Err(_) => Err(NoMemory),
+        }
+    }
+
+    /// Begins a round, or goes on behind the `repeat` where no round is left.
+    fn enter(&mut self, rounds: u64, body: usize, next: usize) -> Result<(), NoMemory>
+        ensures { OnOk result (self.new ≡ entered self.old rounds body next) }
+    {
+        if rounds == 0 {
+            self.at = next;
+            return Ok(());
+        }
+        self.open(Frame::Rounds {
+            rounds: rounds - 1,
+            body,
+            next,
+        })?;
+        self.at = body;
+        Ok(())
+    }
+
+    /// Begins a branch.
+    fn choose(&mut self, number: usize, first: usize, second: usize, next: usize) -> Result<(), NoMemory>
+        ensures { OnOk result (self.new ≡ branched self.old number first second next) }
+    {
+        self.at = if self.number(number) == 0 { second } else { first };
+        self.open(Frame::Branch { next })
+    }
+
+    /// Leaves the innermost open block, if there is one.
+    fn leave(&mut self) -> Result<bool, NoMemory>
+        ensures left { IfOk result (λ leaves. IsTrue leaves → LeavesBlock self.old self.new) }
+        ensures none { IfOk result (λ leaves. leaves ≡ false → (self.old.frames ≡ []) × (self.new ≡ self.old)) }
+    {
+        let Some(frame) = self.frames.pop() else {
+            return Ok(false);
+        };
+        match frame {
+            Frame::Rounds { rounds, body, next } => self.enter(rounds, body, next)?,
+            Frame::Branch { next } => self.at = next,
+        }
+        Ok(true)
+    }
+
+    /// Moves on, unless it is at an operation or at the end.
+    fn step(&mut self, alloc: Global, tree: &Tree) -> Result<bool, NoMemory>
+        requires { IsWithin (length tree.now) self.old }
+        ensures goes_on { IfOk result (λ more. IsTrue more → GoesOn tree.now self.old self.new) }
+        ensures stops { IfOk result (λ more. more ≡ false → HasStopped tree.now self.old self.new) }
+    {
+        match tree.node(self.at) {
+            Node::Done => self.leave(),
+            Node::Line {
+                instruction, next, ..
+            } => {
+                if self.asked(instruction).is_some() {
+                    return Ok(false);
+                }
+                self.at = next;
+                self.run_line(alloc, instruction)?;
+                Ok(true)
+            }
+            Node::Rounds { rounds, body, next } => {
+                self.enter(rounds, body, next)?;
+                Ok(true)
+            }
+            Node::Choice {
+                number,
+                first,
+                second,
+                next,
+            } => {
+                self.choose(number, first, second, next)?;
+                Ok(true)
+            }
+        }
+    }
+
+    /// Runs on to the next operation, or to the end.
+    pub fn run(&mut self, alloc: Global, tree: &Tree) -> Result<(), NoMemory>
+        requires { IsWithin (length tree.now) self.old }
+        ensures { OnOk result (HasStopped tree.now self.old self.new) }
+    {
+        while self.step(alloc, tree)? {}
+        Ok(())
+    }
+
+    /// The instruction takes its answer.
+    pub fn take(&mut self, instruction: Instruction, answer: Answer) -> Result<(), NoMemory>
+        ensures { OnOk result (self.new ≡ with_kept self.old (steps.answered instruction answer (kept_in self.old))) }
+    {
+        match instruction {
+            Instruction::Load { number, .. } => self.set(number, answered_number(answer)),
+            Instruction::Show { .. } => {
+                let shown: &[u8] = if answered_number(answer) == 0 {
+                    b"ptr\n"
+                } else {
+                    b"null\n"
+                };
+                self.print(shown)?;
+            }
+            _ => {}
+        }
+        Ok(())
+    }
+}

@@ -1,0 +1,94 @@
+//! A script's lines as a tree, whose nodes name one another by their places.
+ghost use Rattle.std.specs.Prelude.{◌≡◌, ◌<◌, ◌++◌, [], ◌∷◌, length, OnOk};
+
+use crate::feeding::instructions::Instruction;
+use mk_never::NoMemory;
+use std::alloc::Global;
+use std::marker::Model;
+
+/// Where a script is: a line, a `repeat` or an `if`, and the node behind it; or the end of a block.
+#[derive(Clone, Copy)]
+pub enum Node {
+    Done,
+    Line {
+        line: u64,
+        instruction: Instruction,
+        next: usize,
+    },
+    Rounds {
+        rounds: u64,
+        body: usize,
+        next: usize,
+    },
+    Choice {
+        number: usize,
+        first: usize,
+        second: usize,
+        next: usize,
+    },
+}
+
+/// What runs behind a block: more rounds of a `repeat`, or what stands behind it.
+#[derive(Clone, Copy)]
+pub enum Frame {
+    Rounds {
+        rounds: u64,
+        body: usize,
+        next: usize,
+    },
+    Branch {
+        next: usize,
+    },
+}
+
+/// The nodes, each of which names those before it alone. The first is the end of a block.
+#[derive(Drop)]
+pub struct Tree {
+    nodes: Vec<Node>,
+}
+
+impl Model for Tree {
+    ghost use Rattle.std.specs.Prelude.{List};
+    ghost use Rattle.mk_check.specs.declared.feeding.tree.Node.{Node};
+    ghost use Rattle.mk_check.specs.Trees.{IsTree};
+
+    ghost Value = { List Node };
+
+    ghost view = { λ t. t.nodes.items };
+
+    ghost invariant = { λ t. IsTree t.nodes.items };
+}
+
+impl Tree {
+    ghost use Rattle.mk_check.specs.Trees.{IsTree, IsBelow, node_at};
+
+    pub fn new(alloc: Global) -> Tree
+        ensures { result ≡ [] }
+    {
+        Tree { nodes: Vec::new(alloc) }
+    }
+
+    pub fn len(&self) -> usize
+        ensures { result ≡ length self.now }
+    {
+        self.nodes.len()
+    }
+
+    pub fn push(&mut self, node: Node) -> Result<(), NoMemory>
+        requires { IsBelow (length self.old) node }
+        ensures { OnOk result (self.new ≡ self.old ++ node ∷ []) }
+    {
+        match self.nodes.push(node) {
+            Ok(()) => Ok(()),
+            Err(_) => Err(NoMemory),
+        }
+    }
+
+    pub fn node(&self, at: usize) -> Node
+        requires { at < length self.now }
+        ensures value { result ≡ node_at self.now at }
+        ensures tree { IsTree self.now }
+    {
+        self.nodes[at]
+    }
+}
