@@ -1,8 +1,10 @@
 pub mod Canonical
+pub mod Fields
 pub mod Grammar
 pub mod Keywords
 pub mod Lines
 pub mod Names
 pub mod Operands
 pub mod Scopes
+pub mod Stops
 pub mod Words

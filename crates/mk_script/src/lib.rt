@@ -2,10 +2,15 @@
 #![tactic(auto)]
 
 mod faults;
+mod fields;
+mod forms;
 mod items;
 mod keywords;
 mod names;
+mod numbers;
+mod operands;
 mod program;
+mod splitting;
 
 pub use faults::{TextKind, TextStop, Which};
 pub use items::{At, Item, TypeWord, TypeWords};

@@ -1,0 +1,4 @@
+mod Digits
+mod FirstPlace
+mod LastPiece
+mod NoForm
