@@ -1,4 +1,6 @@
 mod Digits
 mod FirstPlace
 mod LastPiece
+mod NamesSoFar
 mod NoForm
+mod PutName

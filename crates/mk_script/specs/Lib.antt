@@ -5,6 +5,7 @@ pub mod Keywords
 pub mod Lines
 pub mod Names
 pub mod Operands
+pub mod ScopeOf
 pub mod Scopes
 pub mod Stops
 pub mod Words

@@ -6,10 +6,12 @@ mod fields;
 mod forms;
 mod items;
 mod keywords;
+mod name_set;
 mod names;
 mod numbers;
 mod operands;
 mod program;
+mod scope;
 mod splitting;
 
 pub use faults::{TextKind, TextStop, Which};
