@@ -3,4 +3,6 @@ mod FirstPlace
 mod LastPiece
 mod NamesSoFar
 mod NoForm
+mod Pushed
 mod PutName
+mod ScopeAfter

@@ -1,5 +1,6 @@
 -- What a set says of the names that it has.
-use Rattle.std.proofs.Common.{◌≡◌, ℕ, Bool, true, false, ◌||◌, List, ◌++◌, length, sym, ap, ◌∙◌}
+use Rattle.std.proofs.Common.{◌≡◌, ℕ, Bool, true, false, ◌||◌, List, ◌++◌, length, Ok, Err, Result, refl, sym, ap, ◌∙◌}
+use Rattle.std.specs.Result.{OnOk}
 use Rattle.std.specs.List.Sorted.{IsPermutation}
 use Rattle.std.specs.Str.{bytes_eq}
 use Rattle.std.proofs.lemmas.List.Folds.{list_any-append}
@@ -24,3 +25,16 @@ either_true {x} y r is holds both = holds ∙ sym (ap (λ b. b || y) (sym is ∙
 
 pub either_false : {x y z q : Bool} (r : Bool) → r ≡ x → r ≡ false → q ≡ y → (x || y) ≡ z → q ≡ z
 either_false {x} {y} r is fails other both = other ∙ sym (ap (λ b. b || y) (sym is ∙ fails)) ∙ both
+
+pub on_ok : {T E P Q : Type 0} (r : Result T E) → OnOk r P → (P → Q) → OnOk r Q
+on_ok (Ok x) holds gives = gives holds
+on_ok (Err e) holds gives = tt
+
+neither : (a b : Bool) → (a || b) ≡ false → (a ≡ false) × (b ≡ false)
+neither true b fails = cc
+neither false b fails = (refl, fails)
+
+pub among_neither : (name : List ℕ) (names set others other_set : List (List ℕ)) → IsPermutation names set → IsPermutation others other_set
+    → is_among name (names ++ others) ≡ false → (is_among name set ≡ false) × (is_among name other_set ≡ false)
+among_neither name names set others other_set same same' fails =
+    neither (is_among name set) (is_among name other_set) (among_both name names set others other_set same same' ∙ fails)

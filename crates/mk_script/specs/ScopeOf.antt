@@ -1,5 +1,5 @@
 -- What it means that a scope says what the lines so far say.
-use Rattle.std.specs.Prelude.{◌≡◌, ℕ, Bool, true, false, List, [], ◌∷◌, reverse}
+use Rattle.std.specs.Prelude.{◌≡◌, ℕ, Bool, true, false, List, [], ◌∷◌, ◌++◌, reverse}
 use Rattle.std.specs.List.{list_any}
 use Rattle.std.specs.List.Sorted.{IsPermutation}
 use Rattle.mk_script.specs.declared.items.Item.{Item}
@@ -21,3 +21,8 @@ pub record IsScopeOf (scope : Scope) (before : List Item) : Type 0 where
   pub pointers : IsPermutation (pointer_names (this_script before)) scope.pointers
   pub numbers : IsPermutation (number_names (this_script before)) scope.numbers
   pub blocks : reverse scope.blocks.items ≡ open_blocks before
+
+-- the new scope is the old one where a script of this name begins, but for its blocks
+pub record BeginsScript (old : Scope) (name : List ℕ) (new : Scope) : Type 0 where
+  pub scripts : IsPermutation (old.scripts ++ name ∷ []) new.scripts
+  pub new_is : new ≡ record old { has_script = true; has_instruction = false; scripts = new.scripts; pointers = []; numbers = [] }

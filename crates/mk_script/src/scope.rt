@@ -1,9 +1,9 @@
 //! What the lines before a line say.
-ghost use Rattle.std.specs.Prelude.{◌≡◌, ◌<◌, ◌+◌, ◌^◌, List, [], length, not};
+ghost use Rattle.std.specs.Prelude.{◌≡◌, ◌<◌, ◌+◌, ◌^◌, List, [], ◌∷◌, ◌++◌, length, reverse, not, false, OnOk};
 ghost use Rattle.mk_script.specs.Lines as spec;
-ghost use Rattle.mk_script.specs.Lines.{or_else};
-ghost use Rattle.mk_script.specs.Scopes.{open_blocks, this_script, type_names};
-ghost use Rattle.mk_script.specs.ScopeOf.{IsScopeOf, has_lines};
+ghost use Rattle.mk_script.specs.Lines.{or_else, is_among};
+ghost use Rattle.mk_script.specs.Scopes.{open_blocks, open_behind, behind_else, this_script, type_names};
+ghost use Rattle.mk_script.specs.ScopeOf.{IsScopeOf, BeginsScript, has_lines};
 
 use crate::faults::{LineFault, TextKind, Which};
 use crate::items::Item;
@@ -127,7 +127,11 @@ impl Scope {
             Item::Script { .. } => at_most(one_more(self.scripts.len()), 16, Which::Scripts),
             Item::Ptr { .. } => at_most(one_more(self.pointers.len()), 8, Which::Pointers),
             Item::Num { .. } => at_most(one_more(self.numbers.len()), 8, Which::Numbers),
-            Item::Repeat { .. } | Item::If { .. } => at_most(one_more(self.blocks.len()), 32, Which::Depth),
+            Item::Repeat { .. } | Item::If { .. } => at_most(
+                one_more(self.blocks.len()),
+                32,
+                Which::Depth,
+            ),
             _ => None,
         }
     }
@@ -158,6 +162,59 @@ impl Scope {
             return Err(LineFault::Text(TextKind::End));
         }
         Ok(item)
+    }
+
+    /// Adds a line that may stand next.
+    pub fn add(&mut self, item: &Item) -> Result<(), AllocError>
+        ensures { (before : List Item) → IsScopeOf self.old before → spec.is_twice before item.now ≡ false → OnOk result (IsScopeOf self.new (before ++ item.now ∷ [])) }
+    {
+        self.has_header = true;
+        follow_blocks(&mut self.blocks, item)?;
+        match item {
+            Item::Heap { .. } => Ok(()),
+            Item::TypeLine { name, .. } => self.types.insert(self.alloc, name),
+            Item::Global { name, .. } => self.globals.insert(self.alloc, name),
+            Item::Script { name } => self.begin_script(name),
+            Item::Ptr { name, .. } => self.pointers.insert(self.alloc, name),
+            Item::Num { name } => self.numbers.insert(self.alloc, name),
+            _ => {
+                self.has_instruction = true;
+                Ok(())
+            }
+        }
+    }
+
+    fn begin_script(&mut self, name: &Name) -> Result<(), AllocError>
+        ensures { is_among name.now self.old.scripts ≡ false → OnOk result (BeginsScript self.old name.now self.new) }
+    {
+        self.has_script = true;
+        self.has_instruction = false;
+        self.pointers = NameSet::new(self.alloc);
+        self.numbers = NameSet::new(self.alloc);
+        self.scripts.insert(self.alloc, name)
+    }
+}
+
+/// Opens, turns or ends a block, as the item says.
+fn follow_blocks(blocks: &mut Vec<OpenBlock>, item: &Item) -> Result<(), AllocError>
+    ensures { OnOk result (reverse blocks.new.items ≡ open_behind (reverse blocks.old.items) item.now) }
+{
+    match item {
+        Item::Script { .. } => blocks.clear(),
+        Item::Repeat { .. } => blocks.push(OpenBlock::InRepeat)?,
+        Item::If { .. } => blocks.push(OpenBlock::InFirst)?,
+        Item::Else => begin_else(blocks),
+        Item::End => drop(blocks.pop()),
+        _ => {}
+    }
+    Ok(())
+}
+
+fn begin_else(blocks: &mut Vec<OpenBlock>)
+    ensures { reverse blocks.new.items ≡ behind_else (reverse blocks.old.items) }
+{
+    if let Some(block) = blocks.last_mut() {
+        *block = OpenBlock::InSecond;
     }
 }
 
