@@ -7,3 +7,11 @@ pub mod Numbers
 pub mod RoundTrip
 pub mod Said
 pub mod Spacing
+mod Digits
+mod FirstPlace
+mod LastPiece
+mod NamesSoFar
+mod NoForm
+mod Pushed
+mod PutName
+mod ScopeAfter

@@ -1,11 +1,14 @@
 pub mod Accesses
 pub mod Canonical
+pub mod Fields
 pub mod Grammar
 pub mod Keywords
 pub mod Laws
 pub mod Lines
 pub mod Names
 pub mod Operands
+pub mod ScopeOf
 pub mod Scopes
 pub mod Spaced
+pub mod Stops
 pub mod Words

@@ -65,9 +65,13 @@ field_of (letter ∷ rest) = if letter == 110 then starred rest else (if letter 
 abbrev pub fields_of : List (List ℕ) → List TypeWord
 fields_of fields = flat_map (λ field. unwrap_or (field_of field) []) fields
 
+-- whether each has such a form
+abbrev pub are_fields : List (List ℕ) → Bool
+are_fields fields = list_all (λ field. is_some (field_of field)) fields
+
 -- whether each F of a type line has such a form
 abbrev pub have_form : Keyword → List (List ℕ) → Bool
-have_form TypeLine (name' ∷ fields) = list_all (λ field. is_some (field_of field)) fields
+have_form TypeLine (name' ∷ fields) = are_fields fields
 have_form keyword operands = true
 
 -- the item of a line, where each operand says what the form has in its place; else the first that doesn't

@@ -2,6 +2,8 @@
 use Rattle.std.specs.Prelude.{ℕ, Bool, if◌then◌else◌, fold, true, false, List, [], ◌∷◌, ◌++◌, length}
 use Rattle.mk_script.specs.declared.items.Item.{Item}
 use Rattle.mk_script.specs.declared.items.Item.TheVariants.{Heap, TypeLine, Global, Script, Ptr, Num, New, Free, Getn, Setn, Getp, Setp, Casp, Lea, Move, Clear, Loadg, Storeg, Same, Isnull, Show, Const, Add, Sub, Print, Repeat, If, Else, End}
+pub use Rattle.mk_script.specs.declared.scope.OpenBlock.{OpenBlock}
+pub use Rattle.mk_script.specs.declared.scope.OpenBlock.TheVariants.{InRepeat, InFirst, InSecond}
 
 -- the names of types, in the order of their lines
 abbrev pub type_names : List Item → List (List ℕ)
@@ -96,11 +98,7 @@ is_instruction End = true
 abbrev pub this_script : List Item → List Item
 this_script items = fold (λ lines item. if is_script item then [] else lines ++ item ∷ []) [] items
 
--- An open block: a `repeat`, or an `if` in its first or its second branch.
-pub data OpenBlock : Type 0 where
-  InRepeat : OpenBlock
-  InFirst : OpenBlock
-  InSecond : OpenBlock
+-- The open blocks, each a `repeat`, or an `if` in its first or its second branch.
 
 abbrev pub behind_else : List OpenBlock → List OpenBlock
 behind_else [] = []

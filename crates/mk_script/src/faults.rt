@@ -1,4 +1,7 @@
 //! What can be wrong with a text.
+ghost use Rattle.std.specs.Prelude.{◌≡◌};
+
+use std::alloc::AllocError;
 
 /// Why a text has no program: the first line that isn't of the grammar, counted from 1, or no memory.
 #[derive(Clone, Copy, Debug, PartialEq, Eq)]
@@ -47,4 +50,33 @@ pub enum Which {
 pub enum LineFault {
     Text(TextKind),
     Limit { which: Which, found: u64 },
+}
+
+/// Why a line has no item.
+#[derive(Clone, Copy, Debug, PartialEq, Eq)]
+pub enum LineStop {
+    Fault(LineFault),
+    NoMemory,
+}
+
+impl From<LineFault> for LineStop {
+    ghost use Rattle.mk_script.specs.declared.faults.LineStop.{LineStop};
+    ghost use Rattle.mk_script.specs.declared.faults.LineStop.TheVariants.{Fault};
+
+    ghost from_gives = { λ fault stop. stop ≡ Fault fault };
+
+    fn from(fault: LineFault) -> LineStop {
+        LineStop::Fault(fault)
+    }
+}
+
+impl From<AllocError> for LineStop {
+    ghost use Rattle.mk_script.specs.declared.faults.LineStop.{LineStop};
+    ghost use Rattle.mk_script.specs.declared.faults.LineStop.TheVariants.{NoMemory};
+
+    ghost from_gives = { λ _ stop. stop ≡ NoMemory };
+
+    fn from(_error: AllocError) -> LineStop {
+        LineStop::NoMemory
+    }
 }

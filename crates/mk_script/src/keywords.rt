@@ -1,4 +1,6 @@
 //! The first words of lines.
+ghost use Rattle.std.specs.Prelude.{◌≡◌, map};
+ghost use Rattle.mk_script.specs.Keywords as spec;
 
 /// The first word of a line, which says what form it has.
 #[derive(Clone, Copy, Debug, PartialEq, Eq)]
@@ -32,4 +34,92 @@ pub enum Keyword {
     If,
     Else,
     End,
+}
+
+const KEYWORDS: [(&[u8], Keyword); 29] = [
+    (b"heap", Keyword::Heap),
+    (b"type", Keyword::TypeLine),
+    (b"global", Keyword::Global),
+    (b"script", Keyword::Script),
+    (b"ptr", Keyword::Ptr),
+    (b"num", Keyword::Num),
+    (b"new", Keyword::New),
+    (b"free", Keyword::Free),
+    (b"getn", Keyword::Getn),
+    (b"setn", Keyword::Setn),
+    (b"getp", Keyword::Getp),
+    (b"setp", Keyword::Setp),
+    (b"casp", Keyword::Casp),
+    (b"lea", Keyword::Lea),
+    (b"move", Keyword::Move),
+    (b"clear", Keyword::Clear),
+    (b"loadg", Keyword::Loadg),
+    (b"storeg", Keyword::Storeg),
+    (b"same", Keyword::Same),
+    (b"isnull", Keyword::Isnull),
+    (b"show", Keyword::Show),
+    (b"const", Keyword::Const),
+    (b"add", Keyword::Add),
+    (b"sub", Keyword::Sub),
+    (b"print", Keyword::Print),
+    (b"repeat", Keyword::Repeat),
+    (b"if", Keyword::If),
+    (b"else", Keyword::Else),
+    (b"end", Keyword::End),
+];
+
+impl Keyword {
+    /// The keyword that the word is.
+    pub fn of(word: &[u8]) -> Option<Keyword>
+        ensures { result ≡ spec.keyword_of word.now }
+    {
+        keyword_among(&KEYWORDS, word)
+    }
+
+    /// Whether a line of this form has so many words behind its first.
+    pub fn has_operands(self, count: usize) -> bool
+        ensures { result ≡ spec.has_operands self count }
+    {
+        match self {
+            Keyword::Else | Keyword::End => count == 0,
+            Keyword::Script
+            | Keyword::Num
+            | Keyword::Free
+            | Keyword::Clear
+            | Keyword::Show
+            | Keyword::Print
+            | Keyword::Repeat
+            | Keyword::If => count == 1,
+            Keyword::Heap
+            | Keyword::Global
+            | Keyword::Ptr
+            | Keyword::New
+            | Keyword::Move
+            | Keyword::Loadg
+            | Keyword::Storeg
+            | Keyword::Isnull
+            | Keyword::Const => count == 2,
+            Keyword::Getn
+            | Keyword::Setn
+            | Keyword::Getp
+            | Keyword::Setp
+            | Keyword::Lea
+            | Keyword::Same
+            | Keyword::Add
+            | Keyword::Sub => count == 3,
+            Keyword::Casp => count == 5,
+            Keyword::TypeLine => 2 <= count,
+        }
+    }
+}
+
+fn keyword_among(table: &[(&[u8], Keyword)], word: &[u8]) -> Option<Keyword>
+    ensures { result ≡ spec.keyword_among (map (λ entry. (entry.0.now, entry.1)) table.now) word.now }
+{
+    for (name, keyword) in table {
+        if word == *name {
+            return Some(*keyword);
+        }
+    }
+    None
 }

@@ -2,12 +2,20 @@
 #![tactic(auto)]
 
 mod faults;
+mod fields;
+mod forms;
 mod items;
 mod keywords;
 pub mod laws;
 mod names;
 mod printing;
+mod name_set;
+mod names;
+mod numbers;
+mod operands;
 mod program;
+mod scope;
+mod splitting;
 
 pub use faults::{TextKind, TextStop, Which};
 pub use items::{At, Item, TypeWord, TypeWords};

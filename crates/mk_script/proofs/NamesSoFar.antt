@@ -1,0 +1,40 @@
+-- What a set says of the names that it has.
+use Rattle.std.proofs.Common.{◌≡◌, ℕ, Bool, true, false, ◌||◌, List, ◌++◌, length, Ok, Err, Result, refl, sym, ap, ◌∙◌}
+use Rattle.std.specs.Result.{OnOk}
+use Rattle.std.specs.List.Sorted.{IsPermutation}
+use Rattle.std.specs.Str.{bytes_eq}
+use Rattle.std.proofs.lemmas.List.Folds.{list_any-append}
+use Rattle.std.proofs.lemmas.List.Sorted.{list_any-IsPermutation, length_permutation}
+use Rattle.mk_script.specs.Lines.{is_among}
+
+pub among : (name : List ℕ) (names set : List (List ℕ)) → IsPermutation names set → is_among name set ≡ is_among name names
+among name names set same = sym (list_any-IsPermutation (bytes_eq name) names set same)
+
+pub among_both : (name : List ℕ) (names set others other_set : List (List ℕ)) → IsPermutation names set → IsPermutation others other_set
+    → (is_among name set || is_among name other_set) ≡ is_among name (names ++ others)
+among_both name names set others other_set same same' =
+    ap (λ found. found || is_among name other_set) (among name names set same)
+    ∙ ap (λ found. is_among name names || found) (among name others other_set same')
+    ∙ sym (list_any-append (bytes_eq name) names others)
+
+pub count : (names set : List (List ℕ)) → IsPermutation names set → length set ≡ length names
+count names set same = length_permutation names set same
+
+pub either_true : {x z : Bool} (y r : Bool) → r ≡ x → r ≡ true → (x || y) ≡ z → r ≡ z
+either_true {x} y r is holds both = holds ∙ sym (ap (λ b. b || y) (sym is ∙ holds)) ∙ both
+
+pub either_false : {x y z q : Bool} (r : Bool) → r ≡ x → r ≡ false → q ≡ y → (x || y) ≡ z → q ≡ z
+either_false {x} {y} r is fails other both = other ∙ sym (ap (λ b. b || y) (sym is ∙ fails)) ∙ both
+
+pub on_ok : {T E P Q : Type 0} (r : Result T E) → OnOk r P → (P → Q) → OnOk r Q
+on_ok (Ok x) holds gives = gives holds
+on_ok (Err e) holds gives = tt
+
+neither : (a b : Bool) → (a || b) ≡ false → (a ≡ false) × (b ≡ false)
+neither true b fails = cc
+neither false b fails = (refl, fails)
+
+pub among_neither : (name : List ℕ) (names set others other_set : List (List ℕ)) → IsPermutation names set → IsPermutation others other_set
+    → is_among name (names ++ others) ≡ false → (is_among name set ≡ false) × (is_among name other_set ≡ false)
+among_neither name names set others other_set same same' fails =
+    neither (is_among name set) (is_among name other_set) (among_both name names set others other_set same same' ∙ fails)

@@ -1,0 +1,8 @@
+use Rattle.std.proofs.Common.{◌≡◌, ◌++◌, take}
+use Rattle.mk_script.specs.Operands.{fields_of}
+use Rattle.mk_script.specs.Words.{texts_of}
+use Rattle.mk_script.proofs.fields.type_words.Given as goal
+
+-- the words of the fields so far
+abbrev pub invariant-loop-word : goal.invariant-loop-word
+invariant-loop-word l = l.words.items ≡ fields_of (texts_of (take l.word-index l.fields))

@@ -1,0 +1,10 @@
+use Rattle.std.proofs.Common.{arith, sym}
+use Rattle.std.proofs.lemmas.List.{length-map}
+use Rattle.mk_script.specs.Words.{texts_of}
+use Rattle.mk_script.proofs.NoForm.{of_no_form}
+use Rattle.mk_script.proofs.forms.item.Goals as goal
+
+pub returns-in_default : goal.returns-in_default
+returns-in_default c =
+    let count = length-map c.args.words.now (λ word. word.now) in
+    sym (of_no_form c.args.keyword (texts_of c.args.words.now) c.requires (grind arith) (grind arith) (grind arith) (grind arith) (grind arith))

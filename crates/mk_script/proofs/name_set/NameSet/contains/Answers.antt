@@ -1,0 +1,13 @@
+use Rattle.std.proofs.Common.{◌∙◌, sym, ap}
+use Rattle.std.specs.List.{list_any}
+use Rattle.std.specs.Str.{bytes_eq}
+use Rattle.mk_script.proofs.PutName.{list_any-map}
+use Rattle.mk_script.specs.Lines.{is_among}
+use Rattle.mk_script.proofs.name_set.NameSet.contains.Goals as goal
+
+pub returns : goal.returns
+returns c =
+    c.contains.ensures
+    ∙ ap (λ text. list_any (λ name. bytes_eq text name.items) c.self.inside.names.keys) c.as_bytes.ensures
+    ∙ sym (list_any-map (bytes_eq c.args.name.now) (λ name. name.items) c.self.inside.names.keys)
+    ∙ ap (is_among c.args.name.now) c.self.view_is

@@ -1,0 +1,13 @@
+use Rattle.std.proofs.Common.{◌∙◌, ◌||◌, ap, inl, inr}
+use Rattle.mk_script.specs.Scopes.{type_names, global_names, script_names, pointer_names, number_names, this_script}
+use Rattle.mk_script.proofs.NamesSoFar.{among, among_both}
+use Rattle.mk_script.proofs.scope.Scope.is_twice.Goals as goal
+
+pub returns-in-TypeLine : goal.returns-in-TypeLine
+returns-in-TypeLine c = λ before scope. rw c.in-TypeLine.is (c.contains.ensures ∙ among c.in-TypeLine.name (type_names before) c.args.self.now.types scope.types)
+
+pub returns-in-Global : goal.returns-in-Global
+returns-in-Global c = λ before scope. rw c.in-Global.is (c.contains-in-Global.ensures ∙ among c.in-Global.name (global_names before) c.args.self.now.globals scope.globals)
+
+pub returns-in-Script : goal.returns-in-Script
+returns-in-Script c = λ before scope. rw c.in-Script.is (c.contains-in-Script.ensures ∙ among c.in-Script.name (script_names before) c.args.self.now.scripts scope.scripts)

@@ -1,0 +1,6 @@
+use Rattle.mk_script.specs.Scopes.{type_names}
+use Rattle.mk_script.proofs.NamesSoFar.{count}
+use Rattle.mk_script.proofs.scope.Scope.type_limit_fault.Goals as goal
+
+pub returns : goal.returns
+returns c = λ before scope. let found = count (type_names before) c.args.self.now.types scope.types in cc

@@ -1,0 +1,10 @@
+-- The words of a field.
+use Rattle.std.specs.Prelude.{List, [], ◌∷◌, replicate}
+use Rattle.mk_script.specs.declared.items.TypeWord.{TypeWord}
+use Rattle.mk_script.specs.declared.items.TypeWord.TheVariants as word
+use Rattle.mk_script.specs.declared.fields.Field.{Field}
+use Rattle.mk_script.specs.declared.fields.Field.TheVariants.{Numbers, Pointer}
+
+abbrev pub words_of_field : Field → List TypeWord
+words_of_field (Numbers count) = replicate count word.Number
+words_of_field (Pointer at) = word.Pointer at ∷ []

@@ -1,0 +1,28 @@
+-- What it means that a scope says what the lines so far say.
+use Rattle.std.specs.Prelude.{◌≡◌, ℕ, Bool, true, false, List, [], ◌∷◌, ◌++◌, reverse}
+use Rattle.std.specs.List.{list_any}
+use Rattle.std.specs.List.Sorted.{IsPermutation}
+use Rattle.mk_script.specs.declared.items.Item.{Item}
+use Rattle.mk_script.specs.declared.scope.Scope.{Scope}
+use Rattle.mk_script.specs.Lines.{has_script}
+use Rattle.mk_script.specs.Scopes.{type_names, global_names, script_names, pointer_names, number_names, this_script, is_instruction, open_blocks}
+
+abbrev pub has_lines : List Item → Bool
+has_lines [] = false
+has_lines (first ∷ before) = true
+
+pub record IsScopeOf (scope : Scope) (before : List Item) : Type 0 where
+  pub header : scope.has_header ≡ has_lines before
+  pub script : scope.has_script ≡ has_script before
+  pub instruction : scope.has_instruction ≡ list_any is_instruction (this_script before)
+  pub types : IsPermutation (type_names before) scope.types
+  pub globals : IsPermutation (global_names before) scope.globals
+  pub scripts : IsPermutation (script_names before) scope.scripts
+  pub pointers : IsPermutation (pointer_names (this_script before)) scope.pointers
+  pub numbers : IsPermutation (number_names (this_script before)) scope.numbers
+  pub blocks : reverse scope.blocks.items ≡ open_blocks before
+
+-- the new scope is the old one where a script of this name begins, but for its blocks
+pub record BeginsScript (old : Scope) (name : List ℕ) (new : Scope) : Type 0 where
+  pub scripts : IsPermutation (old.scripts ++ name ∷ []) new.scripts
+  pub new_is : new ≡ record old { has_script = true; has_instruction = false; scripts = new.scripts; pointers = []; numbers = [] }
