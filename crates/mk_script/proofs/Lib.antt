@@ -1,8 +1,10 @@
+mod Converted
 mod Digits
 mod FirstPlace
 mod LastPiece
 mod NamesSoFar
 mod NoForm
+mod Placed
 mod Pushed
 mod PutName
 mod ScopeAfter
