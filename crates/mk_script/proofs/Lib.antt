@@ -7,11 +7,13 @@ pub mod Numbers
 pub mod RoundTrip
 pub mod Said
 pub mod Spacing
+mod Converted
 mod Digits
 mod FirstPlace
 mod LastPiece
 mod NamesSoFar
 mod NoForm
+mod Placed
 mod Pushed
 mod PutName
 mod ScopeAfter

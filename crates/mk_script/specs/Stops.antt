@@ -1,11 +1,16 @@
 -- What a call gives, unless memory runs out.
-use Rattle.std.specs.Prelude.{◌≡◌, ℕ, true, List, Ok, Err}
+use Rattle.std.specs.Prelude.{◌≡◌, ℕ, true, List, [], ◌∷◌, ◌++◌, Ok, Err}
 use Rattle.std.specs.declared.result.Result.{Result}
 use Rattle.std.specs.List.{list_any, before_first, after_first}
 use Rattle.mk_script.specs.declared.faults.LineFault.{LineFault}
 use Rattle.mk_script.specs.declared.faults.LineStop.{LineStop}
 use Rattle.mk_script.specs.declared.faults.LineStop.TheVariants.{Fault, NoMemory}
-use Rattle.mk_script.specs.Operands.{is_plus}
+use Rattle.mk_script.specs.declared.faults.TextStop.{TextStop}
+use Rattle.mk_script.specs.declared.faults.TextStop.TheVariants as stop
+use Rattle.mk_script.specs.Grammar.{fault_at}
+use Rattle.mk_script.specs.declared.items.Item.{Item}
+use Rattle.mk_script.specs.Lines.{checked_item}
+use Rattle.mk_script.specs.Operands.{◌>>=◌, is_plus}
 
 -- the front and the back are what stands around the first `+` of the word
 pub record IsCutAtPlus (word front back : List ℕ) : Type 0 where
@@ -18,3 +23,18 @@ abbrev pub Gives : {A : Type 0} → Result A LineFault → Result A LineStop →
 Gives expected (Ok item) = expected ≡ Ok item
 Gives expected (Err (Fault fault)) = expected ≡ Err fault
 Gives expected (Err NoMemory) = Unit {0}
+
+-- what is found, where it may stand behind these
+abbrev pub checked_behind : List Item → Result Item LineFault → Result Item LineFault
+checked_behind before found = found >>= checked_item before
+
+-- the same, of a text
+abbrev pub stop_at : ℕ → LineStop → TextStop
+stop_at line (Fault fault) = fault_at line fault
+stop_at line NoMemory = stop.NoMemory
+
+abbrev pub GivesText : {A : Type 0} → Result A TextStop → Result A TextStop → Type 0
+GivesText expected (Ok items) = expected ≡ Ok items
+GivesText expected (Err (stop.Text line kind)) = expected ≡ Err (stop.Text line kind)
+GivesText expected (Err (stop.Limit line which found)) = expected ≡ Err (stop.Limit line which found)
+GivesText expected (Err stop.NoMemory) = Unit {0}

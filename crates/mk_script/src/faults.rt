@@ -1,5 +1,6 @@
 //! What can be wrong with a text.
 ghost use Rattle.std.specs.Prelude.{◌≡◌};
+ghost use Rattle.mk_script.specs.Stops.{stop_at};
 
 use std::alloc::AllocError;
 
@@ -52,11 +53,31 @@ pub enum LineFault {
     Limit { which: Which, found: u64 },
 }
 
+/// A line that has no such form, or stands in a wrong place.
+pub const WORD: LineFault = LineFault::Text(TextKind::Word);
+
 /// Why a line has no item.
 #[derive(Clone, Copy, Debug, PartialEq, Eq)]
 pub enum LineStop {
     Fault(LineFault),
     NoMemory,
+}
+
+impl LineStop {
+    /// The same, of a text whose line of this number it is.
+    pub fn at(self, line: u64) -> TextStop
+        ensures { result ≡ stop_at line self }
+    {
+        match self {
+            LineStop::Fault(LineFault::Text(kind)) => TextStop::Text { line, kind },
+            LineStop::Fault(LineFault::Limit { which, found }) => TextStop::Limit {
+                line,
+                which,
+                found,
+            },
+            LineStop::NoMemory => TextStop::NoMemory,
+        }
+    }
 }
 
 impl From<LineFault> for LineStop {
@@ -78,5 +99,16 @@ impl From<AllocError> for LineStop {
 
     fn from(_error: AllocError) -> LineStop {
         LineStop::NoMemory
+    }
+}
+
+impl From<AllocError> for TextStop {
+    ghost use Rattle.mk_script.specs.declared.faults.TextStop.{TextStop};
+    ghost use Rattle.mk_script.specs.declared.faults.TextStop.TheVariants.{NoMemory};
+
+    ghost from_gives = { λ _ stop. stop ≡ NoMemory };
+
+    fn from(_error: AllocError) -> TextStop {
+        TextStop::NoMemory
     }
 }

@@ -8,11 +8,10 @@ mod declarations;
 mod pointers;
 mod values;
 
-use crate::faults::{LineFault, TextKind};
+use crate::faults::{LineFault, WORD};
 use crate::items::Item;
 use crate::keywords::Keyword;
-
-const NO_SUCH_FORM: LineFault = LineFault::Text(TextKind::Word);
+pub use declarations::heap;
 
 /// What a line says whose first word is the keyword, and whose others are these. A type's line is read
 /// elsewhere, since its words need memory.
@@ -29,7 +28,7 @@ pub fn item(keyword: Keyword, words: &[&[u8]]) -> Result<Item, LineFault>
         [first, second, third, fourth, fifth] => with_five(
             keyword, first, second, third, fourth, fifth,
         ),
-        _ => Err(NO_SUCH_FORM),
+        _ => Err(WORD),
     }
 }
 
@@ -41,7 +40,7 @@ fn with_none(keyword: Keyword) -> Result<Item, LineFault>
     match keyword {
         Keyword::Else => Ok(Item::Else),
         Keyword::End => Ok(Item::End),
-        _ => Err(NO_SUCH_FORM),
+        _ => Err(WORD),
     }
 }
 
@@ -59,7 +58,7 @@ fn with_one(keyword: Keyword, only: &[u8]) -> Result<Item, LineFault>
         Keyword::Print => values::print(only),
         Keyword::Repeat => blocks::repeat(only),
         Keyword::If => blocks::condition(only),
-        _ => Err(NO_SUCH_FORM),
+        _ => Err(WORD),
     }
 }
 
@@ -78,7 +77,7 @@ fn with_two(keyword: Keyword, first: &[u8], second: &[u8]) -> Result<Item, LineF
         Keyword::Storeg => pointers::storeg(first, second),
         Keyword::Isnull => values::isnull(first, second),
         Keyword::Const => values::constant(first, second),
-        _ => Err(NO_SUCH_FORM),
+        _ => Err(WORD),
     }
 }
 
@@ -101,7 +100,7 @@ fn with_three(
         Keyword::Same => values::same(first, second, third),
         Keyword::Add => values::add(first, second, third),
         Keyword::Sub => values::sub(first, second, third),
-        _ => Err(NO_SUCH_FORM),
+        _ => Err(WORD),
     }
 }
 
@@ -119,6 +118,6 @@ fn with_five(
 {
     match keyword {
         Keyword::Casp => pointers::casp(first, second, third, fourth, fifth),
-        _ => Err(NO_SUCH_FORM),
+        _ => Err(WORD),
     }
 }

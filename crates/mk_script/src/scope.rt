@@ -90,6 +90,13 @@ impl Scope {
         }
     }
 
+    /// Whether the type is declared.
+    pub fn has_type(&self, name: &Name) -> bool
+        ensures { (before : List Item) → IsScopeOf self.now before → result ≡ is_among name.now (type_names before) }
+    {
+        self.types.contains(name)
+    }
+
     /// Whether the item declares a name a second time.
     fn is_twice(&self, item: &Item) -> bool
         ensures { (before : List Item) → IsScopeOf self.now before → result ≡ spec.is_twice before item.now }

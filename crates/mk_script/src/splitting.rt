@@ -3,11 +3,10 @@ ghost use Rattle.std.specs.Prelude.{◌≡◌, ◌==◌, IfOk};
 ghost use Rattle.std.specs.List.{slice_split};
 ghost use Rattle.mk_script.specs.Words.{lines_of, words_of, texts_of};
 
-use mk_never::NoMemory;
-use std::alloc::Global;
+use std::alloc::{AllocError, Global};
 
 /// The lines of a text, without their newlines.
-pub fn lines(alloc: Global, text: &[u8]) -> Result<Vec<&[u8]>, NoMemory>
+pub fn lines(alloc: Global, text: &[u8]) -> Result<Vec<&[u8]>, AllocError>
     ensures { IfOk result (λ lines. texts_of lines.items ≡ lines_of text.now) }
 {
     let mut lines = between_newlines(alloc, text)?;
@@ -20,25 +19,17 @@ pub fn lines(alloc: Global, text: &[u8]) -> Result<Vec<&[u8]>, NoMemory>
     Ok(lines)
 }
 
-fn between_newlines(alloc: Global, text: &[u8]) -> Result<Vec<&[u8]>, NoMemory>
+fn between_newlines(alloc: Global, text: &[u8]) -> Result<Vec<&[u8]>, AllocError>
     ensures { IfOk result (λ pieces. texts_of pieces.items ≡ slice_split (λ byte. byte == 10) text.now) }
 {
-    let Ok(pieces) = text.split(|byte| *byte == b'\n').collect(alloc) else {
-        return Err(NoMemory);
-    };
-    Ok(pieces)
+    text.split(|byte| *byte == b'\n').collect(alloc)
 }
 
 /// The words of a line.
-pub fn words(alloc: Global, line: &[u8]) -> Result<Vec<&[u8]>, NoMemory>
+pub fn words(alloc: Global, line: &[u8]) -> Result<Vec<&[u8]>, AllocError>
     ensures { IfOk result (λ words. texts_of words.items ≡ words_of line.now) }
 {
-    let found = line
-        .split(|byte| *byte == b' ')
+    line.split(|byte| *byte == b' ')
         .filter(|word| !word.is_empty())
-        .collect(alloc);
-    let Ok(words) = found else {
-        return Err(NoMemory);
-    };
-    Ok(words)
+        .collect(alloc)
 }

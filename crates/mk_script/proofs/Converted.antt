@@ -1,0 +1,11 @@
+-- A fault of a line that a `?` hands on.
+use Rattle.std.proofs.Common.{◌≡◌, Ok, Err, Result}
+use Rattle.std.specs.Result.{IsErrAnd}
+use Rattle.mk_script.specs.declared.faults.LineFault.{LineFault}
+use Rattle.mk_script.specs.declared.faults.LineStop.{LineStop}
+use Rattle.mk_script.specs.declared.faults.LineStop.TheVariants.{Fault}
+use Rattle.mk_script.specs.Stops.{Gives}
+
+pub gives_fault : {A : Type 0} (expected : Result A LineFault) (found : Result A LineStop) (fault : LineFault) → expected ≡ Err fault → IsErrAnd found (λ stop. stop ≡ Fault fault) → Gives expected found
+gives_fault expected (Ok item) fault is handed = absurd handed
+gives_fault expected (Err stop) fault is handed = rw handed is

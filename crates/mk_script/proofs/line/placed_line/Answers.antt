@@ -1,0 +1,24 @@
+use Rattle.std.proofs.Common.{◌≡◌, ◌≢◌, true, ◌∙◌, ap, sym, rules, arith}
+use Rattle.mk_script.specs.declared.keywords.Keyword.TheVariants.{TypeLine}
+use Rattle.mk_script.specs.Lines.{is_placed, placed_item}
+use Rattle.mk_script.specs.Stops.{checked_behind}
+use Rattle.mk_script.specs.Words.{texts_of}
+use Rattle.mk_script.proofs.Converted.{gives_fault}
+use Rattle.mk_script.proofs.Placed.{placed_plain}
+use Rattle.mk_script.proofs.line.placed_line.Goals as goal
+
+pub returns-in_err-plain_line : goal.returns-in_err-plain_line
+returns-in_err-plain_line c = λ before scope.
+    let other : c.args.keyword ≢ TypeLine = search rules in
+    let placed : is_placed before c.args.keyword ≡ true = grind (arith, c.is_placed.ensures before scope) in
+    let is = placed_plain before c.args.keyword (texts_of c.args.operands.now) other placed in
+    gives_fault _ c.from_residual.result c.in_err-plain_line.field-0.0
+    (ap (checked_behind before) is ∙ sym (c.plain_line.ensures before scope) ∙ c.in_err-plain_line.was)
+    c.from_residual.ensures.1
+
+pub returns-then-ne : goal.returns-then-ne
+returns-then-ne c = λ before scope.
+    let other : c.args.keyword ≢ TypeLine = search rules in
+    let placed : is_placed before c.args.keyword ≡ true = grind (arith, c.is_placed.ensures before scope) in
+    let is = placed_plain before c.args.keyword (texts_of c.args.operands.now) other placed in
+    ap (checked_behind before) is ∙ sym (c.plain_line.ensures before scope) ∙ c.in_ok-plain_line.was

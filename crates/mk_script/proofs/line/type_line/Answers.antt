@@ -1,0 +1,29 @@
+use Rattle.std.proofs.Common.{◌≡◌, ◌<◌, true, length, Ok, ◌∙◌, ap, sym, subst, arith}
+use Rattle.std.proofs.lemmas.Bool.Decides.{nat_tests}
+use Rattle.std.proofs.lemmas.List.{length-map}
+use Rattle.mk_script.specs.declared.items.Item.TheVariants.{TypeLine}
+use Rattle.mk_script.specs.Operands.{◌>>=◌, are_fields, fields_of}
+use Rattle.mk_script.specs.Stops.{Gives, checked_behind}
+use Rattle.mk_script.specs.Words.{texts_of}
+use Rattle.mk_script.proofs.Converted.{gives_fault}
+use Rattle.mk_script.proofs.Placed.{placed_type, named_type}
+use Rattle.mk_script.proofs.line.type_line.Goals as goal
+
+pub returns-in_err-name : goal.returns-in_err-name
+returns-in_err-name c = λ before scope placed.
+    let fields = texts_of c.args.fields.now in
+    let some : 0 < length fields = grind (arith, nat_tests, length-map c.args.fields.now (λ text. text.now)) in
+    let formed : are_fields fields ≡ true = grind arith in
+    let is = placed_type before c.args.word.now fields some placed formed ∙ named_type c.args.word.now fields in
+    gives_fault _ c.from_residual.result c.in_err-name.field-0.0
+    (ap (checked_behind before) (is ∙ ap (λ named. named >>= (λ t. Ok (TypeLine t (fields_of fields)))) (sym c.name.ensures ∙ c.in_err-name.was)))
+    c.from_residual.ensures.1
+
+pub returns : goal.returns
+returns c = λ before scope placed.
+    let fields = texts_of c.args.fields.now in
+    let some : 0 < length fields = grind (arith, nat_tests, length-map c.args.fields.now (λ text. text.now)) in
+    let formed : are_fields fields ≡ true = grind arith in
+    let is = placed_type before c.args.word.now fields some placed formed ∙ named_type c.args.word.now fields in
+    let named = is ∙ ap (λ found. found >>= (λ t. Ok (TypeLine t (fields_of fields)))) (sym c.name.ensures ∙ c.in_ok-name.was) in
+    subst (λ found. Gives (checked_behind before found) c.checked_type.result) (sym named) (c.checked_type.ensures before scope)

@@ -1,0 +1,90 @@
+//! The reader.
+ghost use Rattle.std.specs.Prelude.{◌≡◌, ◌≢◌, IfOk, IfErr, MatchResult, Ok, Err};
+ghost use Rattle.mk_script.specs.Grammar as spec;
+ghost use Rattle.mk_script.specs.Grammar.{program_of, items_of_lines};
+ghost use Rattle.mk_script.specs.ScopeOf.{IsScopeOf, ReadsLine, StopsAt};
+ghost use Rattle.mk_script.specs.Words.{lines_of, words_of};
+
+use crate::faults::{LineStop, TextKind, TextStop, Which};
+use crate::scope::Scope;
+use crate::splitting::{lines, words};
+use crate::{Item, Program, line};
+use std::alloc::{AllocError, Global};
+
+/// The greatest length of a text, in bytes.
+const TEXT_LIMIT: usize = 1_048_576;
+
+/// The program of a text, or its first fault. Each line is judged before those behind it are looked at.
+pub fn parse(alloc: Global, bytes: &[u8]) -> Result<Program, TextStop>
+    ensures program { IfOk result (λ program. program_of bytes.now ≡ Ok program) }
+    ensures fault { IfErr result (λ stop. stop ≢ TextStop.NoMemory → program_of bytes.now ≡ Err stop) }
+{
+    if bytes.len() > TEXT_LIMIT {
+        return Err(TextStop::Limit {
+            line: 0,
+            which: Which::Bytes,
+            found: 1_048_577,
+        });
+    }
+    let items = items(alloc, bytes)?;
+    Ok(Program::from_items(items))
+}
+
+/// The items of a text, one a line.
+fn items(alloc: Global, text: &[u8]) -> Result<Vec<Item>, TextStop>
+    ensures items { IfOk result (λ items. items_of_lines (lines_of text.now) ≡ Ok items.items) }
+    ensures fault { IfErr result (λ stop. stop ≢ TextStop.NoMemory → items_of_lines (lines_of text.now) ≡ Err stop) }
+{
+    let lines = lines(alloc, text)?;
+    if lines.is_empty() {
+        return Err(TextStop::Text {
+            line: 1,
+            kind: TextKind::Header,
+        });
+    }
+    let mut scope = Scope::new(alloc);
+    let mut items = Vec::new(alloc);
+    for (index, line) in lines.iter().enumerate() {
+        if let Err(stop) = read_line(alloc, &mut scope, &mut items, line) {
+            return Err(stop.at(index as u64 + 1));
+        }
+    }
+    at_end(&scope, items)
+}
+
+/// Reads a line behind those of the items and their scope.
+fn read_line(
+    alloc: Global,
+    scope: &mut Scope,
+    items: &mut Vec<Item>,
+    line: &[u8],
+) -> Result<(), LineStop>
+    ensures { IsScopeOf scope.old items.old.items → MatchResult result (λ _. ReadsLine items.old.items (words_of line.now) items.new.items scope.new) (StopsAt items.old.items (words_of line.now)) }
+{
+    let words = words(alloc, line)?;
+    let item = line::item(alloc, scope, &words)?;
+    scope.add(&item)?;
+    items.push(item).map_err(AllocError::from)?;
+    Ok(())
+}
+
+/// The items, where the text may end behind them.
+fn at_end(scope: &Scope, items: Vec<Item>) -> Result<Vec<Item>, TextStop>
+    ensures { IsScopeOf scope.now items.items → MatchResult result (λ kept. spec.at_end items.items ≡ Ok kept.items) (λ stop. spec.at_end items.items ≡ Err stop) }
+{
+    let line = items.len() as u64;
+    if scope.has_open_block() {
+        return Err(TextStop::Text {
+            line,
+            kind: TextKind::End,
+        });
+    }
+    if !scope.has_script() {
+        return Err(TextStop::Limit {
+            line,
+            which: Which::Scripts,
+            found: 0,
+        });
+    }
+    Ok(items)
+}
