@@ -4,5 +4,6 @@ pub mod Declarations
 pub mod Feed
 pub mod Lengths
 pub mod Lookups
+pub mod Numbers
 pub mod Rules
 pub mod Typing
