@@ -1,6 +1,7 @@
 pub mod CountLemmas
 pub mod FaultLemmas
 pub mod LookupLemmas
+pub mod NumberLemmas
 pub mod RuleLemmas
 pub mod Builds
 pub mod Moves

@@ -6,6 +6,7 @@ pub mod Feed
 pub mod Feeding
 pub mod Lengths
 pub mod Lookups
+pub mod Numbers
 pub mod Rules
 pub mod NamesInScope
 pub mod Steps

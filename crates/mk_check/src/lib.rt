@@ -5,6 +5,7 @@ mod checked;
 mod checking;
 mod lengths;
 mod lookups;
+mod numbers;
 mod places;
 mod typing;
 mod typing_faults;

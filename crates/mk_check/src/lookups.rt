@@ -15,7 +15,7 @@ use std::collections::{HashMap, HashSet};
 use std::marker::Model;
 
 /// Adds a value for a name that has none.
-fn add_first<'a, V: Copy>(
+pub fn add_first<'a, V: Copy>(
     names: &mut HashMap<&'a [u8], V>,
     name: &'a Name,
     value: V,

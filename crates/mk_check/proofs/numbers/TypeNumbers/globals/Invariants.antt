@@ -1,0 +1,7 @@
+use Rattle.std.proofs.Common.{◌≡◌, take}
+use Rattle.mk_script.specs.Scopes.{type_names}
+use Rattle.mk_check.specs.Declarations.{globals_among}
+use Rattle.mk_check.proofs.numbers.TypeNumbers.globals.Given as goal
+
+abbrev pub invariant-loop-item : goal.invariant-loop-item
+invariant-loop-item l = l.globals ≡ globals_among (type_names l.self) (take l.item-index l.item-items)

@@ -1,0 +1,8 @@
+use Rattle.std.proofs.Common.{◌≤◌, take}
+use Rattle.mk_script.specs.Scopes.{type_names}
+use Rattle.mk_check.specs.Numbers.{AreNumbers}
+use Rattle.mk_check.proofs.numbers.TypeNumbers.of_program.Given as goal
+
+abbrev pub invariant-loop-item : goal.invariant-loop-item
+invariant-loop-item l =
+    record { numbers : AreNumbers l.numbers l.count (type_names (take l.item-index l.program)); fits : l.count ≤ l.item-index }

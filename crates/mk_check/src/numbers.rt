@@ -1,0 +1,113 @@
+//! Types and globals of a program as tables, where a type is its number.
+ghost use Rattle.std.specs.Prelude.{◌≡◌, ◌≤◌, map, length, IfOk};
+ghost use Rattle.mk_script.specs.Scopes.{global_names, type_names};
+ghost use Rattle.mk_check.specs.Declarations.{place_of, kind_of, types_of, globals_of};
+
+use crate::lookups::add_first;
+use mk_core::GlobalTable;
+use mk_never::{Kind, NoMemory, TypeTable};
+use mk_script::{Item, Name, TypeWord};
+use std::alloc::Global;
+use std::collections::HashMap;
+use std::marker::Model;
+
+/// The numbers of a program's types, by name.
+#[derive(Drop)]
+pub struct TypeNumbers<'a> {
+    program: &'a [Item],
+    numbers: HashMap<&'a [u8], u64>,
+    count: u64,
+}
+
+impl<'a> Model for TypeNumbers<'a> {
+    ghost use Rattle.std.specs.Prelude.{List};
+    ghost use Rattle.mk_script.specs.declared.items.Item.{Item};
+    ghost use Rattle.mk_script.specs.Scopes.{type_names};
+    ghost use Rattle.mk_check.specs.Numbers.{AreNumbers};
+
+    ghost Value = { List Item };
+
+    ghost view = { λ t. t.program.now };
+
+    ghost invariant = { λ t. AreNumbers t.numbers t.count (type_names t.program.now) };
+}
+
+impl<'a> TypeNumbers<'a> {
+    pub fn of_program(alloc: Global, program: &'a [Item]) -> Result<TypeNumbers<'a>, NoMemory>
+        ensures { IfOk result (λ numbers. numbers ≡ program.now) }
+    {
+        let mut numbers = HashMap::new(alloc);
+        let mut count = 0;
+        for item in program {
+            if let Item::TypeLine { name, .. } = item {
+                add_first(&mut numbers, name, count)?;
+                count += 1;
+            }
+        }
+        Ok(TypeNumbers {
+            program,
+            numbers,
+            count,
+        })
+    }
+
+    /// The number of a type; the count of types for another name.
+    fn number(&self, name: &Name) -> u64
+        ensures { result ≡ place_of name.now (type_names self.now) }
+    {
+        self.numbers
+            .get(&name.as_bytes())
+            .copied()
+            .unwrap_or(self.count)
+    }
+
+    fn kind(&self, word: &TypeWord) -> Kind
+        ensures { result ≡ kind_of (type_names self.now) word.now }
+    {
+        match word {
+            TypeWord::Number => Kind::Num,
+            TypeWord::Pointer(at) => Kind::To {
+                ty: self.number(&at.name),
+                offset: at.offset,
+            },
+        }
+    }
+
+    fn kinds(&self, alloc: Global, words: &[TypeWord]) -> Result<Vec<Kind>, NoMemory>
+        ensures { IfOk result (λ kinds. kinds.items ≡ map (kind_of (type_names self.now)) words.now) }
+    {
+        let Ok(kinds) = words
+            .iter()
+            .map(|word| self.kind(word))
+            .collect::<Vec<Kind>>(alloc)
+        else {
+            return Err(NoMemory);
+        };
+        Ok(kinds)
+    }
+
+    pub fn types(&self, alloc: Global) -> Result<TypeTable, NoMemory>
+        ensures { IfOk result (λ types. types ≡ types_of self.now) }
+    {
+        let mut types = TypeTable::new(alloc);
+        for item in self.program {
+            if let Item::TypeLine { words, .. } = item {
+                types.add(self.kinds(alloc, words.as_slice())?)?;
+            }
+        }
+        Ok(types)
+    }
+
+    pub fn globals(&self, alloc: Global) -> Result<GlobalTable, NoMemory>
+        requires { length (global_names self.now) ≤ 64 }
+        ensures { IfOk result (λ globals. globals ≡ globals_of self.now) }
+    {
+        let mut globals = GlobalTable::new(alloc);
+        for item in self.program {
+            if let Item::Global { ty, .. } = item {
+                globals.add(self.number(ty))?;
+            }
+        }
+        Ok(globals)
+    }
+}
