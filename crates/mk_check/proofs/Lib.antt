@@ -1,4 +1,5 @@
 pub mod Builds
+pub mod FewNames
 pub mod Moves
 pub mod Stands
 pub mod StepLaws
