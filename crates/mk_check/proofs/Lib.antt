@@ -4,6 +4,7 @@ pub mod LookupLemmas
 pub mod NumberLemmas
 pub mod RuleLemmas
 pub mod Builds
+pub mod FewNames
 pub mod Moves
 pub mod Stands
 pub mod StepLaws

@@ -17,31 +17,6 @@ line_of_parts scope line item (part ∷ parts) = refl
 
 pub part_of-with_item : (scope : Scope) (line : ℕ) (item : Item) (parts : List Part)
     → map (part_of scope) (with_item line item parts) ≡ with_element line (element_of scope item) (map (part_of scope) parts)
-part_of-with_item scope line (Heap pages resident) parts = line_of_parts scope line (Heap pages resident) parts
-part_of-with_item scope line (TypeLine name words) parts = line_of_parts scope line (TypeLine name words) parts
-part_of-with_item scope line (Global name ty) parts = line_of_parts scope line (Global name ty) parts
-part_of-with_item scope line (Script name) parts = line_of_parts scope line (Script name) parts
-part_of-with_item scope line (Ptr name at) parts = line_of_parts scope line (Ptr name at) parts
-part_of-with_item scope line (Num name) parts = line_of_parts scope line (Num name) parts
-part_of-with_item scope line (New pointer ty) parts = line_of_parts scope line (New pointer ty) parts
-part_of-with_item scope line (Free pointer) parts = line_of_parts scope line (Free pointer) parts
-part_of-with_item scope line (Getn number pointer index) parts = line_of_parts scope line (Getn number pointer index) parts
-part_of-with_item scope line (Setn pointer index number) parts = line_of_parts scope line (Setn pointer index number) parts
-part_of-with_item scope line (Getp loaded pointer index) parts = line_of_parts scope line (Getp loaded pointer index) parts
-part_of-with_item scope line (Setp pointer index stored) parts = line_of_parts scope line (Setp pointer index stored) parts
-part_of-with_item scope line (Casp number pointer index expected stored) parts = line_of_parts scope line (Casp number pointer index expected stored) parts
-part_of-with_item scope line (Lea moved pointer index) parts = line_of_parts scope line (Lea moved pointer index) parts
-part_of-with_item scope line (Move copied pointer) parts = line_of_parts scope line (Move copied pointer) parts
-part_of-with_item scope line (Clear pointer) parts = line_of_parts scope line (Clear pointer) parts
-part_of-with_item scope line (Loadg loaded global) parts = line_of_parts scope line (Loadg loaded global) parts
-part_of-with_item scope line (Storeg stored global) parts = line_of_parts scope line (Storeg stored global) parts
-part_of-with_item scope line (Same number first second) parts = line_of_parts scope line (Same number first second) parts
-part_of-with_item scope line (Isnull number pointer) parts = line_of_parts scope line (Isnull number pointer) parts
-part_of-with_item scope line (Show pointer) parts = line_of_parts scope line (Show pointer) parts
-part_of-with_item scope line (Const number value) parts = line_of_parts scope line (Const number value) parts
-part_of-with_item scope line (Add number left right) parts = line_of_parts scope line (Add number left right) parts
-part_of-with_item scope line (Sub number left right) parts = line_of_parts scope line (Sub number left right) parts
-part_of-with_item scope line (Print number) parts = line_of_parts scope line (Print number) parts
 part_of-with_item scope line (Repeat rounds) [] = refl
 part_of-with_item scope line (Repeat rounds) (body ∷ []) = refl
 part_of-with_item scope line (Repeat rounds) (body ∷ part ∷ parts) = refl
@@ -51,6 +26,7 @@ part_of-with_item scope line (If number) (first ∷ part ∷ parts) = refl
 part_of-with_item scope line Else [] = refl
 part_of-with_item scope line Else (second ∷ parts) = refl
 part_of-with_item scope line End parts = refl
+part_of-with_item scope line item parts = line_of_parts scope line item parts
 
 -- the parts from an item are those behind it, with the item before them
 pub parts_from_more : (scope : Scope) (line i next : ℕ) (items : List Item) (item : Item) → i < length items → item ≡ slice_index_or items i item → next ≡ i + 1

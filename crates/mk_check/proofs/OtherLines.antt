@@ -4,68 +4,12 @@ use Rattle.mk_script.specs.declared.items.Item.{Item}
 use Rattle.mk_script.specs.declared.items.Item.TheVariants.{Heap, TypeLine, Global, Script, Ptr, Num, New, Free, Getn, Setn, Getp, Setp, Casp, Lea, Move, Clear, Loadg, Storeg, Same, Isnull, Show, Const, Add, Sub, Print, Repeat, If, Else, End}
 use Rattle.mk_check.specs.declared.feeding.instructions.Element.TheVariants as element
 use Rattle.mk_check.specs.Feed.{Scope}
-use Rattle.mk_check.specs.Steps.{instruction_of, or_asking, load_among, op_among, element_of}
-
-pub instruction_of_others : (scope : Scope) (i : Item) → ((x : List ℕ) → (y : ℕ) → (z : List ℕ) → i ≡ Setn x y z → ⊥) → ((x : List ℕ) → i ≡ Show x → ⊥) → ((x : List ℕ) → (y : ℕ) → i ≡ Const x y → ⊥) → ((x : List ℕ) → (y : List ℕ) → (z : List ℕ) → i ≡ Add x y z → ⊥) → ((x : List ℕ) → (y : List ℕ) → (z : List ℕ) → i ≡ Sub x y z → ⊥) → ((x : List ℕ) → i ≡ Print x → ⊥)
-    → or_asking (load_among scope i) (op_among scope i) ≡ instruction_of scope i
-instruction_of_others scope (Heap pages resident) _ _ _ _ _ _ = refl
-instruction_of_others scope (TypeLine name words) _ _ _ _ _ _ = refl
-instruction_of_others scope (Global name ty) _ _ _ _ _ _ = refl
-instruction_of_others scope (Script name) _ _ _ _ _ _ = refl
-instruction_of_others scope (Ptr name at) _ _ _ _ _ _ = refl
-instruction_of_others scope (Num name) _ _ _ _ _ _ = refl
-instruction_of_others scope (New pointer ty) _ _ _ _ _ _ = refl
-instruction_of_others scope (Free pointer) _ _ _ _ _ _ = refl
-instruction_of_others scope (Getn number pointer index) _ _ _ _ _ _ = refl
-instruction_of_others scope (Setn pointer index number) not_setn _ _ _ _ _ = absurd (not_setn pointer index number refl)
-instruction_of_others scope (Getp loaded pointer index) _ _ _ _ _ _ = refl
-instruction_of_others scope (Setp pointer index stored) _ _ _ _ _ _ = refl
-instruction_of_others scope (Casp number pointer index expected stored) _ _ _ _ _ _ = refl
-instruction_of_others scope (Lea moved pointer index) _ _ _ _ _ _ = refl
-instruction_of_others scope (Move copied pointer) _ _ _ _ _ _ = refl
-instruction_of_others scope (Clear pointer) _ _ _ _ _ _ = refl
-instruction_of_others scope (Loadg loaded global) _ _ _ _ _ _ = refl
-instruction_of_others scope (Storeg stored global) _ _ _ _ _ _ = refl
-instruction_of_others scope (Same number first second) _ _ _ _ _ _ = refl
-instruction_of_others scope (Isnull number pointer) _ _ _ _ _ _ = refl
-instruction_of_others scope (Show pointer) _ not_show _ _ _ _ = absurd (not_show pointer refl)
-instruction_of_others scope (Const number value) _ _ not_const _ _ _ = absurd (not_const number value refl)
-instruction_of_others scope (Add number left right) _ _ _ not_add _ _ = absurd (not_add number left right refl)
-instruction_of_others scope (Sub number left right) _ _ _ _ not_sub _ = absurd (not_sub number left right refl)
-instruction_of_others scope (Print number) _ _ _ _ _ not_print = absurd (not_print number refl)
-instruction_of_others scope (Repeat rounds) _ _ _ _ _ _ = refl
-instruction_of_others scope (If number) _ _ _ _ _ _ = refl
-instruction_of_others scope Else _ _ _ _ _ _ = refl
-instruction_of_others scope End _ _ _ _ _ _ = refl
+use Rattle.mk_check.specs.Steps.{instruction_of, element_of}
 
 pub element_of_others : (scope : Scope) (i : Item) → ((x : ℕ) → i ≡ Repeat x → ⊥) → ((x : List ℕ) → i ≡ If x → ⊥) → (i ≡ Else → ⊥) → (i ≡ End → ⊥)
     → element.Line (instruction_of scope i) ≡ element_of scope i
-element_of_others scope (Heap pages resident) _ _ _ _ = refl
-element_of_others scope (TypeLine name words) _ _ _ _ = refl
-element_of_others scope (Global name ty) _ _ _ _ = refl
-element_of_others scope (Script name) _ _ _ _ = refl
-element_of_others scope (Ptr name at) _ _ _ _ = refl
-element_of_others scope (Num name) _ _ _ _ = refl
-element_of_others scope (New pointer ty) _ _ _ _ = refl
-element_of_others scope (Free pointer) _ _ _ _ = refl
-element_of_others scope (Getn number pointer index) _ _ _ _ = refl
-element_of_others scope (Setn pointer index number) _ _ _ _ = refl
-element_of_others scope (Getp loaded pointer index) _ _ _ _ = refl
-element_of_others scope (Setp pointer index stored) _ _ _ _ = refl
-element_of_others scope (Casp number pointer index expected stored) _ _ _ _ = refl
-element_of_others scope (Lea moved pointer index) _ _ _ _ = refl
-element_of_others scope (Move copied pointer) _ _ _ _ = refl
-element_of_others scope (Clear pointer) _ _ _ _ = refl
-element_of_others scope (Loadg loaded global) _ _ _ _ = refl
-element_of_others scope (Storeg stored global) _ _ _ _ = refl
-element_of_others scope (Same number first second) _ _ _ _ = refl
-element_of_others scope (Isnull number pointer) _ _ _ _ = refl
-element_of_others scope (Show pointer) _ _ _ _ = refl
-element_of_others scope (Const number value) _ _ _ _ = refl
-element_of_others scope (Add number left right) _ _ _ _ = refl
-element_of_others scope (Sub number left right) _ _ _ _ = refl
-element_of_others scope (Print number) _ _ _ _ = refl
 element_of_others scope (Repeat rounds) not_repeat _ _ _ = absurd (not_repeat rounds refl)
 element_of_others scope (If number) _ not_if _ _ = absurd (not_if number refl)
 element_of_others scope Else _ _ not_else _ = absurd (not_else refl)
 element_of_others scope End _ _ _ not_end = absurd (not_end refl)
+element_of_others scope i _ _ _ _ = refl

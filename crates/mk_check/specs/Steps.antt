@@ -1,5 +1,6 @@
 -- A script with numbers for its names, and what it does. It is the script of the definitions in Feed, with less to look up.
-use Rattle.std.specs.Prelude.{ℕ, zero, suc, ◌+◌, ◌-◌, ◌%◌, ◌^◌, Bool, true, false, List, [], ◌∷◌, ◌++◌, slice_index, slice_set, ◌==◌, if◌then◌else◌, Option, Some, None, is_some}
+use Rattle.std.specs.Prelude.{ℕ, zero, suc, ◌+◌, ◌-◌, ◌%◌, ◌^◌, Bool, true, false, List, [], ◌∷◌, ◌++◌, slice_index, slice_set, ◌==◌, if◌then◌else◌, Option, Some, None, is_some, unwrap_or}
+use Rattle.std.specs.Option.{option_or}
 use Rattle.std.specs.Fmt.{decimal}
 use Rattle.mk_never.specs.declared.operations.Op.{Op}
 use Rattle.mk_never.specs.declared.operations.Op.TheVariants as op
@@ -38,40 +39,53 @@ none_left (Choice number first second rest) = false
 abbrev pub number_place : Scope → List ℕ → ℕ
 number_place scope name = place_of name scope.numbers
 
--- the operation of an instruction that keeps no number
-abbrev pub op_among : Scope → Item → Option Op
-op_among scope (item.New pointer ty) = Some (op.New (pointer_place scope pointer) (place_of ty scope.types) false)
-op_among scope (item.Free pointer) = Some (op.Free (pointer_place scope pointer))
-op_among scope (item.Getp loaded pointer index) = Some (op.GetPtr (pointer_place scope loaded) (pointer_place scope pointer) index)
-op_among scope (item.Setp pointer index stored) = Some (op.SetPtr (pointer_place scope pointer) index (pointer_place scope stored))
-op_among scope (item.Lea moved pointer index) = Some (op.Lea (pointer_place scope moved) (pointer_place scope pointer) index)
-op_among scope (item.Move copied pointer) = Some (op.Move (pointer_place scope copied) (pointer_place scope pointer))
-op_among scope (item.Clear pointer) = Some (op.Clear (pointer_place scope pointer))
-op_among scope (item.Loadg loaded global) = Some (op.GetGlobal (pointer_place scope loaded) (place_of global scope.globals))
-op_among scope (item.Storeg stored global) = Some (op.SetGlobal (place_of global scope.globals) (pointer_place scope stored))
-op_among scope other = None
+-- the operation of an instruction on an object, if it keeps no number
+abbrev pub object_op : Scope → Item → Option Op
+object_op scope (item.New pointer ty) = Some (op.New (pointer_place scope pointer) (place_of ty scope.types) false)
+object_op scope (item.Free pointer) = Some (op.Free (pointer_place scope pointer))
+object_op scope (item.Getp loaded pointer index) = Some (op.GetPtr (pointer_place scope loaded) (pointer_place scope pointer) index)
+object_op scope (item.Setp pointer index stored) = Some (op.SetPtr (pointer_place scope pointer) index (pointer_place scope stored))
+object_op scope other = None
 
--- one that keeps a number
-abbrev pub load_among : Scope → Item → Option Instruction
-load_among scope (item.Getn number pointer index) = Some (Load (number_place scope number) (op.GetNum (pointer_place scope pointer) index))
-load_among scope (item.Casp number pointer index expected stored) = Some (Load (number_place scope number) (op.CasPtr (pointer_place scope pointer) index (pointer_place scope expected) (pointer_place scope stored)))
-load_among scope (item.Same number first second) = Some (Load (number_place scope number) (op.Same (pointer_place scope first) (pointer_place scope second)))
-load_among scope (item.Isnull number pointer) = Some (Load (number_place scope number) (op.IsNull (pointer_place scope pointer)))
-load_among scope other = None
+-- the operation of an instruction that copies a pointer
+abbrev pub register_op : Scope → Item → Option Op
+register_op scope (item.Lea moved pointer index) = Some (op.Lea (pointer_place scope moved) (pointer_place scope pointer) index)
+register_op scope (item.Move copied pointer) = Some (op.Move (pointer_place scope copied) (pointer_place scope pointer))
+register_op scope (item.Clear pointer) = Some (op.Clear (pointer_place scope pointer))
+register_op scope (item.Loadg loaded global) = Some (op.GetGlobal (pointer_place scope loaded) (place_of global scope.globals))
+register_op scope (item.Storeg stored global) = Some (op.SetGlobal (place_of global scope.globals) (pointer_place scope stored))
+register_op scope other = None
 
-abbrev pub or_asking : Option Instruction → Option Op → Instruction
-or_asking (Some instruction) o = instruction
-or_asking None (Some o) = Ask o
-or_asking None None = Nothing
+-- an instruction that keeps a number of an object
+abbrev pub load : Scope → Item → Option Instruction
+load scope (item.Getn number pointer index) = Some (Load (number_place scope number) (op.GetNum (pointer_place scope pointer) index))
+load scope (item.Casp number pointer index expected stored) =
+    Some (Load (number_place scope number) (op.CasPtr (pointer_place scope pointer) index (pointer_place scope expected) (pointer_place scope stored)))
+load scope other = None
+
+-- an instruction that keeps or shows what it tests of pointers
+abbrev pub test : Scope → Item → Option Instruction
+test scope (item.Same number first second) = Some (Load (number_place scope number) (op.Same (pointer_place scope first) (pointer_place scope second)))
+test scope (item.Isnull number pointer) = Some (Load (number_place scope number) (op.IsNull (pointer_place scope pointer)))
+test scope (item.Show pointer) = Some (Show (pointer_place scope pointer))
+test scope other = None
+
+-- an instruction that reads number registers
+abbrev pub arithmetic : Scope → Item → Option Instruction
+arithmetic scope (item.Const number value) = Some (Const (number_place scope number) value)
+arithmetic scope (item.Add number left right) = Some (Add (number_place scope number) (number_place scope left) (number_place scope right))
+arithmetic scope (item.Sub number left right) = Some (Sub (number_place scope number) (number_place scope left) (number_place scope right))
+arithmetic scope (item.Print number) = Some (Print (number_place scope number))
+arithmetic scope (item.Setn pointer index number) = Some (Store (pointer_place scope pointer) index (number_place scope number))
+arithmetic scope other = None
+
+abbrev pub asking_or : Option Op → Option Instruction → Instruction
+asking_or None other = unwrap_or other Nothing
+asking_or (Some o) other = Ask o
 
 abbrev pub instruction_of : Scope → Item → Instruction
-instruction_of scope (item.Setn pointer index number) = Store (pointer_place scope pointer) index (number_place scope number)
-instruction_of scope (item.Show pointer) = Show (pointer_place scope pointer)
-instruction_of scope (item.Const number value) = Const (number_place scope number) value
-instruction_of scope (item.Add number left right) = Add (number_place scope number) (number_place scope left) (number_place scope right)
-instruction_of scope (item.Sub number left right) = Sub (number_place scope number) (number_place scope left) (number_place scope right)
-instruction_of scope (item.Print number) = Print (number_place scope number)
-instruction_of scope other = or_asking (load_among scope other) (op_among scope other)
+instruction_of scope item =
+    asking_or (option_or (object_op scope item) (register_op scope item)) (option_or (option_or (load scope item) (test scope item)) (arithmetic scope item))
 
 abbrev pub element_of : Scope → Item → Element
 element_of scope (item.Repeat rounds) = element.Repeat rounds

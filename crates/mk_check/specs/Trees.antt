@@ -108,7 +108,7 @@ pub record LeavesBlock (old new : Place) : Type 0 where
   pub was : old.frames ≡ frames ++ frame ∷ []
   pub is : new ≡ left_block (record old { frames = frames }) frame
 
--- at least how many moves are left
+-- no fewer than the moves that are left
 abbrev pub work_of : Steps → ℕ
 work_of Done = 0
 work_of (Line line instruction rest) = 1 + work_of rest

@@ -43,13 +43,13 @@ impl Feed {
     ghost use Rattle.mk_core.specs.declared.events.Answer.{Answer};
     ghost use Rattle.mk_script.specs.declared.items.Item.{Item};
     ghost use Rattle.mk_check.specs.Feed.{feed, has_ended};
-    ghost use Rattle.mk_check.specs.NamesInScope.{HasFew};
+    ghost use Rattle.mk_script.specs.Grammar.{IsOfSomeText};
     ghost use Rattle.mk_check.specs.Feeding.{script_scope, op_in, next_op, StandsFor, TakesAnswer};
 
     /// Script `script` of a program, from 0 on, which has no answer yet.
     pub fn start(alloc: Global, program: &[Item], script: u64) -> Result<Feed, NoMemory>
         requires exists { script < length (script_names program.now) }
-        requires few { HasFew (script_scope program.now script) }
+        requires text { IsOfSomeText program.now }
         ensures { IfOk result (λ f. StandsFor program.now script f []) }
     {
         let lines = script_at(program, script);

@@ -86,7 +86,7 @@ impl<'a> Model for Names<'a> {
 impl<'a> Names<'a> {
     ghost use Rattle.mk_check.specs.NamesInScope.{HasFew};
     ghost use Rattle.mk_check.specs.Feed.{pointer_place};
-    ghost use Rattle.mk_check.specs.Steps.{op_among, load_among, or_asking, element_of};
+    ghost use Rattle.mk_check.specs.Steps.{object_op, register_op, load, test, arithmetic, element_of};
 
     pub fn of(alloc: Global, program: &'a [Item], script: &'a [Item]) -> Result<Names<'a>, NoMemory>
         ensures { IfOk result (λ names. names ≡ scope_of program.now script.now) }
@@ -132,180 +132,197 @@ impl<'a> Names<'a> {
         place_among(&self.numbers, name)
     }
 
-    /// The operation of an instruction that keeps no number.
-    fn op(&self, item: &Item) -> Option<Op>
+    /// The operation of an instruction on an object, if it keeps no number.
+    fn object_op(&self, item: &Item) -> Option<Op>
         requires { HasFew self.now }
-        ensures { result ≡ op_among self.now item.now }
+        ensures { result ≡ object_op self.now item.now }
     {
-        let op = match item {
-            Item::New { pointer, ty } => Op::New {
+        match item {
+            Item::New { pointer, ty } => Some(Op::New {
                 d: self.pointer(pointer),
                 ty: self.ty(ty),
                 full: false,
-            },
-            Item::Free { pointer } => Op::Free {
+            }),
+            Item::Free { pointer } => Some(Op::Free {
                 p: self.pointer(pointer),
-            },
+            }),
             Item::Getp {
                 loaded,
                 pointer,
                 index,
-            } => Op::GetPtr {
+            } => Some(Op::GetPtr {
                 d: self.pointer(loaded),
                 q: self.pointer(pointer),
                 i: *index,
-            },
+            }),
             Item::Setp {
                 pointer,
                 index,
                 stored,
-            } => Op::SetPtr {
+            } => Some(Op::SetPtr {
                 q: self.pointer(pointer),
                 i: *index,
                 p: self.pointer(stored),
-            },
+            }),
+            _ => None,
+        }
+    }
+
+    /// The operation of an instruction that copies a pointer.
+    fn register_op(&self, item: &Item) -> Option<Op>
+        requires { HasFew self.now }
+        ensures { result ≡ register_op self.now item.now }
+    {
+        match item {
             Item::Lea {
                 moved,
                 pointer,
                 index,
-            } => Op::Lea {
+            } => Some(Op::Lea {
                 d: self.pointer(moved),
                 q: self.pointer(pointer),
                 i: *index,
-            },
-            Item::Move { copied, pointer } => Op::Move {
+            }),
+            Item::Move { copied, pointer } => Some(Op::Move {
                 d: self.pointer(copied),
                 q: self.pointer(pointer),
-            },
-            Item::Clear { pointer } => Op::Clear {
+            }),
+            Item::Clear { pointer } => Some(Op::Clear {
                 d: self.pointer(pointer),
-            },
-            Item::Loadg { loaded, global } => Op::GetGlobal {
+            }),
+            Item::Loadg { loaded, global } => Some(Op::GetGlobal {
                 d: self.pointer(loaded),
                 g: self.global(global),
-            },
-            Item::Storeg { stored, global } => Op::SetGlobal {
+            }),
+            Item::Storeg { stored, global } => Some(Op::SetGlobal {
                 g: self.global(global),
                 p: self.pointer(stored),
-            },
-            _ => return None,
-        };
-        Some(op)
+            }),
+            _ => None,
+        }
     }
 
-    /// The operation of an instruction that keeps a number, and its register.
+    /// An instruction that keeps a number of an object.
     fn load(&self, item: &Item) -> Option<Instruction>
         requires { HasFew self.now }
-        ensures { result ≡ load_among self.now item.now }
+        ensures { result ≡ load self.now item.now }
     {
-        let (number, op) = match item {
+        match item {
             Item::Getn {
                 number,
                 pointer,
                 index,
-            } => (
-                number,
-                Op::GetNum {
+            } => Some(Instruction::Load {
+                number: self.number(number),
+                op: Op::GetNum {
                     q: self.pointer(pointer),
                     i: *index,
                 },
-            ),
+            }),
             Item::Casp {
                 number,
                 pointer,
                 index,
                 expected,
                 stored,
-            } => (
-                number,
-                Op::CasPtr {
+            } => Some(Instruction::Load {
+                number: self.number(number),
+                op: Op::CasPtr {
                     q: self.pointer(pointer),
                     i: *index,
                     p: self.pointer(expected),
                     r: self.pointer(stored),
                 },
-            ),
+            }),
+            _ => None,
+        }
+    }
+
+    /// An instruction that keeps what it tests of pointers.
+    fn test(&self, item: &Item) -> Option<Instruction>
+        requires { HasFew self.now }
+        ensures { result ≡ test self.now item.now }
+    {
+        match item {
             Item::Same {
                 number,
                 first,
                 second,
-            } => (
-                number,
-                Op::Same {
+            } => Some(Instruction::Load {
+                number: self.number(number),
+                op: Op::Same {
                     p: self.pointer(first),
                     q: self.pointer(second),
                 },
-            ),
-            Item::Isnull { number, pointer } => (
-                number,
-                Op::IsNull {
+            }),
+            Item::Isnull { number, pointer } => Some(Instruction::Load {
+                number: self.number(number),
+                op: Op::IsNull {
                     p: self.pointer(pointer),
                 },
-            ),
-            _ => return None,
-        };
-        Some(Instruction::Load {
-            number: self.number(number),
-            op,
-        })
+            }),
+            Item::Show { pointer } => Some(Instruction::Show {
+                p: self.pointer(pointer),
+            }),
+            _ => None,
+        }
+    }
+
+    /// An instruction that reads number registers.
+    fn arithmetic(&self, item: &Item) -> Option<Instruction>
+        requires { HasFew self.now }
+        ensures { result ≡ arithmetic self.now item.now }
+    {
+        match item {
+            Item::Const { number, value } => Some(Instruction::Const {
+                number: self.number(number),
+                value: *value,
+            }),
+            Item::Add {
+                number,
+                left,
+                right,
+            } => Some(Instruction::Add {
+                number: self.number(number),
+                left: self.number(left),
+                right: self.number(right),
+            }),
+            Item::Sub {
+                number,
+                left,
+                right,
+            } => Some(Instruction::Sub {
+                number: self.number(number),
+                left: self.number(left),
+                right: self.number(right),
+            }),
+            Item::Print { number } => Some(Instruction::Print {
+                number: self.number(number),
+            }),
+            Item::Setn {
+                pointer,
+                index,
+                number,
+            } => Some(Instruction::Store {
+                q: self.pointer(pointer),
+                i: *index,
+                number: self.number(number),
+            }),
+            _ => None,
+        }
     }
 
     fn instruction(&self, item: &Item) -> Instruction
         requires { HasFew self.now }
         ensures { result ≡ instruction_of self.now item.now }
     {
-        match item {
-            Item::Setn {
-                pointer,
-                index,
-                number,
-            } => Instruction::Store {
-                q: self.pointer(pointer),
-                i: *index,
-                number: self.number(number),
-            },
-            Item::Show { pointer } => Instruction::Show {
-                p: self.pointer(pointer),
-            },
-            Item::Const { number, value } => Instruction::Const {
-                number: self.number(number),
-                value: *value,
-            },
-            Item::Add {
-                number,
-                left,
-                right,
-            } => Instruction::Add {
-                number: self.number(number),
-                left: self.number(left),
-                right: self.number(right),
-            },
-            Item::Sub {
-                number,
-                left,
-                right,
-            } => Instruction::Sub {
-                number: self.number(number),
-                left: self.number(left),
-                right: self.number(right),
-            },
-            Item::Print { number } => Instruction::Print {
-                number: self.number(number),
-            },
-            _ => self.asking(item),
+        if let Some(op) = self.object_op(item).or(self.register_op(item)) {
+            return Instruction::Ask { op };
         }
-    }
-
-    /// The instruction, where it asks for an operation.
-    fn asking(&self, item: &Item) -> Instruction
-        requires { HasFew self.now }
-        ensures { result ≡ or_asking (load_among self.now item.now) (op_among self.now item.now) }
-    {
-        match (self.load(item), self.op(item)) {
-            (Some(instruction), _) => instruction,
-            (None, Some(op)) => Instruction::Ask { op },
-            (None, None) => Instruction::Nothing,
-        }
+        self.load(item)
+            .or(self.test(item))
+            .or(self.arithmetic(item))
+            .unwrap_or(Instruction::Nothing)
     }
 
     /// What a line adds to a script's tree.

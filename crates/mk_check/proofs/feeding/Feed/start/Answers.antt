@@ -7,7 +7,18 @@ use Rattle.mk_check.specs.Steps.{steps_of}
 use Rattle.mk_check.specs.Trees.{Place, steps_at, trees}
 use Rattle.mk_check.specs.Feeding.{script_scope}
 use Rattle.mk_check.proofs.Stands.{start_stands, start_stops}
+use Rattle.mk_check.specs.NamesInScope.{HasFew}
+use Rattle.mk_check.proofs.FewNames.{text_has_few}
 use Rattle.mk_check.proofs.feeding.Feed.start.Goals as goal
+use Rattle.mk_check.proofs.feeding.Feed.start.Goals.{In_ok-names}
+
+-- the names are those that the script may use
+names : (c : In_ok-names) → c.in_ok-names.names ≡ script_scope c.args.program.now c.args.script
+names c = c.in_ok-names.ensures ∙ ap (scope_of c.args.program.now) c.script_at-lines.ensures.items
+
+pub tree_of-requires-clause-few : goal.tree_of-requires-clause-few
+tree_of-requires-clause-few c =
+    subst (λ (s : Scope). HasFew s) (sym (names ((goal.at.tree_of-requires-clause-few c).In_ok-names))) (text_has_few c.args.program.now c.args.script c.requires.text)
 
 pub returns : goal.returns
 returns c =
@@ -15,14 +26,14 @@ returns c =
     let k = c.args.script in
     let lines = c.script_at-lines in
     let scope = script_scope program k in
-    let names : c.in_ok-names.names ≡ scope = c.in_ok-names.ensures ∙ ap (scope_of program) lines.ensures.items in
+    let named : c.in_ok-names.names ≡ scope = names ((goal.at.returns c).In_ok-names) in
     let script : ScriptText = script_of program k in
     let steps : steps_at (trees c.in_ok-tree.tree) c.in_ok-tree.at ≡ steps_of scope (blocks_from script.line script.items) =
     c.in_ok-tree.ensures.steps
-    ∙ (ap (λ (s : Scope). steps_of s (blocks_from lines.result.line lines.result.items.now)) names
+    ∙ (ap (λ (s : Scope). steps_of s (blocks_from lines.result.line lines.result.items.now)) named
     ∙ (ap (λ (l : ℕ). steps_of scope (blocks_from l lines.result.items.now)) lines.ensures.line
     ∙ ap (λ (xs : List Item). steps_of scope (blocks_from script.line xs)) lines.ensures.items)) in
-    let count : c.numbers.result ≡ length scope.numbers = c.numbers.ensures ∙ ap (λ (s : Scope). length s.numbers) names in
+    let count : c.numbers.result ≡ length scope.numbers = c.numbers.ensures ∙ ap (λ (s : Scope). length s.numbers) named in
     let at = c.in_ok-tree.at in
     let begins : c.in_ok-running.running ≡ record { at = at; frames = []; numbers = (begun scope script).numbers; text = (begun scope script).text } =
     c.in_ok-running.ensures
