@@ -3,6 +3,7 @@
 
 mod checked;
 mod checking;
+mod feeding;
 mod lengths;
 mod lookups;
 mod numbers;
@@ -11,8 +12,5 @@ mod typing;
 mod typing_faults;
 
 pub use checked::{Checked, check};
-mod feeding;
-mod typing_faults;
-
 pub use feeding::Feed;
 pub use typing_faults::{TypeKind, TypeStop};

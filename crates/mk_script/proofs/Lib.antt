@@ -1,9 +1,9 @@
 pub mod CanonicalLines
-pub mod Fields
-pub mod Forms
+pub mod PrintedFields
+pub mod PrintedForms
 pub mod LineWords
 pub mod LinesAgain
-pub mod Numbers
+pub mod PrintedNumbers
 pub mod RoundTrip
 pub mod Said
 pub mod Spacing

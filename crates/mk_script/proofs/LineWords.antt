@@ -15,7 +15,7 @@ use Rattle.std.proofs.lemmas.Bool.{true≢false, and_from, and_parts, lt-ltb, lt
 use Rattle.mk_script.specs.Names.{is_name_byte}
 use Rattle.mk_script.specs.Words.{words_of, is_empty}
 use Rattle.mk_script.specs.Spaced.{spaced, joined}
-use Rattle.mk_script.proofs.Numbers.{all_ascii_digits-decimal}
+use Rattle.mk_script.proofs.PrintedNumbers.{all_ascii_digits-decimal}
 
 -- whether each byte is above the space
 abbrev pub is_solid : List ℕ → Bool

@@ -18,7 +18,7 @@ use Rattle.mk_script.specs.Lines.{is_placed, heap_line, placed_item, other_line,
 use Rattle.mk_script.specs.Canonical.{words_of_item}
 use Rattle.mk_script.proofs.LineWords.{AreWords, is_word-decimal}
 use Rattle.mk_script.proofs.Said.{then_was, then_again, with_number, is_this}
-use Rattle.mk_script.proofs.Forms.{Printed, IsShort, said, no_item, read_number}
+use Rattle.mk_script.proofs.PrintedForms.{Printed, IsShort, said, no_item, read_number}
 
 -- a line's item again, from words that are words of a line
 pub record IsAgain (before : List Item) (line : Item) : Type 0 where

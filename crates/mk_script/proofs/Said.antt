@@ -15,7 +15,7 @@ use Rattle.mk_script.specs.declared.faults.TextKind.TheVariants as kind
 use Rattle.mk_script.specs.Names.{is_name, is_name_byte, name_of, number_of}
 use Rattle.mk_script.specs.Operands.{◌>>=◌, or_fault, name, number, at, is_plus}
 use Rattle.mk_script.specs.Canonical.{at_text}
-use Rattle.mk_script.proofs.Numbers.{number_of-decimal, number_of-below}
+use Rattle.mk_script.proofs.PrintedNumbers.{number_of-decimal, number_of-below}
 use Rattle.mk_script.proofs.LineWords.{is_solid, is_word, is_solid-names, is_solid-decimal, is_solid-append, is_word-append}
 
 -- a step that went well, and what comes of it

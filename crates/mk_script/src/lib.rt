@@ -1,4 +1,4 @@
-//! The script language: its items, and the reader of its texts.
+//! The script language: its items, the reader of its texts, and their canonical form.
 #![tactic(auto)]
 
 mod faults;
@@ -7,14 +7,13 @@ mod forms;
 mod items;
 mod keywords;
 pub mod laws;
-mod names;
-mod printing;
 mod line;
 mod name_set;
 mod names;
 mod numbers;
 mod operands;
 mod parsing;
+mod printing;
 mod program;
 mod scope;
 mod splitting;
@@ -22,6 +21,6 @@ mod splitting;
 pub use faults::{TextKind, TextStop, Which};
 pub use items::{At, Item, TypeWord, TypeWords};
 pub use names::Name;
-pub use printing::print;
 pub use parsing::parse;
+pub use printing::print;
 pub use program::Program;

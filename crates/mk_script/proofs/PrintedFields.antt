@@ -15,7 +15,7 @@ use Rattle.mk_script.specs.declared.faults.LineFault.{LineFault}
 use Rattle.mk_script.specs.Names.{number_of}
 use Rattle.mk_script.specs.Operands.{at, ok_part, numbers, starred, pointed, field_of, fields_of}
 use Rattle.mk_script.specs.Canonical.{at_text, numbers_text, numbers_before, fields_behind}
-use Rattle.mk_script.proofs.Numbers.{number_of-decimal}
+use Rattle.mk_script.proofs.PrintedNumbers.{number_of-decimal}
 use Rattle.mk_script.proofs.LineWords.{is_word, is_solid-decimal, is_word-append, AreWords}
 use Rattle.mk_script.proofs.Said.{IsPlace, at_was, at_again, is_solid-at}
 

@@ -16,7 +16,7 @@ use Rattle.mk_script.specs.Operands.{◌>>=◌, name, number, at, have_form, fie
 use Rattle.mk_script.specs.Canonical.{at_text, fields_behind, words_of_item}
 use Rattle.mk_script.proofs.LineWords.{AreWords, is_word-decimal}
 use Rattle.mk_script.proofs.Said.{IsPlace, then_again, name_again, number_again, at_again, is_word-name, is_word-at, with_name, with_number, with_at, is_this}
-use Rattle.mk_script.proofs.Fields.{fields_again, fields_behind_some, fields_were, fields_were_some}
+use Rattle.mk_script.proofs.PrintedFields.{fields_again, fields_behind_some, fields_were, fields_were_some}
 
 -- its words are those of a line of the form, and say it
 pub record Printed (form : Keyword) (item : Item) : Type 0 where
