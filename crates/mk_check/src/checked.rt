@@ -1,13 +1,17 @@
 //! Programs that are well typed.
-ghost use Rattle.std.specs.Prelude.{◌≡◌, length, IfOk, IfErr, OnOk};
+ghost use Rattle.std.specs.Prelude.{◌≡◌, ◌≤◌, length, IfOk, IfErr};
 ghost use Rattle.mk_script.specs.Grammar.{IsOfSomeText};
 ghost use Rattle.mk_script.specs.Scopes.{script_names};
+ghost use Rattle.mk_check.specs.Declarations.{pages_of, resident_of, types_of, globals_of};
 ghost use Rattle.mk_check.specs.Typing.{NamesFirstFault};
 
 use crate::TypeStop;
 use crate::checking::check_lines;
 use crate::lengths::is_script;
-use mk_script::Program;
+use crate::numbers::TypeNumbers;
+use mk_core::Config;
+use mk_never::NoMemory;
+use mk_script::{Item, Program};
 use std::alloc::Global;
 use std::marker::Model;
 
@@ -48,6 +52,55 @@ impl Checked {
     {
         let items = self.program.items();
         items.iter().filter(|item| is_script(item)).count() as u64
+    }
+
+    /// What a heap for its scripts is started with, where each script is a caller.
+    pub fn config(&self, alloc: Global, markers: u64) -> Result<Config, NoMemory>
+        requires { markers ≤ 8 }
+        ensures pages { IfOk result (λ config. config.pages ≡ pages_of self.now) }
+        ensures resident { IfOk result (λ config. config.resident ≡ resident_of self.now) }
+        ensures callers { IfOk result (λ config. config.callers ≡ length (script_names self.now)) }
+        ensures markers { IfOk result (λ config. config.markers ≡ markers) }
+        ensures types { IfOk result (λ config. config.types ≡ types_of self.now) }
+        ensures globals { IfOk result (λ config. config.globals ≡ globals_of self.now) }
+    {
+        let items = self.program.items();
+        let heap = heap_pages(items);
+        let numbers = TypeNumbers::of_program(alloc, items)?;
+        Ok(Config {
+            pages: heap.pages,
+            resident: heap.resident,
+            callers: self.scripts(),
+            markers,
+            types: numbers.types(alloc)?,
+            globals: numbers.globals(alloc)?,
+        })
+    }
+}
+
+/// The pages of a program's heap, and how many of them may be resident.
+#[derive(Clone, Copy)]
+struct HeapPages {
+    pages: u64,
+    resident: u64,
+}
+
+/// What the first `heap` line says.
+fn heap_pages(items: &[Item]) -> HeapPages
+    ensures pages { result.pages ≡ pages_of items.now }
+    ensures resident { result.resident ≡ resident_of items.now }
+{
+    for item in items {
+        if let Item::Heap { pages, resident } = item {
+            return HeapPages {
+                pages: *pages,
+                resident: *resident,
+            };
+        }
+    }
+    HeapPages {
+        pages: 0,
+        resident: 0,
     }
 }
 

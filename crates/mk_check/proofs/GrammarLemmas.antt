@@ -1,0 +1,135 @@
+-- What each line of a program of some text keeps.
+use Rattle.std.proofs.Common.{◌≡◌, ℕ, ◌+◌, ◌-◌, ◌^◌, ◌≤◌, min, Bool, true, false, List, [], ◌∷◌, ◌++◌, length, Option, Some, None, Result, Ok, Err, refl, ap, sym, ◌∙◌, subst, arith}
+use Rattle.std.specs.Prelude.{if◌then◌else◌, nat_le, is_ok, is_some}
+use Rattle.std.proofs.lemmas.List.{append_assoc, append-nil}
+use Rattle.std.proofs.lemmas.Bool.{false≢true, leb-true}
+use Rattle.mk_script.specs.declared.items.Item.{Item}
+use Rattle.mk_script.specs.declared.items.Item.TheVariants.{Global}
+use Rattle.mk_script.specs.declared.faults.TextStop.{TextStop}
+use Rattle.mk_script.specs.declared.faults.TextStop.TheVariants as stop
+use Rattle.mk_script.specs.declared.faults.TextKind.TheVariants.{Header, Twice, End}
+use Rattle.mk_script.specs.declared.faults.Which.TheVariants as which
+use Rattle.mk_script.specs.declared.faults.LineFault.{LineFault}
+use Rattle.mk_script.specs.declared.faults.LineFault.TheVariants.{Text, Limit}
+use Rattle.mk_script.specs.declared.faults.Which.{Which}
+use Rattle.mk_script.specs.Words.{lines_of, words_of}
+use Rattle.mk_script.specs.Operands.{◌>>=◌}
+use Rattle.mk_script.specs.Scopes.{global_names, open_blocks}
+use Rattle.mk_script.specs.Lines.{line_of, line_item, checked_item, or_item, or_else, at_most, limit_fault, has_script, has_none, is_twice, ends_rightly}
+use Rattle.mk_script.specs.Grammar.{IsOfSomeText, items_of_lines, items_behind, go_on, fault_at}
+use Rattle.mk_check.proofs.NumberLemmas.{length-global_names-append}
+
+-- A line behind these: what its words say, and no limit is passed.
+pub record IsLine (before : List Item) (item : Item) : Type 0 where
+  pub words : List (List ℕ)
+  pub says : line_item before words ≡ Ok item
+  pub within : limit_fault before item ≡ None
+
+abbrev pub AreLines : List Item → List Item → Type 0
+AreLines before [] = Unit {0}
+AreLines before (item ∷ items) = IsLine before item × AreLines (before ++ item ∷ []) items
+
+Err≢Ok : {T E : Type 0} (e : E) (x : T) → Err e ≡ Ok x → ⊥
+Err≢Ok e x h = false≢true (ap is_ok h)
+
+Some≢None : {T : Type 0} (x : T) → Some x ≡ None → ⊥
+Some≢None x h = false≢true (sym (ap is_some h))
+
+ok_value : {T E : Type 0} → T → Result T E → T
+ok_value other (Ok x) = x
+ok_value other (Err e) = other
+
+Ok-injective : {T E : Type 0} (x y : T) → ◌≡◌ {A = Result T E} (Ok x) (Ok y) → x ≡ y
+unfolding ok_value
+Ok-injective x y h = ap (ok_value x) h
+
+if-Ok : {T E : Type 0} (b : Bool) (r : Result T E) (e : E) (x : T) → (if b then r else Err e) ≡ Ok x → r ≡ Ok x
+if-Ok true r e x h = h
+if-Ok false r e x h = absurd (Err≢Ok e x h)
+
+if-None : {T : Type 0} (b : Bool) (x : T) → (if b then None else Some x) ≡ None → b ≡ true
+if-None true x h = refl
+if-None false x h = absurd (Some≢None x h)
+
+-- an item that isn't twice, is within its limits and ends rightly
+checked-within : (twice ends : Bool) (first last : LineFault) (fault : Option LineFault) (found item : Item)
+    → (if twice then Err first else (or_item fault found >>= (λ item'. if ends then Ok item' else Err last))) ≡ Ok item → (found ≡ item) × (fault ≡ None)
+checked-within true ends first last fault found item h = absurd (Err≢Ok first item h)
+checked-within false true first last None found item h = (Ok-injective found item h, refl)
+checked-within false false first last None found item h = absurd (Err≢Ok last item h)
+checked-within false ends first last (Some fault) found item h = absurd (Err≢Ok fault item h)
+
+line-found : (before : List Item) (words : List (List ℕ)) (item : Item) (found : Result Item LineFault) → line_item before words ≡ found → (found >>= checked_item before) ≡ Ok item → IsLine before item
+line-found before words item (Ok found) says h =
+    let w = checked-within (is_twice before found) (ends_rightly (open_blocks before) found) (Text Twice) (Text End) (limit_fault before found) found item h in
+    record { words = words; says = says ∙ ap Ok w.0; within = ap (limit_fault before) (sym w.0) ∙ w.1 }
+line-found before words item (Err fault) says h = absurd (Err≢Ok fault item h)
+
+IsLine-of : (before : List Item) (words : List (List ℕ)) (item : Item) → line_of before words ≡ Ok item → IsLine before item
+IsLine-of before words item h = line-found before words item (line_item before words) refl h
+
+-- what lines behind these give
+record Behind (before items : List Item) : Type 0 where
+  rest : List Item
+  all : items ≡ before ++ rest
+  lines : AreLines before rest
+  script : has_script items ≡ true
+
+ended : (closed script : Bool) (first last : TextStop) (before items : List Item) → script ≡ has_script before → (if closed then (if script then Ok before else Err first) else Err last) ≡ Ok items → Behind before items
+ended true true first last before items has h =
+    let same = Ok-injective before items h in
+    record { rest = []; all = sym same ∙ sym (append-nil before); lines = tt; script = ap has_script (sym same) ∙ sym has }
+ended true false first last before items has h = absurd (Err≢Ok first items h)
+ended false script first last before items has h = absurd (Err≢Ok last items h)
+
+one_more : (line : ℕ) (before items : List Item) (next : Item → Result (List Item) TextStop) (r : Result Item LineFault)
+    → ((item : Item) → r ≡ Ok item → IsLine before item) → ((item : Item) → next item ≡ Ok items → Behind (before ++ item ∷ []) items) → go_on line r next ≡ Ok items → Behind before items
+one_more line before items next (Ok item) is behind h =
+    let b = behind item h in
+    record { rest = item ∷ b.rest; all = b.all ∙ append_assoc before (item ∷ []) b.rest; lines = (is item refl, b.lines); script = b.script }
+one_more line before items next (Err fault) is behind h = absurd (Err≢Ok (fault_at line fault) items h)
+
+lines_behind : (lines : List (List ℕ)) (before items : List Item) → items_behind lines before ≡ Ok items → Behind before items
+lines_behind [] before items h =
+    ended (has_none (open_blocks before)) (has_script before) (stop.Limit (length before) which.Scripts 0) (stop.Text (length before) End) before items refl h
+lines_behind (line ∷ lines) before items h =
+    one_more (length before + 1) before items (λ item. items_behind lines (before ++ item ∷ [])) (line_of before (words_of line))
+    (IsLine-of before (words_of line)) (λ item. lines_behind lines (before ++ item ∷ []) items) h
+
+of_lines : (lines : List (List ℕ)) (items : List Item) → items_of_lines lines ≡ Ok items → Behind [] items
+of_lines [] items h = absurd (Err≢Ok (stop.Text 1 Header) items h)
+of_lines (line ∷ lines) items h = lines_behind (line ∷ lines) [] items h
+
+-- a program of some text: its lines, of which one begins a script
+pub record IsProgram (items : List Item) : Type 0 where
+  pub lines : AreLines [] items
+  pub script : has_script items ≡ true
+
+pub IsProgram-of : (items : List Item) → IsOfSomeText items → IsProgram items
+IsProgram-of items (text, h) =
+    let b = of_lines (lines_of text) items (if-Ok (nat_le (length text) 1048576) (items_of_lines (lines_of text)) (stop.Limit 0 which.Bytes 1048577) items h) in
+    record { lines = subst (AreLines []) (sym b.all) b.lines; script = b.script }
+
+-- Counts of declarations.
+
+-- a count that each line keeps within its limit
+bound : (count : List Item → ℕ) (most : ℕ) → ((before : List Item) (item : Item) → limit_fault before item ≡ None → count before ≤ most → count (before ++ item ∷ []) ≤ most)
+    → (before rest : List Item) → AreLines before rest → count before ≤ most → count (before ++ rest) ≤ most
+bound count most keeps before [] lines h = subst (λ items. count items ≤ most) (sym (append-nil before)) h
+bound count most keeps before (item ∷ rest) lines h =
+    subst (λ items. count items ≤ most) (append_assoc before (item ∷ []) rest)
+    (bound count most keeps (before ++ item ∷ []) rest lines.1 (keeps before item lines.0.within h))
+
+at_most-None : (found greatest : ℕ) (which' : Which) → at_most found greatest which' ≡ None → found ≤ greatest
+at_most-None found greatest which' h = leb-true found greatest (if-None (nat_le found greatest) (Limit which' (min found (2 ^ 64 - 1))) h)
+
+or_else-None : (fault other : Option LineFault) → or_else fault other ≡ None → (fault ≡ None) × (other ≡ None)
+or_else-None None other h = (refl, h)
+or_else-None (Some fault) other h = absurd (Some≢None fault h)
+
+globals-keep : (before : List Item) (item : Item) → limit_fault before item ≡ None → length (global_names before) ≤ 64 → length (global_names (before ++ item ∷ [])) ≤ 64
+globals-keep before (Global name ty) within h = omega (arith, length-global_names-append before (Global name ty ∷ []), at_most-None (length (global_names before) + 1) 64 which.Globals within)
+globals-keep before item within h = omega (arith, length-global_names-append before (item ∷ []))
+
+pub length-global_names : (items : List Item) → IsProgram items → length (global_names items) ≤ 64
+length-global_names items program = bound (λ xs. length (global_names xs)) 64 globals-keep [] items program.lines (omega arith)
