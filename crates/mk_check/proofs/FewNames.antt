@@ -90,6 +90,7 @@ text_is_limited items text = by_size (nat_le (length text.0) 1048576) (lines_of 
     by_lines (line ∷ lines) e =
         let reads = reads_behind (line ∷ lines) [] items e in
         subst (λ (xs : List Item). AllLimited [] xs) (sym reads.all) reads.limited
+
     by_size : (small : Bool) (lines : List (List ℕ)) → (if small then items_of_lines lines else Err (stop.Limit 0 which.Bytes 1048577)) ≡ Ok items → AllLimited [] items
     by_size true lines e = by_lines lines e
     by_size false lines e = cc

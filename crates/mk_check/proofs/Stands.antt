@@ -139,7 +139,7 @@ answer_agrees scope fed line item rest a h =
     let agrees = run_agrees scope rest (with_answer scope noted_fed item a) in
     record {
       stop = agrees.stop ∙ (ap (ran (steps_of scope rest)) (kept_of-with_answer scope noted_fed item a)
-      ∙ ap (λ (k : Kept). ran (steps_of scope rest) (answered (instruction_of scope item) a k)) n.kept);
+          ∙ ap (λ (k : Kept). ran (steps_of scope rest) (answered (instruction_of scope item) a k)) n.kept);
       more = ap (λ (os : List Op). length os) (agrees.answers ∙ ops-with_answer scope noted_fed item a) ∙ n.more;
     }
 

@@ -167,7 +167,7 @@ abbrev pub fault_from : List Item → ℕ → List Item → List Item → Option
 fault_from program line before [] = None
 fault_from program line before (item ∷ items) =
     at_line line (typing_fault (record { program = program; script = this_script before }) line items item)
-      (fault_from program (line + 1) (before ++ item ∷ []) items)
+    (fault_from program (line + 1) (before ++ item ∷ []) items)
 
 abbrev pub first_typing_fault : List Item → Option TypingFault
 first_typing_fault program = fault_from program 1 [] program

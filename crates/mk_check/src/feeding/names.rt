@@ -77,10 +77,11 @@ impl<'a> Model for Names<'a> {
     ghost Value = { Scope };
 
     ghost view = { λ n. record {
-        types = now_of n.types.items;
-        globals = now_of n.globals.items;
-        pointers = now_of n.pointers.items;
-        numbers = now_of n.numbers.items } };
+      types = now_of n.types.items;
+      globals = now_of n.globals.items;
+      pointers = now_of n.pointers.items;
+      numbers = now_of n.numbers.items;
+    } };
 }
 
 impl<'a> Names<'a> {

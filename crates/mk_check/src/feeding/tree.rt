@@ -65,7 +65,9 @@ impl Tree {
     pub fn new(alloc: Global) -> Tree
         ensures { result ≡ [] }
     {
-        Tree { nodes: Vec::new(alloc) }
+        Tree {
+            nodes: Vec::new(alloc),
+        }
     }
 
     pub fn len(&self) -> usize

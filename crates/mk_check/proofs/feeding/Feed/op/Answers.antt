@@ -44,7 +44,7 @@ returns-in_default c =
       value = sym value;
       next = λ program k answers st. sym value ∙ (op_stands program k c.args.self.now answers tree stop st).op;
       none = λ program k answers st.
-        let t = op_stands program k c.args.self.now answers tree stop st in
-        let e = ap (λ (o : Option Op). is_some o) value in
-        (λ h. t.ended e, λ h. refl);
+          let t = op_stands program k c.args.self.now answers tree stop st in
+          let e = ap (λ (o : Option Op). is_some o) value in
+          (λ h. t.ended e, λ h. refl);
     }
