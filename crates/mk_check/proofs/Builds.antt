@@ -1,6 +1,6 @@
 -- One more line of a tree that is being built.
 use Rattle.std.proofs.Common.{◌≡◌, ℕ, ◌+◌, ◌<◌, ◌≤◌, List, [], ◌∷◌, ◌++◌, length, refl, ap, sym, ◌∙◌, subst, arith}
-use Rattle.std.specs.Prelude.{fold, map}
+use Rattle.std.specs.Prelude.{fold}
 use Rattle.std.proofs.lemmas.List.{get_or_append_left, get_or_at, length_push}
 use Rattle.std.proofs.lemmas.List.Sums.{fold_push}
 use Rattle.mk_check.specs.declared.feeding.instructions.Instruction.{Instruction}
@@ -9,9 +9,9 @@ use Rattle.mk_check.specs.declared.feeding.instructions.Element.TheVariants as e
 use Rattle.mk_check.specs.declared.feeding.tree.Node.{Node}
 use Rattle.mk_check.specs.declared.feeding.tree.Node.TheVariants as node
 use Rattle.mk_check.specs.declared.feeding.building.Part.{Part}
-use Rattle.mk_check.specs.Steps.{Steps, Done, Line, Rounds, Choice}
-use Rattle.mk_check.specs.Trees.{steps_at, steps_from, with_node, trees, IsBelow}
-use Rattle.mk_check.specs.Building.{StepPart, with_element, innermost_steps, Built, part_at, parts_at, parts_in, PartsAreWithin, IsSound, with_part, grown, Adds}
+use Rattle.mk_check.specs.Steps.{Steps, Done}
+use Rattle.mk_check.specs.Trees.{steps_at, steps_from, with_node, trees}
+use Rattle.mk_check.specs.Building.{StepPart, with_element, Built, part_at, parts_at, parts_in, PartsAreWithin, IsSound, with_part, grown, Adds}
 use Rattle.mk_check.proofs.Moves.{trees_push}
 
 length-fold_with_node : (built : List Steps) (nodes : List Node) → length (fold with_node built nodes) ≡ length built + length nodes

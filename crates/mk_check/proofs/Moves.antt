@@ -1,6 +1,6 @@
 -- A place that moves on keeps where its steps stop, and comes nearer to it.
-use Rattle.std.proofs.Common.{◌≡◌, ℕ, zero, suc, ◌+◌, ◌*◌, ◌-◌, ◌<◌, ◌≤◌, max, Bool, true, false, List, [], ◌∷◌, ◌++◌, length, refl, ap, sym, ◌∙◌, subst, if◌then◌else◌, arith, inl, inr}
-use Rattle.std.specs.Prelude.{slice_index, slice_index_or, fold, ◌==◌, is_some, Option, Some, None}
+use Rattle.std.proofs.Common.{◌≡◌, ℕ, zero, suc, ◌+◌, ◌*◌, ◌<◌, ◌≤◌, Bool, true, false, List, [], ◌∷◌, ◌++◌, length, refl, ap, sym, ◌∙◌, subst, if◌then◌else◌, arith, inl, inr}
+use Rattle.std.specs.Prelude.{slice_index, fold, ◌==◌, is_some}
 use Rattle.std.proofs.lemmas.List.{get_or_append_left, get_or_at, length_push}
 use Rattle.std.proofs.lemmas.List.Sums.{fold_push}
 use Rattle.std.proofs.lemmas.Bool.{cases_lt}
@@ -10,7 +10,7 @@ use Rattle.mk_check.specs.declared.feeding.tree.Node.TheVariants as node
 use Rattle.mk_check.specs.declared.feeding.tree.Frame.{Frame}
 use Rattle.mk_check.specs.declared.feeding.tree.Frame.TheVariants as frame
 use Rattle.mk_check.specs.Steps.{Steps, Done, Line, Rounds, Choice, then_steps, Kept, Stopped, asked, after_line, ran}
-use Rattle.mk_check.specs.Trees.{steps_at, steps_from, with_node, trees, IsBelow, node_at, IsTree, Place, frame_steps, behind_frames, left_in, kept_in, with_kept, stopped_in, FrameIsWithin, FramesAreWithin, IsWithin, StopsAt, entered, left_block, branched, LeavesBlock, work_of, work_in, GoesOn, HasStopped}
+use Rattle.mk_check.specs.Trees.{steps_at, steps_from, with_node, trees, IsBelow, node_at, IsTree, Place, frame_steps, behind_frames, left_in, kept_in, with_kept, FrameIsWithin, FramesAreWithin, IsWithin, StopsAt, entered, left_block, branched, LeavesBlock, work_of, work_in, GoesOn, HasStopped}
 use Rattle.mk_check.proofs.StepLaws.{ran-round, ran-choice_zero, ran-choice_other}
 
 -- The steps from a node are those that it names.

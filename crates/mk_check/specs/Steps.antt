@@ -1,5 +1,5 @@
 -- A script with numbers for its names, and what it does. It is the script of the definitions in Feed, with less to look up.
-use Rattle.std.specs.Prelude.{ℕ, zero, suc, ◌+◌, ◌-◌, ◌%◌, ◌^◌, Bool, true, false, List, [], ◌∷◌, ◌++◌, slice_index, slice_set, ◌==◌, if◌then◌else◌, Option, Some, None, is_some, unwrap_or}
+use Rattle.std.specs.Prelude.{ℕ, zero, suc, ◌+◌, ◌-◌, ◌%◌, ◌^◌, Bool, true, false, List, ◌++◌, slice_index, slice_set, ◌==◌, if◌then◌else◌, Option, Some, None, is_some, unwrap_or}
 use Rattle.std.specs.Option.{option_or}
 use Rattle.std.specs.Fmt.{decimal}
 use Rattle.mk_never.specs.declared.operations.Op.{Op}
@@ -14,7 +14,7 @@ use Rattle.mk_check.specs.declared.feeding.instructions.Element.TheVariants as e
 use Rattle.mk_check.specs.Declarations.{place_of}
 use Rattle.mk_check.specs.Blocks.{Blocks}
 use Rattle.mk_check.specs.Blocks as blocks
-use Rattle.mk_check.specs.Feed.{Scope, Fed, pointer_place, newline, refusal_line, refusal_text, number_of, shown}
+use Rattle.mk_check.specs.Feed.{Scope, pointer_place, newline, refusal_line, refusal_text, number_of, shown}
 
 -- Lines to run, as Blocks has them.
 pub data Steps : Type 0 where

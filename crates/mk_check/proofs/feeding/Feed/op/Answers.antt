@@ -1,11 +1,8 @@
-use Rattle.std.proofs.Common.{◌≡◌, ℕ, List, refl, ap, sym, ◌∙◌, subst}
-use Rattle.std.specs.Prelude.{Option, Some, None, is_some}
+use Rattle.std.proofs.Common.{◌≡◌, refl, ap, sym, ◌∙◌, subst}
+use Rattle.std.specs.Prelude.{Option, None, is_some}
 use Rattle.mk_never.specs.declared.operations.Op.{Op}
-use Rattle.mk_check.specs.declared.feeding.tree.Node.{Node}
-use Rattle.mk_check.specs.declared.feeding.tree.Node.TheVariants as node
-use Rattle.mk_check.specs.Feed.{feed}
 use Rattle.mk_check.specs.Trees.{IsTree, node_at}
-use Rattle.mk_check.specs.Feeding.{FeedState, IsAtStop, op_of_node, op_in, script_scope}
+use Rattle.mk_check.specs.Feeding.{FeedState, IsAtStop, op_of_node, op_in}
 use Rattle.mk_check.proofs.Stands.{op_stands, op_of_others}
 use Rattle.mk_check.proofs.feeding.Feed.op.Goals as goal
 use Rattle.mk_check.proofs.feeding.Feed.op.Goals.{After-asked}

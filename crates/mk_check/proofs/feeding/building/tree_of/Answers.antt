@@ -1,4 +1,4 @@
-use Rattle.std.proofs.Common.{◌≡◌, ◌+◌, ◌-◌, ◌<◌, List, ap, sym, ◌∙◌, length, arith}
+use Rattle.std.proofs.Common.{◌+◌, ◌-◌, List, ap, ◌∙◌, arith}
 use Rattle.mk_check.specs.declared.feeding.instructions.Element.{Element}
 use Rattle.mk_check.specs.Steps.{element_of}
 use Rattle.mk_check.specs.Building.{StepPart, with_element, parts_in}
