@@ -1,6 +1,6 @@
 -- One more line of a tree that is being built.
 use Rattle.std.proofs.Common.{◌≡◌, ℕ, ◌+◌, ◌<◌, ◌≤◌, List, [], ◌∷◌, ◌++◌, length, refl, ap, sym, ◌∙◌, subst, arith}
-use Rattle.std.specs.Prelude.{fold, map}
+use Rattle.std.specs.Prelude.{fold}
 use Rattle.std.proofs.lemmas.List.{get_or_append_left, get_or_at, length_push}
 use Rattle.std.proofs.lemmas.List.Sums.{fold_push}
 use Rattle.mk_check.specs.declared.feeding.instructions.Instruction.{Instruction}
@@ -9,9 +9,9 @@ use Rattle.mk_check.specs.declared.feeding.instructions.Element.TheVariants as e
 use Rattle.mk_check.specs.declared.feeding.tree.Node.{Node}
 use Rattle.mk_check.specs.declared.feeding.tree.Node.TheVariants as node
 use Rattle.mk_check.specs.declared.feeding.building.Part.{Part}
-use Rattle.mk_check.specs.Steps.{Steps, Done, Line, Rounds, Choice}
-use Rattle.mk_check.specs.Trees.{steps_at, steps_from, with_node, trees, IsBelow}
-use Rattle.mk_check.specs.Building.{StepPart, with_element, innermost_steps, Built, part_at, parts_at, parts_in, PartsAreWithin, IsSound, with_part, grown, Adds}
+use Rattle.mk_check.specs.Steps.{Steps, Done}
+use Rattle.mk_check.specs.Trees.{steps_at, steps_from, with_node, trees}
+use Rattle.mk_check.specs.Building.{StepPart, with_element, Built, part_at, parts_at, parts_in, PartsAreWithin, IsSound, with_part, grown, Adds}
 use Rattle.mk_check.proofs.Moves.{trees_push}
 
 length-fold_with_node : (built : List Steps) (nodes : List Node) → length (fold with_node built nodes) ≡ length built + length nodes
@@ -65,9 +65,12 @@ pub popped : (b : Built) (part : Part) (parts : List Part) → IsSound b → b.p
     → IsSound (record b { parts = parts }) × (part.steps < length b.nodes) × (part.second < length b.nodes)
     × (parts_in b ≡ part_at (trees b.nodes) part ∷ parts_at (trees b.nodes) parts)
 popped b part parts sound was =
-    let w = PartsAreWithin_pop (length b.nodes) parts part (subst (λ (ps : List Part). PartsAreWithin (length b.nodes) ps) was sound.parts) in
-    (record { some = sound.some; first = sound.first; parts = w.0 }, w.1, w.2,
-    ap (parts_at (trees b.nodes)) was ∙ parts_at_push (trees b.nodes) parts part)
+    let w = PartsAreWithin_pop (length b.nodes) parts part (subst (λ (ps : List Part). PartsAreWithin (length b.nodes) ps) was sound.parts) in (
+      record { some = sound.some; first = sound.first; parts = w.0 },
+      w.1,
+      w.2,
+      ap (parts_at (trees b.nodes)) was ∙ parts_at_push (trees b.nodes) parts part,
+    )
 
 -- one more node, which begins a part
 grown_sound : (b : Built) (n : Node) (second : ℕ) → IsSound b → second < length b.nodes → IsSound (grown b n second)
@@ -78,7 +81,7 @@ grown_sound b n second sound h =
       some = omega arith;
       first = steps_at_push b.nodes n 0 sound.some ∙ sound.first;
       parts = PartsAreWithin_push (length (b.nodes ++ n ∷ [])) b.parts (record { steps = length b.nodes; second = second })
-      (PartsAreWithin-more (length b.nodes) (length (b.nodes ++ n ∷ [])) b.parts (omega arith) sound.parts) (omega arith) (omega arith);
+          (PartsAreWithin-more (length b.nodes) (length (b.nodes ++ n ∷ [])) b.parts (omega arith) sound.parts) (omega arith) (omega arith);
     }
 
 grown_parts : (b : Built) (n : Node) (second : ℕ) → IsSound b → second < length b.nodes
@@ -100,7 +103,7 @@ line_added b parts part line instruction sound was =
     record {
       sound = grown_sound (record b { parts = parts }) (node.Line line instruction part.steps) part.second p.0 p.2;
       parts = grown_parts (record b { parts = parts }) (node.Line line instruction part.steps) part.second p.0 p.2
-      ∙ sym (ap (with_element line (element.Line instruction)) p.3);
+          ∙ sym (ap (with_element line (element.Line instruction)) p.3);
     }
 
 pub repeat_added : (b : Built) (parts : List Part) (part body : Part) (line rounds : ℕ) → IsSound b → b.parts ≡ (parts ++ part ∷ []) ++ body ∷ []
@@ -111,7 +114,7 @@ repeat_added b parts part body line rounds sound was =
     record {
       sound = grown_sound (record b { parts = parts }) (node.Rounds rounds body.steps part.steps) part.second q.0 q.2;
       parts = grown_parts (record b { parts = parts }) (node.Rounds rounds body.steps part.steps) part.second q.0 q.2
-      ∙ sym (ap (with_element line (element.Repeat rounds)) (p.3 ∙ ap (λ (ps : List StepPart). part_at (trees b.nodes) body ∷ ps) q.3));
+          ∙ sym (ap (with_element line (element.Repeat rounds)) (p.3 ∙ ap (λ (ps : List StepPart). part_at (trees b.nodes) body ∷ ps) q.3));
     }
 
 pub if_added : (b : Built) (parts : List Part) (part branches : Part) (line number : ℕ) → IsSound b → b.parts ≡ (parts ++ part ∷ []) ++ branches ∷ []
@@ -122,7 +125,7 @@ if_added b parts part branches line number sound was =
     record {
       sound = grown_sound (record b { parts = parts }) (node.Choice number branches.steps branches.second part.steps) part.second q.0 q.2;
       parts = grown_parts (record b { parts = parts }) (node.Choice number branches.steps branches.second part.steps) part.second q.0 q.2
-      ∙ sym (ap (with_element line (element.If number)) (p.3 ∙ ap (λ (ps : List StepPart). part_at (trees b.nodes) branches ∷ ps) q.3));
+          ∙ sym (ap (with_element line (element.If number)) (p.3 ∙ ap (λ (ps : List StepPart). part_at (trees b.nodes) branches ∷ ps) q.3));
     }
 
 put_parts : (b : Built) (second : ℕ) → IsSound b

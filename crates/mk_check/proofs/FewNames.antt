@@ -1,17 +1,16 @@
 -- A program of a text declares so few pointer registers and globals that a byte numbers them.
 use Rattle.std.proofs.Common.{◌≡◌, ℕ, zero, suc, ◌+◌, ◌-◌, ◌^◌, ◌≤◌, min, Bool, true, false, List, [], ◌∷◌, ◌++◌, length, refl, ap, sym, ◌∙◌, subst, if◌then◌else◌, arith}
-use Rattle.std.specs.Prelude.{Option, Some, None, Ok, Err, nat_le, fold}
+use Rattle.std.specs.Prelude.{Option, Some, None, Ok, Err, nat_le}
 use Rattle.std.specs.declared.result.Result.{Result}
 use Rattle.std.proofs.lemmas.Bool.{leb-true}
 use Rattle.std.proofs.lemmas.List.{append_assoc, append-nil}
 use Rattle.std.proofs.lemmas.List.Sums.{fold_push}
 use Rattle.mk_script.specs.declared.items.At.{At}
 use Rattle.mk_script.specs.declared.items.Item.{Item}
-use Rattle.mk_script.specs.declared.items.Item.TheVariants.{Heap, TypeLine, Global, Script, Ptr, Num, New, Free, Getn, Setn, Getp, Setp, Casp, Lea, Move, Clear, Loadg, Storeg, Same, Isnull, Show, Const, Add, Sub, Print, Repeat, If, Else, End}
+use Rattle.mk_script.specs.declared.items.Item.TheVariants.{Global, Script, Ptr}
 use Rattle.mk_script.specs.declared.faults.LineFault.{LineFault}
 use Rattle.mk_script.specs.declared.faults.LineFault.TheVariants.{Text, Limit}
 use Rattle.mk_script.specs.declared.faults.TextKind.TheVariants as kind
-use Rattle.mk_script.specs.declared.faults.TextStop.{TextStop}
 use Rattle.mk_script.specs.declared.faults.TextStop.TheVariants as stop
 use Rattle.mk_script.specs.declared.faults.Which.{Which}
 use Rattle.mk_script.specs.declared.faults.Which.TheVariants as which
@@ -19,8 +18,8 @@ use Rattle.mk_script.specs.Words.{lines_of, words_of}
 use Rattle.mk_script.specs.Operands.{◌>>=◌}
 use Rattle.mk_script.specs.Scopes.{global_names, pointer_names, is_script, this_script, open_blocks}
 use Rattle.mk_script.specs.Lines.{at_most, limit_fault, is_twice, ends_rightly, or_item, checked_item, line_item, line_of, has_none, has_script}
-use Rattle.mk_script.specs.Grammar.{at_end, go_on, items_behind, items_of_lines, program_of, IsOfSomeText}
-use Rattle.mk_check.specs.Blocks.{before_next_script, script_from, script_of}
+use Rattle.mk_script.specs.Grammar.{at_end, go_on, items_behind, items_of_lines, IsOfSomeText}
+use Rattle.mk_check.specs.Blocks.{before_next_script, script_from}
 use Rattle.mk_check.specs.NamesInScope.{HasFew}
 use Rattle.mk_check.specs.Feeding.{script_scope}
 
@@ -90,6 +89,7 @@ text_is_limited items text = by_size (nat_le (length text.0) 1048576) (lines_of 
     by_lines (line ∷ lines) e =
         let reads = reads_behind (line ∷ lines) [] items e in
         subst (λ (xs : List Item). AllLimited [] xs) (sym reads.all) reads.limited
+
     by_size : (small : Bool) (lines : List (List ℕ)) → (if small then items_of_lines lines else Err (stop.Limit 0 which.Bytes 1048577)) ≡ Ok items → AllLimited [] items
     by_size true lines e = by_lines lines e
     by_size false lines e = cc

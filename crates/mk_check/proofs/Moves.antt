@@ -1,6 +1,6 @@
 -- A place that moves on keeps where its steps stop, and comes nearer to it.
-use Rattle.std.proofs.Common.{◌≡◌, ℕ, zero, suc, ◌+◌, ◌*◌, ◌-◌, ◌<◌, ◌≤◌, max, Bool, true, false, List, [], ◌∷◌, ◌++◌, length, refl, ap, sym, ◌∙◌, subst, if◌then◌else◌, arith, inl, inr}
-use Rattle.std.specs.Prelude.{slice_index, slice_index_or, fold, ◌==◌, is_some, Option, Some, None}
+use Rattle.std.proofs.Common.{◌≡◌, ℕ, zero, suc, ◌+◌, ◌*◌, ◌<◌, ◌≤◌, Bool, true, false, List, [], ◌∷◌, ◌++◌, length, refl, ap, sym, ◌∙◌, subst, if◌then◌else◌, arith, inl, inr}
+use Rattle.std.specs.Prelude.{slice_index, fold, ◌==◌, is_some}
 use Rattle.std.proofs.lemmas.List.{get_or_append_left, get_or_at, length_push}
 use Rattle.std.proofs.lemmas.List.Sums.{fold_push}
 use Rattle.std.proofs.lemmas.Bool.{cases_lt}
@@ -10,7 +10,7 @@ use Rattle.mk_check.specs.declared.feeding.tree.Node.TheVariants as node
 use Rattle.mk_check.specs.declared.feeding.tree.Frame.{Frame}
 use Rattle.mk_check.specs.declared.feeding.tree.Frame.TheVariants as frame
 use Rattle.mk_check.specs.Steps.{Steps, Done, Line, Rounds, Choice, then_steps, Kept, Stopped, asked, after_line, ran}
-use Rattle.mk_check.specs.Trees.{steps_at, steps_from, with_node, trees, IsBelow, node_at, IsTree, Place, frame_steps, behind_frames, left_in, kept_in, with_kept, stopped_in, FrameIsWithin, FramesAreWithin, IsWithin, StopsAt, entered, left_block, branched, LeavesBlock, work_of, work_in, GoesOn, HasStopped}
+use Rattle.mk_check.specs.Trees.{steps_at, steps_from, with_node, trees, IsBelow, node_at, IsTree, Place, frame_steps, behind_frames, left_in, kept_in, with_kept, FrameIsWithin, FramesAreWithin, IsWithin, StopsAt, entered, left_block, branched, LeavesBlock, work_of, work_in, GoesOn, HasStopped}
 use Rattle.mk_check.proofs.StepLaws.{ran-round, ran-choice_zero, ran-choice_other}
 
 -- The steps from a node are those that it names.
@@ -173,6 +173,7 @@ module _ (nodes : List Node) where
     where
       rest : Steps
       rest = then_steps (steps_at (trees nodes) next) (behind_frames (trees nodes) p.frames)
+
       by_test : (b : Bool) → (slice_index p.numbers number == 0) ≡ b
           → left_in nodes p ≡ Choice number (steps_at (trees nodes) first) (steps_at (trees nodes) second) (then_steps (steps_at (trees nodes) next) (behind_frames (trees nodes) p.frames))
           → IsBelow (length nodes) (node.Choice number first second next)
@@ -180,20 +181,28 @@ module _ (nodes : List Node) where
       by_test true t here below = record {
         within = record { at = below.1; frames = FramesAreWithin_push (length nodes) p.frames (frame.Branch next) w.frames below.2 };
         run = ap (λ (s : Steps). ran (then_steps (steps_at (trees nodes) second) s) (kept_in p)) (behind_frames_push (trees nodes) p.frames (frame.Branch next))
-        ∙ (sym (ran-choice_zero number (steps_at (trees nodes) first) (steps_at (trees nodes) second) (then_steps (steps_at (trees nodes) next) (behind_frames (trees nodes) p.frames)) (kept_in p) t)
-        ∙ sym (ap (λ (s : Steps). ran s (kept_in p)) here));
-        nearer = omega (arith, ap work_of here, length_push p.frames (frame.Branch next),
-        ap work_of (ap (then_steps (steps_at (trees nodes) second)) (behind_frames_push (trees nodes) p.frames (frame.Branch next))),
-        work_of-then_steps (steps_at (trees nodes) second) (then_steps (steps_at (trees nodes) next) (behind_frames (trees nodes) p.frames)));
+            ∙ (sym (ran-choice_zero number (steps_at (trees nodes) first) (steps_at (trees nodes) second) (then_steps (steps_at (trees nodes) next) (behind_frames (trees nodes) p.frames)) (kept_in p) t)
+            ∙ sym (ap (λ (s : Steps). ran s (kept_in p)) here));
+        nearer = omega (
+          arith,
+          ap work_of here,
+          length_push p.frames (frame.Branch next),
+          ap work_of (ap (then_steps (steps_at (trees nodes) second)) (behind_frames_push (trees nodes) p.frames (frame.Branch next))),
+          work_of-then_steps (steps_at (trees nodes) second) (then_steps (steps_at (trees nodes) next) (behind_frames (trees nodes) p.frames)),
+        );
       }
       by_test false t here below = record {
         within = record { at = below.0; frames = FramesAreWithin_push (length nodes) p.frames (frame.Branch next) w.frames below.2 };
         run = ap (λ (s : Steps). ran (then_steps (steps_at (trees nodes) first) s) (kept_in p)) (behind_frames_push (trees nodes) p.frames (frame.Branch next))
-        ∙ (sym (ran-choice_other number (steps_at (trees nodes) first) (steps_at (trees nodes) second) (then_steps (steps_at (trees nodes) next) (behind_frames (trees nodes) p.frames)) (kept_in p) t)
-        ∙ sym (ap (λ (s : Steps). ran s (kept_in p)) here));
-        nearer = omega (arith, ap work_of here, length_push p.frames (frame.Branch next),
-        ap work_of (ap (then_steps (steps_at (trees nodes) first)) (behind_frames_push (trees nodes) p.frames (frame.Branch next))),
-        work_of-then_steps (steps_at (trees nodes) first) (then_steps (steps_at (trees nodes) next) (behind_frames (trees nodes) p.frames)));
+            ∙ (sym (ran-choice_other number (steps_at (trees nodes) first) (steps_at (trees nodes) second) (then_steps (steps_at (trees nodes) next) (behind_frames (trees nodes) p.frames)) (kept_in p) t)
+            ∙ sym (ap (λ (s : Steps). ran s (kept_in p)) here));
+        nearer = omega (
+          arith,
+          ap work_of here,
+          length_push p.frames (frame.Branch next),
+          ap work_of (ap (then_steps (steps_at (trees nodes) first)) (behind_frames_push (trees nodes) p.frames (frame.Branch next))),
+          work_of-then_steps (steps_at (trees nodes) first) (then_steps (steps_at (trees nodes) next) (behind_frames (trees nodes) p.frames)),
+        );
       }
 
   -- the end of an open block
@@ -245,5 +254,5 @@ module _ (nodes : List Node) where
         within = w;
         at = subst (λ (m : Node). StopsAt m p) (sym e) some;
         run = ap (λ (s : Steps). let at : Stopped = record { left = s; kept = kept_in p } in at) here
-        ∙ sym (ap (λ (s : Steps). ran s (kept_in p)) here ∙ ap (λ (b : Bool). if b then stop else ran rest (after_line instruction (kept_in p))) some);
+            ∙ sym (ap (λ (s : Steps). ran s (kept_in p)) here ∙ ap (λ (b : Bool). if b then stop else ran rest (after_line instruction (kept_in p))) some);
       }

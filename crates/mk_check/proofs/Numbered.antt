@@ -1,13 +1,13 @@
 -- A script with numbers for its names does what the script does.
-use Rattle.std.proofs.Common.{◌≡◌, ℕ, zero, suc, Bool, true, false, List, [], ◌∷◌, ◌++◌, refl, ap, sym, ◌∙◌, if◌then◌else◌}
-use Rattle.std.specs.Prelude.{◌==◌, is_some, Option, Some, None}
+use Rattle.std.proofs.Common.{◌≡◌, ℕ, zero, suc, Bool, true, false, List, refl, ap, ◌∙◌, if◌then◌else◌}
+use Rattle.std.specs.Prelude.{◌==◌, is_some, Option}
 use Rattle.mk_never.specs.declared.operations.Op.{Op}
 use Rattle.mk_core.specs.declared.events.Answer.{Answer}
 use Rattle.mk_script.specs.declared.items.Item.{Item}
-use Rattle.mk_script.specs.declared.items.Item.TheVariants.{Heap, TypeLine, Global, Script, Ptr, Num, New, Free, Getn, Setn, Getp, Setp, Casp, Lea, Move, Clear, Loadg, Storeg, Same, Isnull, Show, Const, Add, Sub, Print, Repeat, If, Else, End}
+use Rattle.mk_script.specs.declared.items.Item.TheVariants.{Heap}
 use Rattle.mk_check.specs.Declarations.{place_of}
 use Rattle.mk_check.specs.Blocks.{Blocks, Done, Line, Rounds, Choice, followed_by, is_done}
-use Rattle.mk_check.specs.Feed.{Scope, Fed, number_in, op_of, run_line, then_run, run_rounds, run, with_answer, note, take_answer}
+use Rattle.mk_check.specs.Feed.{Scope, Fed, number_in, op_of, run_line, then_run, run_rounds, run, with_answer}
 use Rattle.mk_check.specs.Steps.{Steps, then_steps, none_left, steps_of, instruction_of, Kept, Stopped, asked, after_line, then_ran, ran_rounds, ran, answered, ran_on}
 use Rattle.mk_check.specs.Steps as steps
 

@@ -1,14 +1,14 @@
 -- The parts of a script, with numbers for their names.
-use Rattle.std.proofs.Common.{◌≡◌, ℕ, ◌+◌, ◌-◌, ◌<◌, List, [], ◌∷◌, length, map, drop, refl, ap, sym, ◌∙◌, arith}
-use Rattle.std.specs.Prelude.{slice_index_or, Option, Some, None}
+use Rattle.std.proofs.Common.{◌≡◌, ℕ, ◌+◌, ◌<◌, List, [], ◌∷◌, length, map, drop, refl, ap, sym, ◌∙◌, arith}
+use Rattle.std.specs.Prelude.{slice_index_or}
 use Rattle.std.proofs.lemmas.List.{drop_more}
 use Rattle.mk_script.specs.declared.items.Item.{Item}
-use Rattle.mk_script.specs.declared.items.Item.TheVariants.{Heap, TypeLine, Global, Script, Ptr, Num, New, Free, Getn, Setn, Getp, Setp, Casp, Lea, Move, Clear, Loadg, Storeg, Same, Isnull, Show, Const, Add, Sub, Print, Repeat, If, Else, End}
+use Rattle.mk_script.specs.declared.items.Item.TheVariants.{Repeat, If, Else, End}
 use Rattle.mk_check.specs.Blocks.{Part, with_line, with_item, parts_from}
 use Rattle.mk_check.specs.Feed.{Scope}
-use Rattle.mk_check.specs.Steps.{Line, instruction_of, element_of}
+use Rattle.mk_check.specs.Steps.{instruction_of, element_of}
 use Rattle.mk_check.specs.declared.feeding.instructions.Element.TheVariants as element
-use Rattle.mk_check.specs.Building.{StepPart, part_of, with_element}
+use Rattle.mk_check.specs.Building.{part_of, with_element}
 
 line_of_parts : (scope : Scope) (line : ℕ) (item : Item) (parts : List Part)
     → map (part_of scope) (with_line line item parts) ≡ with_element line (element.Line (instruction_of scope item)) (map (part_of scope) parts)

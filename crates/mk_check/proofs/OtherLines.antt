@@ -1,7 +1,7 @@
 -- Lines that no other case takes.
 use Rattle.std.proofs.Common.{◌≡◌, ℕ, List, refl}
 use Rattle.mk_script.specs.declared.items.Item.{Item}
-use Rattle.mk_script.specs.declared.items.Item.TheVariants.{Heap, TypeLine, Global, Script, Ptr, Num, New, Free, Getn, Setn, Getp, Setp, Casp, Lea, Move, Clear, Loadg, Storeg, Same, Isnull, Show, Const, Add, Sub, Print, Repeat, If, Else, End}
+use Rattle.mk_script.specs.declared.items.Item.TheVariants.{Repeat, If, Else, End}
 use Rattle.mk_check.specs.declared.feeding.instructions.Element.TheVariants as element
 use Rattle.mk_check.specs.Feed.{Scope}
 use Rattle.mk_check.specs.Steps.{instruction_of, element_of}

@@ -1,5 +1,5 @@
 -- A script that is fed stands for what the definition says.
-use Rattle.std.proofs.Common.{◌≡◌, ℕ, ◌+◌, Bool, true, false, List, [], ◌∷◌, ◌++◌, length, refl, ap, sym, ◌∙◌, subst, arith}
+use Rattle.std.proofs.Common.{◌≡◌, ℕ, ◌+◌, true, false, List, [], ◌∷◌, ◌++◌, length, refl, ap, sym, ◌∙◌, arith}
 use Rattle.std.specs.Prelude.{Option, Some, None, is_some}
 use Rattle.std.proofs.lemmas.List.{length_push, append_assoc}
 use Rattle.mk_never.specs.declared.operations.Op.{Op}
@@ -10,13 +10,13 @@ use Rattle.mk_check.specs.declared.feeding.instructions.Instruction.TheVariants.
 use Rattle.mk_check.specs.declared.feeding.tree.Node.{Node}
 use Rattle.mk_check.specs.declared.feeding.tree.Node.TheVariants as node
 use Rattle.mk_check.specs.Blocks.{Blocks, Done, Line, Rounds, Choice, ScriptText, script_of, blocks_from, is_done}
-use Rattle.mk_check.specs.Feed.{Scope, Fed, op_of, run, noted, refusal_line, refusal_text, number_of, shown, with_answer, note, take_answer, take_answers, begun, started, feed, has_ended}
+use Rattle.mk_check.specs.Feed.{Scope, Fed, op_of, noted, refusal_line, refusal_text, number_of, shown, with_answer, note, take_answer, take_answers, begun, started, feed, has_ended}
 use Rattle.mk_check.specs.Steps.{Steps, then_steps, steps_of, instruction_of, Kept, Stopped, asked, with_text, answered, ran, ran_on}
 use Rattle.mk_check.specs.Steps as steps
 use Rattle.mk_check.specs.Trees.{Place, steps_at, trees, left_in, kept_in, stopped_in, with_kept, node_at, IsTree, IsWithin, StopsAt, HasStopped}
-use Rattle.mk_check.specs.Feeding.{FeedState, IsAtStop, op_of_node, op_in, first_op, script_scope, next_op, StandsFor}
+use Rattle.mk_check.specs.Feeding.{FeedState, IsAtStop, op_of_node, op_in, first_op, script_scope, StandsFor}
 use Rattle.mk_check.proofs.StepLaws.{behind_text, stopped_behind_text, ran-text}
-use Rattle.mk_check.proofs.Numbered.{kept_of, stopped_of, Agrees, run_agrees, op_of-asked, kept_of-with_answer, ops-with_answer}
+use Rattle.mk_check.proofs.Numbered.{kept_of, stopped_of, run_agrees, op_of-asked, kept_of-with_answer, ops-with_answer}
 use Rattle.mk_check.proofs.Moves.{unfolded_done, unfolded_line}
 
 -- blocks that begin with a line
@@ -139,7 +139,7 @@ answer_agrees scope fed line item rest a h =
     let agrees = run_agrees scope rest (with_answer scope noted_fed item a) in
     record {
       stop = agrees.stop ∙ (ap (ran (steps_of scope rest)) (kept_of-with_answer scope noted_fed item a)
-      ∙ ap (λ (k : Kept). ran (steps_of scope rest) (answered (instruction_of scope item) a k)) n.kept);
+          ∙ ap (λ (k : Kept). ran (steps_of scope rest) (answered (instruction_of scope item) a k)) n.kept);
       more = ap (λ (os : List Op). length os) (agrees.answers ∙ ops-with_answer scope noted_fed item a) ∙ n.more;
     }
 

@@ -1,12 +1,12 @@
 -- Laws of what steps do: one part after another, rounds, and text that stands before.
-use Rattle.std.proofs.Common.{◌≡◌, ℕ, zero, suc, ◌+◌, ◌-◌, ◌%◌, ◌^◌, Bool, true, false, List, [], ◌∷◌, ◌++◌, refl, ap, sym, ◌∙◌, if◌then◌else◌, arith}
-use Rattle.std.specs.Prelude.{slice_index, slice_set, ◌==◌, is_some, Option, Some, None}
+use Rattle.std.proofs.Common.{◌≡◌, ℕ, zero, suc, Bool, true, false, List, ◌++◌, refl, ap, sym, ◌∙◌, if◌then◌else◌}
+use Rattle.std.specs.Prelude.{slice_index, ◌==◌, is_some}
 use Rattle.std.specs.Fmt.{decimal}
 use Rattle.std.proofs.lemmas.List.{append_assoc}
 use Rattle.mk_check.specs.declared.feeding.instructions.Instruction.{Instruction}
 use Rattle.mk_check.specs.declared.feeding.instructions.Instruction.TheVariants.{Nothing, Const, Add, Sub, Print, Ask, Store, Load, Show}
 use Rattle.mk_check.specs.Feed.{newline}
-use Rattle.mk_check.specs.Steps.{Steps, Done, Line, Rounds, Choice, then_steps, none_left, Kept, Stopped, asked, after_line, then_ran, ran_rounds, ran}
+use Rattle.mk_check.specs.Steps.{Steps, Done, Line, Rounds, Choice, then_steps, Kept, Stopped, asked, after_line, then_ran, ran_rounds, ran}
 
 pub then_steps_assoc : (a b c : Steps) → then_steps (then_steps a b) c ≡ then_steps a (then_steps b c)
 then_steps_assoc Done b c = refl

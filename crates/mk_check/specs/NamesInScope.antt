@@ -1,8 +1,8 @@
 -- Names that items declare.
-use Rattle.std.specs.Prelude.{ℕ, ◌≤◌, length, List, [], ◌∷◌, map, Option, Some, None}
+use Rattle.std.specs.Prelude.{ℕ, ◌≤◌, length, List, map, Option, Some, None}
 use Rattle.std.specs.Borrow.{Bor}
 use Rattle.mk_script.specs.declared.items.Item.{Item}
-use Rattle.mk_script.specs.declared.items.Item.TheVariants.{Heap, TypeLine, Global, Script, Ptr, Num, New, Free, Getn, Setn, Getp, Setp, Casp, Lea, Move, Clear, Loadg, Storeg, Same, Isnull, Show, Const, Add, Sub, Print, Repeat, If, Else, End}
+use Rattle.mk_script.specs.declared.items.Item.TheVariants.{TypeLine, Global, Ptr, Num}
 use Rattle.mk_script.specs.Scopes.{type_names, global_names, pointer_names, number_names}
 use Rattle.mk_check.specs.Feed.{Scope}
 use Rattle.mk_check.specs.declared.feeding.names.Sort.{Sort}

@@ -1,5 +1,5 @@
 -- A script with numbers for its names, and what it does. It is the script of the definitions in Feed, with less to look up.
-use Rattle.std.specs.Prelude.{ℕ, zero, suc, ◌+◌, ◌-◌, ◌%◌, ◌^◌, Bool, true, false, List, [], ◌∷◌, ◌++◌, slice_index, slice_set, ◌==◌, if◌then◌else◌, Option, Some, None, is_some, unwrap_or}
+use Rattle.std.specs.Prelude.{ℕ, zero, suc, ◌+◌, ◌-◌, ◌%◌, ◌^◌, Bool, true, false, List, ◌++◌, slice_index, slice_set, ◌==◌, if◌then◌else◌, Option, Some, None, is_some, unwrap_or}
 use Rattle.std.specs.Option.{option_or}
 use Rattle.std.specs.Fmt.{decimal}
 use Rattle.mk_never.specs.declared.operations.Op.{Op}
@@ -14,7 +14,7 @@ use Rattle.mk_check.specs.declared.feeding.instructions.Element.TheVariants as e
 use Rattle.mk_check.specs.Declarations.{place_of}
 use Rattle.mk_check.specs.Blocks.{Blocks}
 use Rattle.mk_check.specs.Blocks as blocks
-use Rattle.mk_check.specs.Feed.{Scope, Fed, pointer_place, newline, refusal_line, refusal_text, number_of, shown}
+use Rattle.mk_check.specs.Feed.{Scope, pointer_place, newline, refusal_line, refusal_text, number_of, shown}
 
 -- Lines to run, as Blocks has them.
 pub data Steps : Type 0 where
@@ -64,11 +64,11 @@ load scope (item.Casp number pointer index expected stored) =
 load scope other = None
 
 -- an instruction that keeps or shows what it tests of pointers
-abbrev pub test : Scope → Item → Option Instruction
-test scope (item.Same number first second) = Some (Load (number_place scope number) (op.Same (pointer_place scope first) (pointer_place scope second)))
-test scope (item.Isnull number pointer) = Some (Load (number_place scope number) (op.IsNull (pointer_place scope pointer)))
-test scope (item.Show pointer) = Some (Show (pointer_place scope pointer))
-test scope other = None
+abbrev pub pointer_test : Scope → Item → Option Instruction
+pointer_test scope (item.Same number first second) = Some (Load (number_place scope number) (op.Same (pointer_place scope first) (pointer_place scope second)))
+pointer_test scope (item.Isnull number pointer) = Some (Load (number_place scope number) (op.IsNull (pointer_place scope pointer)))
+pointer_test scope (item.Show pointer) = Some (Show (pointer_place scope pointer))
+pointer_test scope other = None
 
 -- an instruction that reads number registers
 abbrev pub arithmetic : Scope → Item → Option Instruction
@@ -85,7 +85,7 @@ asking_or (Some o) other = Ask o
 
 abbrev pub instruction_of : Scope → Item → Instruction
 instruction_of scope item =
-    asking_or (option_or (object_op scope item) (register_op scope item)) (option_or (option_or (load scope item) (test scope item)) (arithmetic scope item))
+    asking_or (option_or (object_op scope item) (register_op scope item)) (option_or (option_or (load scope item) (pointer_test scope item)) (arithmetic scope item))
 
 abbrev pub element_of : Scope → Item → Element
 element_of scope (item.Repeat rounds) = element.Repeat rounds

@@ -1,6 +1,5 @@
 -- What the nodes of a tree stand for, and where a script is in it.
-use Rattle.std.specs.Prelude.{◌≡◌, ℕ, zero, suc, ◌+◌, ◌*◌, ◌-◌, ◌<◌, ◌++◌, ◌==◌, max, Bool, true, false, List, [], ◌∷◌, length, fold, slice_index, slice_index_or, if◌then◌else◌, Option, Some, None, is_some}
-use Rattle.mk_never.specs.declared.operations.Op.{Op}
+use Rattle.std.specs.Prelude.{◌≡◌, ℕ, zero, suc, ◌+◌, ◌*◌, ◌<◌, ◌++◌, ◌==◌, max, true, List, [], ◌∷◌, length, fold, slice_index, slice_index_or, if◌then◌else◌, is_some}
 use Rattle.mk_check.specs.declared.feeding.tree.Node.{Node}
 use Rattle.mk_check.specs.declared.feeding.tree.Node.TheVariants as node
 use Rattle.mk_check.specs.declared.feeding.tree.Frame.{Frame}

@@ -1,5 +1,5 @@
 //! A script's tree, built from its last line on.
-ghost use Rattle.std.specs.Prelude.{◌≡◌, ◌+◌, ◌<◌, ◌^◌, ◌++◌, [], ◌∷◌, length, IfOk, OnOk};
+ghost use Rattle.std.specs.Prelude.{◌≡◌, ℕ, ◌+◌, ◌<◌, ◌^◌, ◌++◌, [], ◌∷◌, length, IfOk, OnOk};
 ghost use Rattle.mk_check.specs.declared.feeding.instructions.Element.TheVariants as element;
 ghost use Rattle.mk_check.specs.Blocks.{blocks_from};
 ghost use Rattle.mk_check.specs.Steps.{Done, steps_of};
@@ -56,7 +56,7 @@ impl Builder {
         requires { IsBelow (length self.old.nodes) node }
         ensures { OnOk result (self.new ≡ grown self.old node second) }
     {
-        let steps = self.tree.len();
+        let steps = self.tree.count();
         self.tree.push(node)?;
         self.put(Part { steps, second })
     }
@@ -89,9 +89,9 @@ impl Builder {
         self.grow(node, part.second)
     }
 
-    fn add_repeat(&mut self, line: u64, rounds: u64) -> Result<(), NoMemory>
+    fn add_repeat(&mut self, rounds: u64) -> Result<(), NoMemory>
         requires { IsSound self.old }
-        ensures { OnOk result (Adds line (element.Repeat rounds) self.old self.new) }
+        ensures { OnOk result ((line : ℕ) → Adds line (element.Repeat rounds) self.old self.new) }
     {
         let Some(body) = self.parts.pop() else {
             return Ok(());
@@ -107,9 +107,9 @@ impl Builder {
         self.grow(node, part.second)
     }
 
-    fn add_if(&mut self, line: u64, number: usize) -> Result<(), NoMemory>
+    fn add_if(&mut self, number: usize) -> Result<(), NoMemory>
         requires { IsSound self.old }
-        ensures { OnOk result (Adds line (element.If number) self.old self.new) }
+        ensures { OnOk result ((line : ℕ) → Adds line (element.If number) self.old self.new) }
     {
         let Some(branches) = self.parts.pop() else {
             return Ok(());
@@ -126,9 +126,9 @@ impl Builder {
         self.grow(node, part.second)
     }
 
-    fn add_else(&mut self, line: u64) -> Result<(), NoMemory>
+    fn add_else(&mut self) -> Result<(), NoMemory>
         requires { IsSound self.old }
-        ensures { OnOk result (Adds line element.Else self.old self.new) }
+        ensures { OnOk result ((line : ℕ) → Adds line element.Else self.old self.new) }
     {
         let Some(branch) = self.parts.pop() else {
             return Ok(());
@@ -139,9 +139,9 @@ impl Builder {
         })
     }
 
-    fn add_end(&mut self, line: u64) -> Result<(), NoMemory>
+    fn add_end(&mut self) -> Result<(), NoMemory>
         requires { IsSound self.old }
-        ensures { OnOk result (Adds line element.End self.old self.new) }
+        ensures { OnOk result ((line : ℕ) → Adds line element.End self.old self.new) }
     {
         self.put(Part {
             steps: END,
@@ -156,10 +156,10 @@ impl Builder {
     {
         match element {
             Element::Line(instruction) => self.add_line(line, instruction),
-            Element::Repeat(rounds) => self.add_repeat(line, rounds),
-            Element::If(number) => self.add_if(line, number),
-            Element::Else => self.add_else(line),
-            Element::End => self.add_end(line),
+            Element::Repeat(rounds) => self.add_repeat(rounds),
+            Element::If(number) => self.add_if(number),
+            Element::Else => self.add_else(),
+            Element::End => self.add_end(),
         }
     }
 

@@ -77,16 +77,17 @@ impl<'a> Model for Names<'a> {
     ghost Value = { Scope };
 
     ghost view = { λ n. record {
-        types = now_of n.types.items;
-        globals = now_of n.globals.items;
-        pointers = now_of n.pointers.items;
-        numbers = now_of n.numbers.items } };
+      types = now_of n.types.items;
+      globals = now_of n.globals.items;
+      pointers = now_of n.pointers.items;
+      numbers = now_of n.numbers.items;
+    } };
 }
 
 impl<'a> Names<'a> {
     ghost use Rattle.mk_check.specs.NamesInScope.{HasFew};
     ghost use Rattle.mk_check.specs.Feed.{pointer_place};
-    ghost use Rattle.mk_check.specs.Steps.{object_op, register_op, load, test, arithmetic, element_of};
+    ghost use Rattle.mk_check.specs.Steps.{object_op, register_op, load, pointer_test, arithmetic, element_of};
 
     pub fn of(alloc: Global, program: &'a [Item], script: &'a [Item]) -> Result<Names<'a>, NoMemory>
         ensures { IfOk result (λ names. names ≡ scope_of program.now script.now) }
@@ -239,9 +240,9 @@ impl<'a> Names<'a> {
     }
 
     /// An instruction that keeps what it tests of pointers.
-    fn test(&self, item: &Item) -> Option<Instruction>
+    fn pointer_test(&self, item: &Item) -> Option<Instruction>
         requires { HasFew self.now }
-        ensures { result ≡ test self.now item.now }
+        ensures { result ≡ pointer_test self.now item.now }
     {
         match item {
             Item::Same {
@@ -320,7 +321,7 @@ impl<'a> Names<'a> {
             return Instruction::Ask { op };
         }
         self.load(item)
-            .or(self.test(item))
+            .or(self.pointer_test(item))
             .or(self.arithmetic(item))
             .unwrap_or(Instruction::Nothing)
     }

@@ -44,10 +44,11 @@ impl Running {
     /// A script before its first line, with as many number registers as `numbers`.
     pub fn begin(alloc: Global, at: usize, numbers: usize, name: &Name) -> Result<Running, NoMemory>
         ensures { IfOk result (λ r. r ≡ record {
-            at = at;
-            frames = [];
-            numbers = replicate numbers 0;
-            text = codes "script " ++ (name.now ++ newline) }) }
+          at = at;
+          frames = [];
+          numbers = replicate numbers 0;
+          text = codes "script " ++ (name.now ++ newline);
+        }) }
     {
         let Ok(numbers) = Vec::from_elem(alloc, 0, numbers) else {
             return Err(NoMemory);
@@ -134,7 +135,12 @@ impl Running {
     }
 
     /// Appends the line that an answer prints which refuses the instruction of a line.
-    pub fn print_refusal(&mut self, alloc: Global, line: u64, answer: Answer) -> Result<(), NoMemory>
+    pub fn print_refusal(
+        &mut self,
+        alloc: Global,
+        line: u64,
+        answer: Answer,
+    ) -> Result<(), NoMemory>
         ensures { OnOk result
             (self.new ≡ record self.old { text = self.old.text ++ refusal_line line (refusal_text answer) }) }
     {
@@ -231,10 +237,20 @@ impl Running {
     }
 
     /// Begins a branch.
-    fn choose(&mut self, number: usize, first: usize, second: usize, next: usize) -> Result<(), NoMemory>
+    fn choose(
+        &mut self,
+        number: usize,
+        first: usize,
+        second: usize,
+        next: usize,
+    ) -> Result<(), NoMemory>
         ensures { OnOk result (self.new ≡ branched self.old number first second next) }
     {
-        self.at = if self.number(number) == 0 { second } else { first };
+        self.at = if self.number(number) == 0 {
+            second
+        } else {
+            first
+        };
         self.open(Frame::Branch { next })
     }
 
@@ -262,7 +278,9 @@ impl Running {
         match tree.node(self.at) {
             Node::Done => self.leave(),
             Node::Line {
-                instruction, next, ..
+                instruction,
+                next,
+                ..
             } => {
                 if self.asked(instruction).is_some() {
                     return Ok(false);

@@ -41,7 +41,7 @@ pub enum Frame {
     },
 }
 
-/// The nodes, each of which names those before it alone. The first is the end of a block.
+/// The nodes, each of which names those before it alone.
 #[derive(Drop)]
 pub struct Tree {
     nodes: Vec<Node>,
@@ -65,10 +65,13 @@ impl Tree {
     pub fn new(alloc: Global) -> Tree
         ensures { result ≡ [] }
     {
-        Tree { nodes: Vec::new(alloc) }
+        Tree {
+            nodes: Vec::new(alloc),
+        }
     }
 
-    pub fn len(&self) -> usize
+    /// How many nodes there are.
+    pub fn count(&self) -> usize
         ensures { result ≡ length self.now }
     {
         self.nodes.len()

@@ -1,13 +1,12 @@
-use Rattle.std.proofs.Common.{◌≡◌, ℕ, List, ◌++◌, true, refl, ap, sym, ◌∙◌, subst}
-use Rattle.std.specs.Prelude.{Option, is_some}
+use Rattle.std.proofs.Common.{◌≡◌, ◌++◌, true, ap, sym, ◌∙◌, subst}
+use Rattle.std.specs.Prelude.{is_some}
 use Rattle.std.proofs.lemmas.Result.{IfOk-weaker}
-use Rattle.mk_never.specs.declared.operations.Op.{Op}
 use Rattle.mk_check.specs.declared.feeding.tree.Node.{Node}
 use Rattle.mk_check.specs.declared.feeding.tree.Node.TheVariants as node
 use Rattle.mk_check.specs.Feed.{refusal_line, refusal_text}
-use Rattle.mk_check.specs.Steps.{asked, answered, ran_on}
-use Rattle.mk_check.specs.Trees.{Place, IsTree, node_at, with_kept, kept_in, left_in, stopped_in, HasStopped}
-use Rattle.mk_check.specs.Feeding.{FeedState, IsAtStop, op_of_node, op_in, TakesAnswer}
+use Rattle.mk_check.specs.Steps.{asked, answered}
+use Rattle.mk_check.specs.Trees.{Place, node_at, with_kept, kept_in}
+use Rattle.mk_check.specs.Feeding.{FeedState, op_of_node, op_in, TakesAnswer}
 use Rattle.mk_check.proofs.Stands.{answer_stands, answer_stops}
 use Rattle.mk_check.proofs.feeding.Feed.answer.Goals as goal
 

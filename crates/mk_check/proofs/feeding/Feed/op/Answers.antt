@@ -1,11 +1,8 @@
-use Rattle.std.proofs.Common.{◌≡◌, ℕ, List, refl, ap, sym, ◌∙◌, subst}
-use Rattle.std.specs.Prelude.{Option, Some, None, is_some}
+use Rattle.std.proofs.Common.{◌≡◌, refl, ap, sym, ◌∙◌, subst}
+use Rattle.std.specs.Prelude.{Option, None, is_some}
 use Rattle.mk_never.specs.declared.operations.Op.{Op}
-use Rattle.mk_check.specs.declared.feeding.tree.Node.{Node}
-use Rattle.mk_check.specs.declared.feeding.tree.Node.TheVariants as node
-use Rattle.mk_check.specs.Feed.{feed}
 use Rattle.mk_check.specs.Trees.{IsTree, node_at}
-use Rattle.mk_check.specs.Feeding.{FeedState, IsAtStop, op_of_node, op_in, script_scope}
+use Rattle.mk_check.specs.Feeding.{FeedState, IsAtStop, op_of_node, op_in}
 use Rattle.mk_check.proofs.Stands.{op_stands, op_of_others}
 use Rattle.mk_check.proofs.feeding.Feed.op.Goals as goal
 use Rattle.mk_check.proofs.feeding.Feed.op.Goals.{After-asked}
@@ -44,7 +41,7 @@ returns-in_default c =
       value = sym value;
       next = λ program k answers st. sym value ∙ (op_stands program k c.args.self.now answers tree stop st).op;
       none = λ program k answers st.
-        let t = op_stands program k c.args.self.now answers tree stop st in
-        let e = ap (λ (o : Option Op). is_some o) value in
-        (λ h. t.ended e, λ h. refl);
+          let t = op_stands program k c.args.self.now answers tree stop st in
+          let e = ap (λ (o : Option Op). is_some o) value in
+          (λ h. t.ended e, λ h. refl);
     }

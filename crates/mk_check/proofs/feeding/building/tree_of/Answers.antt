@@ -1,4 +1,4 @@
-use Rattle.std.proofs.Common.{◌≡◌, ◌+◌, ◌-◌, ◌<◌, List, ap, sym, ◌∙◌, length, arith}
+use Rattle.std.proofs.Common.{◌+◌, ◌-◌, List, ap, ◌∙◌, arith}
 use Rattle.mk_check.specs.declared.feeding.instructions.Element.{Element}
 use Rattle.mk_check.specs.Steps.{element_of}
 use Rattle.mk_check.specs.Building.{StepPart, with_element, parts_in}
@@ -12,7 +12,7 @@ loop-index-preserved c =
     record {
       sound = c.in_ok-add.ensures.sound;
       parts = c.in_ok-add.ensures.parts
-      ∙ (ap (λ (e : Element). with_element (c.args.line + i) e (parts_in c.loop-index.builder)) c.element.ensures
-      ∙ (ap (λ (ps : List StepPart). with_element (c.args.line + i) (element_of c.args.names.now item) ps) c.loop-index.invariant.parts
-      ∙ parts_from_more c.args.names.now c.args.line i c.loop-index.index c.args.items.now item (omega arith) c.index-items-index.is (omega arith)));
+          ∙ (ap (λ (e : Element). with_element (c.args.line + i) e (parts_in c.loop-index.builder)) c.element.ensures
+          ∙ (ap (λ (ps : List StepPart). with_element (c.args.line + i) (element_of c.args.names.now item) ps) c.loop-index.invariant.parts
+          ∙ parts_from_more c.args.names.now c.args.line i c.loop-index.index c.args.items.now item (omega arith) c.index-items-index.is (omega arith)));
     }

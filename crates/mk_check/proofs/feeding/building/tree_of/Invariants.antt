@@ -1,4 +1,4 @@
-use Rattle.std.proofs.Common.{◌≡◌, ◌+◌, drop, map, length}
+use Rattle.std.proofs.Common.{◌≡◌, ◌+◌, drop, map}
 use Rattle.mk_check.specs.Blocks.{parts_from}
 use Rattle.mk_check.specs.Building.{IsSound, parts_in, part_of}
 use Rattle.mk_check.proofs.feeding.building.tree_of.Given as goal

@@ -1,10 +1,10 @@
-use Rattle.std.proofs.Common.{◌≡◌, ℕ, ◌<◌, List, [], ◌∷◌, ◌++◌, length, ap, sym, ◌∙◌, subst, refl, IfOk}
+use Rattle.std.proofs.Common.{◌≡◌, ℕ, ◌<◌, List, [], ◌∷◌, ◌++◌, length, ap, sym, ◌∙◌, subst, refl}
 use Rattle.std.proofs.lemmas.Result.{IfOk-weaker}
 use Rattle.mk_check.specs.declared.feeding.instructions.Element.TheVariants as element
 use Rattle.mk_check.specs.declared.feeding.tree.Node.{Node}
 use Rattle.mk_check.specs.declared.feeding.tree.Node.TheVariants as node
 use Rattle.mk_check.specs.declared.feeding.building.Part.{Part}
-use Rattle.mk_check.specs.Building.{Built, grown, with_part, Adds}
+use Rattle.mk_check.specs.Building.{Built, grown, Adds}
 use Rattle.mk_check.proofs.Builds.{popped, if_added}
 use Rattle.mk_check.proofs.feeding.building.Builder.add_if.Goals as goal
 
@@ -32,6 +32,6 @@ returns c =
     sym (ap (λ (x : Built). x.parts) c.self.view_is) ∙ (c.in-Some.ensures.items ∙ ap (λ (ps : List Part). ps ++ inner ∷ []) c.in-Some-pop.ensures.items) in
     let n = node.Choice c.args.number inner.steps inner.second part.steps in
     let new = λ (ns : List Node). grown (record { nodes = ns; parts = parts }) n part.second in
-    IfOk-weaker c.grow.result (λ _. c.grow.new.self ≡ new c.self.inside.tree) (λ _. Adds c.args.line (element.If c.args.number) b c.grow.new.self)
-    (λ _ e. subst (λ (x : Built). Adds c.args.line (element.If c.args.number) b x)
-    (sym (e ∙ ap (λ (x : Built). new x.nodes) c.self.view_is)) (if_added b parts part inner c.args.line c.args.number c.requires was)) c.grow.ensures
+    IfOk-weaker c.grow.result (λ _. c.grow.new.self ≡ new c.self.inside.tree) (λ _. (line : ℕ) → Adds line (element.If c.args.number) b c.grow.new.self)
+    (λ _ e line. subst (λ (x : Built). Adds line (element.If c.args.number) b x)
+    (sym (e ∙ ap (λ (x : Built). new x.nodes) c.self.view_is)) (if_added b parts part inner line c.args.number c.requires was)) c.grow.ensures

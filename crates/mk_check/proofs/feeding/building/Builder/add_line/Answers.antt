@@ -1,10 +1,9 @@
-use Rattle.std.proofs.Common.{◌≡◌, ℕ, ◌<◌, List, [], ◌∷◌, ◌++◌, length, ap, sym, ◌∙◌, subst, IfOk}
+use Rattle.std.proofs.Common.{◌≡◌, ◌<◌, List, [], ◌∷◌, ◌++◌, length, ap, sym, ◌∙◌, subst}
 use Rattle.std.proofs.lemmas.Result.{IfOk-weaker}
 use Rattle.mk_check.specs.declared.feeding.instructions.Element.TheVariants as element
 use Rattle.mk_check.specs.declared.feeding.tree.Node.{Node}
 use Rattle.mk_check.specs.declared.feeding.tree.Node.TheVariants as node
-use Rattle.mk_check.specs.declared.feeding.building.Part.{Part}
-use Rattle.mk_check.specs.Building.{Built, grown, with_part, Adds}
+use Rattle.mk_check.specs.Building.{Built, grown, Adds}
 use Rattle.mk_check.proofs.Builds.{popped, line_added}
 use Rattle.mk_check.proofs.feeding.building.Builder.add_line.Goals as goal
 

@@ -1,6 +1,6 @@
 use Rattle.std.proofs.Common.{◌≡◌, length}
 use Rattle.mk_check.specs.Steps.{ran}
-use Rattle.mk_check.specs.Trees.{Place, kept_in, left_in, IsWithin, work_in}
+use Rattle.mk_check.specs.Trees.{kept_in, left_in, IsWithin, work_in}
 use Rattle.mk_check.proofs.feeding.running.Running.run.Given as goal
 
 abbrev pub invariant-loop : goal.invariant-loop

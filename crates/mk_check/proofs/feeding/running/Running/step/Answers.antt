@@ -1,9 +1,8 @@
-use Rattle.std.proofs.Common.{◌≡◌, Bool, true, false, [], ap, sym, ◌∙◌, subst, rules, IfOk, IsTrue, is_some}
+use Rattle.std.proofs.Common.{◌≡◌, true, false, [], ap, sym, ◌∙◌, subst, IsTrue, is_some}
 use Rattle.std.proofs.lemmas.Result.{IfOk-weaker}
-use Rattle.mk_check.specs.declared.feeding.tree.Node.{Node}
 use Rattle.mk_check.specs.declared.feeding.tree.Node.TheVariants as node
 use Rattle.mk_check.specs.Steps.{after_line, asked}
-use Rattle.mk_check.specs.Trees.{Place, LeavesBlock, GoesOn, HasStopped, node_at, entered, branched, with_kept, kept_in}
+use Rattle.mk_check.specs.Trees.{Place, LeavesBlock, GoesOn, HasStopped, node_at, with_kept, kept_in}
 use Rattle.mk_check.proofs.Moves.{line_goes_on, rounds_go_on, choice_goes_on, end_goes_on, ends_at, asks_at}
 use Rattle.mk_check.proofs.feeding.running.Running.step.Goals as goal
 
