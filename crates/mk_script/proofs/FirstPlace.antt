@@ -4,8 +4,7 @@ use Rattle.std.proofs.lemmas.Bool.{le-ltb, lt-ltb}
 use Rattle.std.proofs.lemmas.Bool.Decides.{nat_tests}
 use Rattle.std.proofs.lemmas.List.{length-drop, take_all}
 use Rattle.std.specs.List.{list_any, position_or_len, prefix_len}
-use Rattle.mk_script.specs.Operands.{is_plus}
-use Rattle.mk_script.specs.Stops.{IsCutAtPlus}
+use Rattle.mk_script.specs.Operands.{is_plus, IsCutAtPlus}
 
 behind : (here : Bool) (rest : Bool) (place count : ℕ) → rest ≡ ltb place count → (here || rest) ≡ ltb (cond (not here) (1 + place) 0) (suc count)
 behind true rest place count h = sym (lt-ltb 0 (suc count) (omega arith))

@@ -16,4 +16,5 @@ mod NoForm
 mod Placed
 mod Pushed
 mod PutName
+mod Reading
 mod ScopeAfter

@@ -1,5 +1,5 @@
 -- What the words of a line say, given its form.
-use Rattle.std.specs.Prelude.{ℕ, Bool, true, false, ◌&&◌, ◌==◌, nat_le, if◌then◌else◌, List, [], ◌∷◌, ◌++◌, replicate, Option, Some, None, is_some, option_map, option_and_then, unwrap_or, Ok, Err}
+use Rattle.std.specs.Prelude.{◌≡◌, ℕ, Bool, true, false, ◌&&◌, ◌==◌, nat_le, if◌then◌else◌, List, [], ◌∷◌, ◌++◌, replicate, Option, Some, None, is_some, option_map, option_and_then, unwrap_or, Ok, Err}
 use Rattle.std.specs.declared.result.Result.{Result}
 use Rattle.std.specs.List.{list_all, list_any, flat_map, before_first, after_first}
 use Rattle.std.specs.Str.{bytes_eq}
@@ -33,6 +33,12 @@ name word = or_fault (Text kind.Name) (name_of word)
 
 abbrev pub is_plus : ℕ → Bool
 is_plus byte = byte == 43
+
+-- the front and the back are what stands around the first `+` of the word
+pub record IsCutAtPlus (word front back : List ℕ) : Type 0 where
+  pub has_plus : list_any is_plus word ≡ true
+  pub front_is : front ≡ before_first is_plus word
+  pub back_is : back ≡ after_first is_plus word
 
 -- `T` or `T+K`, cut at the first `+`
 abbrev pub at : List ℕ → Result At LineFault

@@ -12,12 +12,6 @@ use Rattle.mk_script.specs.declared.items.Item.{Item}
 use Rattle.mk_script.specs.Lines.{checked_item}
 use Rattle.mk_script.specs.Operands.{◌>>=◌, is_plus}
 
--- the front and the back are what stands around the first `+` of the word
-pub record IsCutAtPlus (word front back : List ℕ) : Type 0 where
-  pub has_plus : list_any is_plus word ≡ true
-  pub front_is : front ≡ before_first is_plus word
-  pub back_is : back ≡ after_first is_plus word
-
 -- what was expected, or no memory
 abbrev pub Gives : {A : Type 0} → Result A LineFault → Result A LineStop → Type 0
 Gives expected (Ok item) = expected ≡ Ok item
@@ -32,9 +26,3 @@ checked_behind before found = found >>= checked_item before
 abbrev pub stop_at : ℕ → LineStop → TextStop
 stop_at line (Fault fault) = fault_at line fault
 stop_at line NoMemory = stop.NoMemory
-
-abbrev pub GivesText : {A : Type 0} → Result A TextStop → Result A TextStop → Type 0
-GivesText expected (Ok items) = expected ≡ Ok items
-GivesText expected (Err (stop.Text line kind)) = expected ≡ Err (stop.Text line kind)
-GivesText expected (Err (stop.Limit line which found)) = expected ≡ Err (stop.Limit line which found)
-GivesText expected (Err stop.NoMemory) = Unit {0}

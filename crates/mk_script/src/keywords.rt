@@ -75,42 +75,6 @@ impl Keyword {
     {
         keyword_among(&KEYWORDS, word)
     }
-
-    /// Whether a line of this form has so many words behind its first.
-    pub fn has_operands(self, count: usize) -> bool
-        ensures { result ≡ spec.has_operands self count }
-    {
-        match self {
-            Keyword::Else | Keyword::End => count == 0,
-            Keyword::Script
-            | Keyword::Num
-            | Keyword::Free
-            | Keyword::Clear
-            | Keyword::Show
-            | Keyword::Print
-            | Keyword::Repeat
-            | Keyword::If => count == 1,
-            Keyword::Heap
-            | Keyword::Global
-            | Keyword::Ptr
-            | Keyword::New
-            | Keyword::Move
-            | Keyword::Loadg
-            | Keyword::Storeg
-            | Keyword::Isnull
-            | Keyword::Const => count == 2,
-            Keyword::Getn
-            | Keyword::Setn
-            | Keyword::Getp
-            | Keyword::Setp
-            | Keyword::Lea
-            | Keyword::Same
-            | Keyword::Add
-            | Keyword::Sub => count == 3,
-            Keyword::Casp => count == 5,
-            Keyword::TypeLine => 2 <= count,
-        }
-    }
 }
 
 fn keyword_among(table: &[(&[u8], Keyword)], word: &[u8]) -> Option<Keyword>

@@ -2,8 +2,7 @@
 ghost use Rattle.std.specs.Prelude.{◌≡◌, false, MatchOption, position};
 ghost use Rattle.std.specs.List.{list_any};
 ghost use Rattle.mk_script.specs.Operands as spec;
-ghost use Rattle.mk_script.specs.Operands.{is_plus};
-ghost use Rattle.mk_script.specs.Stops.{IsCutAtPlus};
+ghost use Rattle.mk_script.specs.Operands.{is_plus, IsCutAtPlus};
 
 use crate::faults::{LineFault, TextKind};
 use crate::items::At;

@@ -1,0 +1,47 @@
+use Rattle.std.proofs.Common.{◌≡◌, ◌≢◌, ◌<◌, ◌+◌, [], Ok, Err, drop, length, ◌∙◌, ap, sym, arith}
+use Rattle.std.proofs.lemmas.Bool.Decides.{nat_tests}
+use Rattle.std.proofs.lemmas.List.{at_drop_all, length-append}
+use Rattle.mk_script.specs.declared.items.Item.{Item}
+use Rattle.mk_script.specs.declared.faults.TextStop.TheVariants.{NoMemory}
+use Rattle.mk_script.specs.Grammar.{items_of_lines, items_behind, at_end}
+use Rattle.mk_script.specs.Stops.{stop_at}
+use Rattle.mk_script.specs.Words.{lines_of, texts_of}
+use Rattle.mk_script.proofs.Reading.{step, stops_at, whole, ended_well, ended_badly}
+use Rattle.mk_script.proofs.parsing.items.Goals as goal
+
+pub loop-index-preserved : goal.loop-index-preserved
+loop-index-preserved c =
+    let so_far = c.loop-index.invariant in
+    let read = c.in_default.ensures so_far.scope_of in
+    record {
+      scope_of = read.scope_of;
+      count = grind (arith, ap length read.items_are, length-append {A = Item});
+      rest = step c.deref-line-items.result.now c.loop-index.index c.loop-index.items.items c.read_line.new.items.items c.read_line.new.scope _ c.loop-index-test.true read ∙ so_far.rest;
+    }
+
+pub returns-in-Err-clause-fault : goal.returns-in-Err-clause-fault
+returns-in-Err-clause-fault c = λ memory.
+    let so_far = c.loop-index.invariant in
+    let lines = c.deref-line-items.result.now in
+    let is = c.at.ensures in
+    let memory' : stop_at (c.loop-index.index + 1) c.in-Err.stop ≢ NoMemory = λ e. memory (is ∙ e) in
+    let some : 0 < length lines = omega arith in
+    whole lines (lines_of c.args.text.now) some (ap texts_of c.deref-line-items.ensures.value ∙ c.in_ok-lines.ensures)
+    ∙ sym so_far.rest
+    ∙ stops_at lines c.loop-index.index c.loop-index.items.items _ c.in-Err.stop c.loop-index-test.true so_far.count (c.in-Err.ensures so_far.scope_of) memory'
+    ∙ ap Err (sym is)
+
+ends : (c : goal.After-drop-lines-2) → items_of_lines (lines_of c.args.text.now) ≡ at_end c.loop-index.items.items
+ends c =
+    let so_far = c.loop-index.invariant in
+    let lines = c.deref-line-items.result.now in
+    let some : 0 < length lines = grind (arith, nat_tests, ap length c.deref-line-items.ensures.value) in
+    whole lines (lines_of c.args.text.now) some (ap texts_of c.deref-line-items.ensures.value ∙ c.in_ok-lines.ensures)
+    ∙ sym so_far.rest
+    ∙ at_drop_all (λ left. items_behind (texts_of left) c.loop-index.items.items) lines c.loop-index.index c.loop-index-test.false
+
+pub returns-clause-items : goal.returns-clause-items
+returns-clause-items c = ended_well (λ kept. kept.items) c.at_end.result _ (at_end c.loop-index.items.items) (ends c) (c.at_end.ensures c.loop-index.invariant.scope_of)
+
+pub returns-clause-fault : goal.returns-clause-fault
+returns-clause-fault c = ended_badly (λ kept. kept.items) c.at_end.result _ (at_end c.loop-index.items.items) (ends c) (c.at_end.ensures c.loop-index.invariant.scope_of)
