@@ -1,14 +1,11 @@
 -- What lines say, with one line more.
-use Rattle.std.proofs.Common.{◌≡◌, ◌≢◌, ℕ, ◌-◌, ◌<◌, ◌+◌, Bool, true, false, ◌||◌, if◌then◌else◌, List, [], ◌∷◌, ◌++◌, length, get_or, set, take, reverse, fold, refl, ap, sym, ◌∙◌, arith}
-use Rattle.std.specs.List.{list_any}
-use Rattle.std.proofs.lemmas.List.{append-nil, reverse-append, take_all, take_more, length-append}
-use Rattle.std.proofs.lemmas.List.Folds.{list_any-append}
+use Rattle.std.proofs.Common.{◌≡◌, ℕ, ◌-◌, ◌<◌, ◌+◌, if◌then◌else◌, List, [], ◌∷◌, ◌++◌, length, get_or, set, take, reverse, refl, ap, sym, ◌∙◌, arith}
+use Rattle.std.proofs.lemmas.List.{reverse-append, take_all, take_more, length-append}
 use Rattle.std.proofs.lemmas.List.Sums.{fold-append}
 use Rattle.std.proofs.Math.Seq.{set-append_seam}
 use Rattle.mk_script.specs.declared.items.Item.{Item}
-use Rattle.mk_script.specs.declared.items.Item.TheVariants.{Heap, TypeLine, Global, Script, Ptr, Num}
-use Rattle.mk_script.specs.Lines.{has_script}
-use Rattle.mk_script.specs.Scopes.{type_names, global_names, script_names, pointer_names, number_names, is_script, is_instruction, this_script, OpenBlock, InSecond, behind_else, open_behind, open_blocks}
+use Rattle.mk_script.specs.declared.items.Item.TheVariants.{TypeLine, Global, Script, Ptr, Num}
+use Rattle.mk_script.specs.Scopes.{type_names, global_names, script_names, pointer_names, number_names, is_script, this_script, OpenBlock, InSecond, behind_else, open_behind, open_blocks}
 
 pub type_names-push : (before : List Item) (item : Item) → type_names (before ++ item ∷ []) ≡ type_names before ++ type_names (item ∷ [])
 type_names-push [] item = refl

@@ -12,7 +12,7 @@ use Rattle.mk_script.specs.declared.items.Item.TheVariants.{Heap, TypeLine, Glob
 use Rattle.mk_script.specs.declared.scope.Scope.{Scope}
 use Rattle.mk_script.specs.Lines.{has_script}
 use Rattle.mk_script.specs.ScopeOf.{IsScopeOf, has_lines}
-use Rattle.mk_script.specs.Scopes.{type_names, global_names, script_names, pointer_names, number_names, is_script, is_instruction, this_script, open_behind, open_blocks}
+use Rattle.mk_script.specs.Scopes.{type_names, global_names, script_names, pointer_names, number_names, is_script, is_instruction, this_script, open_behind}
 use Rattle.mk_script.proofs.Pushed.{type_names-push, global_names-push, script_names-push, pointer_names-push, number_names-push, this_script-push, open_blocks-push}
 
 has_lines-push : (before : List Item) (item : Item) → true ≡ has_lines (before ++ item ∷ [])

@@ -1,9 +1,7 @@
 -- What the words of a line say, given its form.
-use Rattle.std.specs.Prelude.{◌≡◌, ℕ, Bool, true, false, ◌&&◌, ◌==◌, nat_le, if◌then◌else◌, List, [], ◌∷◌, ◌++◌, replicate, Option, Some, None, is_some, option_map, option_and_then, unwrap_or, Ok, Err}
+use Rattle.std.specs.Prelude.{◌≡◌, ℕ, Bool, true, ◌==◌, nat_le, if◌then◌else◌, List, [], ◌∷◌, replicate, Option, Some, None, is_some, option_map, option_and_then, unwrap_or, Ok, Err}
 use Rattle.std.specs.declared.result.Result.{Result}
 use Rattle.std.specs.List.{list_all, list_any, flat_map, before_first, after_first}
-use Rattle.std.specs.Str.{bytes_eq}
-use lib.Chars.{codes}
 use Rattle.mk_script.specs.declared.items.At.{At}
 use Rattle.mk_script.specs.declared.items.TypeWord.{TypeWord}
 use Rattle.mk_script.specs.declared.items.TypeWord.TheVariants.{Number, Pointer}

@@ -1,5 +1,5 @@
 -- What the lines before a line say: what is declared, which blocks are open.
-use Rattle.std.specs.Prelude.{ℕ, Bool, if◌then◌else◌, fold, true, false, List, [], ◌∷◌, ◌++◌, length}
+use Rattle.std.specs.Prelude.{ℕ, Bool, if◌then◌else◌, fold, true, false, List, [], ◌∷◌, ◌++◌}
 use Rattle.mk_script.specs.declared.items.Item.{Item}
 use Rattle.mk_script.specs.declared.items.Item.TheVariants.{Heap, TypeLine, Global, Script, Ptr, Num, New, Free, Getn, Setn, Getp, Setp, Casp, Lea, Move, Clear, Loadg, Storeg, Same, Isnull, Show, Const, Add, Sub, Print, Repeat, If, Else, End}
 pub use Rattle.mk_script.specs.declared.scope.OpenBlock.{OpenBlock}

@@ -1,7 +1,6 @@
 -- What a call gives, unless memory runs out.
-use Rattle.std.specs.Prelude.{◌≡◌, ℕ, true, List, [], ◌∷◌, ◌++◌, Ok, Err}
+use Rattle.std.specs.Prelude.{◌≡◌, ℕ, List, Ok, Err}
 use Rattle.std.specs.declared.result.Result.{Result}
-use Rattle.std.specs.List.{list_any, before_first, after_first}
 use Rattle.mk_script.specs.declared.faults.LineFault.{LineFault}
 use Rattle.mk_script.specs.declared.faults.LineStop.{LineStop}
 use Rattle.mk_script.specs.declared.faults.LineStop.TheVariants.{Fault, NoMemory}
@@ -10,7 +9,7 @@ use Rattle.mk_script.specs.declared.faults.TextStop.TheVariants as stop
 use Rattle.mk_script.specs.Grammar.{fault_at}
 use Rattle.mk_script.specs.declared.items.Item.{Item}
 use Rattle.mk_script.specs.Lines.{checked_item}
-use Rattle.mk_script.specs.Operands.{◌>>=◌, is_plus}
+use Rattle.mk_script.specs.Operands.{◌>>=◌}
 
 -- what was expected, or no memory
 abbrev pub Gives : {A : Type 0} → Result A LineFault → Result A LineStop → Type 0

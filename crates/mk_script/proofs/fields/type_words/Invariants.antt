@@ -1,4 +1,4 @@
-use Rattle.std.proofs.Common.{◌≡◌, ◌++◌, take}
+use Rattle.std.proofs.Common.{◌≡◌, take}
 use Rattle.mk_script.specs.Operands.{fields_of}
 use Rattle.mk_script.specs.Words.{texts_of}
 use Rattle.mk_script.proofs.fields.type_words.Given as goal

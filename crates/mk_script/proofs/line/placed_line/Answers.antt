@@ -1,6 +1,6 @@
 use Rattle.std.proofs.Common.{◌≡◌, ◌≢◌, true, ◌∙◌, ap, sym, rules, arith}
 use Rattle.mk_script.specs.declared.keywords.Keyword.TheVariants.{TypeLine}
-use Rattle.mk_script.specs.Lines.{is_placed, placed_item}
+use Rattle.mk_script.specs.Lines.{is_placed}
 use Rattle.mk_script.specs.Stops.{checked_behind}
 use Rattle.mk_script.specs.Words.{texts_of}
 use Rattle.mk_script.proofs.Converted.{gives_fault}

@@ -1,4 +1,4 @@
-use Rattle.std.proofs.Common.{◌≡◌, ◌++◌, ◌∷◌, [], Ok, ◌∙◌, ap, sym, rules, arith}
+use Rattle.std.proofs.Common.{◌≡◌, ◌++◌, ◌∷◌, [], Ok, ◌∙◌, ap, sym, arith}
 use Rattle.mk_script.specs.Lines.{line_of}
 use Rattle.mk_script.specs.Words.{texts_of, words_of}
 use Rattle.mk_script.proofs.Reading.{is_fresh}

@@ -1,4 +1,3 @@
-use Rattle.std.proofs.Common.{◌≡◌, ◌||◌, arith}
 use Rattle.mk_script.specs.Lines.{is_among}
 use Rattle.mk_script.specs.Scopes.{pointer_names, number_names, this_script}
 use Rattle.mk_script.proofs.NamesSoFar.{among_both, either_true, either_false}

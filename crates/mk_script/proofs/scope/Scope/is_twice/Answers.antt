@@ -1,6 +1,6 @@
-use Rattle.std.proofs.Common.{◌∙◌, ◌||◌, ap, inl, inr}
-use Rattle.mk_script.specs.Scopes.{type_names, global_names, script_names, pointer_names, number_names, this_script}
-use Rattle.mk_script.proofs.NamesSoFar.{among, among_both}
+use Rattle.std.proofs.Common.{◌∙◌}
+use Rattle.mk_script.specs.Scopes.{type_names, global_names, script_names}
+use Rattle.mk_script.proofs.NamesSoFar.{among}
 use Rattle.mk_script.proofs.scope.Scope.is_twice.Goals as goal
 
 pub returns-in-TypeLine : goal.returns-in-TypeLine
