@@ -34,7 +34,7 @@ abbrev pub AreLines : List Item → List Item → Type 0
 AreLines before [] = Unit {0}
 AreLines before (item ∷ items) = IsLine before item × AreLines (before ++ item ∷ []) items
 
-Err≢Ok : {T E : Type 0} (e : E) (x : T) → Err e ≡ Ok x → ⊥
+pub Err≢Ok : {T E : Type 0} (e : E) (x : T) → Err e ≡ Ok x → ⊥
 Err≢Ok e x h = false≢true (ap is_ok h)
 
 Some≢None : {T : Type 0} (x : T) → Some x ≡ None → ⊥
@@ -44,11 +44,11 @@ ok_value : {T E : Type 0} → T → Result T E → T
 ok_value other (Ok x) = x
 ok_value other (Err e) = other
 
-Ok-injective : {T E : Type 0} (x y : T) → ◌≡◌ {A = Result T E} (Ok x) (Ok y) → x ≡ y
+pub Ok-injective : {T E : Type 0} (x y : T) → ◌≡◌ {A = Result T E} (Ok x) (Ok y) → x ≡ y
 unfolding ok_value
 Ok-injective x y h = ap (ok_value x) h
 
-if-Ok : {T E : Type 0} (b : Bool) (r : Result T E) (e : E) (x : T) → (if b then r else Err e) ≡ Ok x → r ≡ Ok x
+pub if-Ok : {T E : Type 0} (b : Bool) (r : Result T E) (e : E) (x : T) → (if b then r else Err e) ≡ Ok x → r ≡ Ok x
 if-Ok true r e x h = h
 if-Ok false r e x h = absurd (Err≢Ok e x h)
 
@@ -56,7 +56,7 @@ if-None : {T : Type 0} (b : Bool) (x : T) → (if b then None else Some x) ≡ N
 if-None true x h = refl
 if-None false x h = absurd (Some≢None x h)
 
-and-true : (a b : Bool) → (a && b) ≡ true → (a ≡ true) × (b ≡ true)
+pub and-true : (a b : Bool) → (a && b) ≡ true → (a ≡ true) × (b ≡ true)
 and-true true b h = (refl, h)
 and-true false b h = absurd (false≢true h)
 
