@@ -37,7 +37,7 @@ AreLines before (item ∷ items) = IsLine before item × AreLines (before ++ ite
 pub Err≢Ok : {T E : Type 0} (e : E) (x : T) → Err e ≡ Ok x → ⊥
 Err≢Ok e x h = false≢true (ap is_ok h)
 
-Some≢None : {T : Type 0} (x : T) → Some x ≡ None → ⊥
+pub Some≢None : {T : Type 0} (x : T) → Some x ≡ None → ⊥
 Some≢None x h = false≢true (sym (ap is_some h))
 
 ok_value : {T E : Type 0} → T → Result T E → T
@@ -129,10 +129,10 @@ bound count most keeps before (item ∷ rest) lines h =
     subst (λ items. count items ≤ most) (append_assoc before (item ∷ []) rest)
     (bound count most keeps (before ++ item ∷ []) rest lines.1 (keeps before item lines.0.within h))
 
-at_most-None : (found greatest : ℕ) (which' : Which) → at_most found greatest which' ≡ None → found ≤ greatest
+pub at_most-None : (found greatest : ℕ) (which' : Which) → at_most found greatest which' ≡ None → found ≤ greatest
 at_most-None found greatest which' h = leb-true found greatest (if-None (nat_le found greatest) (Limit which' (min found (2 ^ 64 - 1))) h)
 
-or_else-None : (fault other : Option LineFault) → or_else fault other ≡ None → (fault ≡ None) × (other ≡ None)
+pub or_else-None : (fault other : Option LineFault) → or_else fault other ≡ None → (fault ≡ None) × (other ≡ None)
 or_else-None None other h = (refl, h)
 or_else-None (Some fault) other h = absurd (Some≢None fault h)
 

@@ -1,3 +1,4 @@
+pub mod ConfigLemmas
 pub mod CountLemmas
 pub mod FaultLemmas
 pub mod FormLemmas

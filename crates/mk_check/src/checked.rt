@@ -1,5 +1,6 @@
 //! Programs that are well typed.
 ghost use Rattle.std.specs.Prelude.{◌≡◌, ◌≤◌, length, IfOk, IfErr};
+ghost use Rattle.mk_core.specs.Config.{IsWithinLimits};
 ghost use Rattle.mk_script.specs.Grammar.{IsOfSomeText};
 ghost use Rattle.mk_script.specs.Scopes.{script_names};
 ghost use Rattle.mk_check.specs.Declarations.{pages_of, resident_of, types_of, globals_of};
@@ -63,6 +64,9 @@ impl Checked {
         ensures markers { IfOk result (λ config. config.markers ≡ markers) }
         ensures types { IfOk result (λ config. config.types ≡ types_of self.now) }
         ensures globals { IfOk result (λ config. config.globals ≡ globals_of self.now) }
+
+        // What the grammar's limits and the types say of these.
+        ensures within_limits { IfOk result IsWithinLimits }
     {
         let items = self.program.items();
         let heap = heap_pages(items);
