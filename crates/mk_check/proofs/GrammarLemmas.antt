@@ -1,10 +1,10 @@
 -- What each line of a program of some text keeps.
 use Rattle.std.proofs.Common.{◌≡◌, ℕ, ◌+◌, ◌-◌, ◌^◌, ◌≤◌, min, Bool, true, false, List, [], ◌∷◌, ◌++◌, length, Option, Some, None, Result, Ok, Err, refl, ap, sym, ◌∙◌, subst, arith}
-use Rattle.std.specs.Prelude.{if◌then◌else◌, nat_le, is_ok, is_some}
-use Rattle.std.proofs.lemmas.List.{append_assoc, append-nil}
+use Rattle.std.specs.Prelude.{if◌then◌else◌, nat_le, is_ok, is_some, ◌&&◌}
+use Rattle.std.proofs.lemmas.List.{append_assoc, append-nil, length-append}
 use Rattle.std.proofs.lemmas.Bool.{false≢true, leb-true}
 use Rattle.mk_script.specs.declared.items.Item.{Item}
-use Rattle.mk_script.specs.declared.items.Item.TheVariants.{Global}
+use Rattle.mk_script.specs.declared.items.Item.TheVariants.{Global, Heap, TypeLine, Script}
 use Rattle.mk_script.specs.declared.faults.TextStop.{TextStop}
 use Rattle.mk_script.specs.declared.faults.TextStop.TheVariants as stop
 use Rattle.mk_script.specs.declared.faults.TextKind.TheVariants.{Header, Twice, End}
@@ -13,11 +13,16 @@ use Rattle.mk_script.specs.declared.faults.LineFault.{LineFault}
 use Rattle.mk_script.specs.declared.faults.LineFault.TheVariants.{Text, Limit}
 use Rattle.mk_script.specs.declared.faults.Which.{Which}
 use Rattle.mk_script.specs.Words.{lines_of, words_of}
-use Rattle.mk_script.specs.Operands.{◌>>=◌}
-use Rattle.mk_script.specs.Scopes.{global_names, open_blocks}
-use Rattle.mk_script.specs.Lines.{line_of, line_item, checked_item, or_item, or_else, at_most, limit_fault, has_script, has_none, is_twice, ends_rightly}
+use Rattle.std.specs.Str.{bytes_eq}
+use lib.Chars.{codes}
+use Rattle.mk_script.specs.declared.keywords.Keyword.TheVariants as keyword
+use Rattle.mk_script.specs.Operands.{◌>>=◌, item_from, number}
+use Rattle.mk_script.specs.Scopes.{global_names, open_blocks, type_names, script_names}
+use Rattle.mk_script.specs.Lines.{line_of, line_item, checked_item, or_item, or_else, at_most, within, limit_fault, heap_line, has_script, has_none, is_twice, ends_rightly}
 use Rattle.mk_script.specs.Grammar.{IsOfSomeText, items_of_lines, items_behind, go_on, fault_at}
-use Rattle.mk_check.proofs.NumberLemmas.{length-global_names-append}
+use Rattle.mk_core.specs.Config.{IsBetween}
+use Rattle.mk_check.specs.Declarations.{pages_of, resident_of}
+use Rattle.mk_check.proofs.NumberLemmas.{length-global_names-append, type_names-append}
 
 -- A line behind these: what its words say, and no limit is passed.
 pub record IsLine (before : List Item) (item : Item) : Type 0 where
@@ -29,27 +34,31 @@ abbrev pub AreLines : List Item → List Item → Type 0
 AreLines before [] = Unit {0}
 AreLines before (item ∷ items) = IsLine before item × AreLines (before ++ item ∷ []) items
 
-Err≢Ok : {T E : Type 0} (e : E) (x : T) → Err e ≡ Ok x → ⊥
+pub Err≢Ok : {T E : Type 0} (e : E) (x : T) → Err e ≡ Ok x → ⊥
 Err≢Ok e x h = false≢true (ap is_ok h)
 
-Some≢None : {T : Type 0} (x : T) → Some x ≡ None → ⊥
+pub Some≢None : {T : Type 0} (x : T) → Some x ≡ None → ⊥
 Some≢None x h = false≢true (sym (ap is_some h))
 
 ok_value : {T E : Type 0} → T → Result T E → T
 ok_value other (Ok x) = x
 ok_value other (Err e) = other
 
-Ok-injective : {T E : Type 0} (x y : T) → ◌≡◌ {A = Result T E} (Ok x) (Ok y) → x ≡ y
+pub Ok-injective : {T E : Type 0} (x y : T) → ◌≡◌ {A = Result T E} (Ok x) (Ok y) → x ≡ y
 unfolding ok_value
 Ok-injective x y h = ap (ok_value x) h
 
-if-Ok : {T E : Type 0} (b : Bool) (r : Result T E) (e : E) (x : T) → (if b then r else Err e) ≡ Ok x → r ≡ Ok x
+pub if-Ok : {T E : Type 0} (b : Bool) (r : Result T E) (e : E) (x : T) → (if b then r else Err e) ≡ Ok x → r ≡ Ok x
 if-Ok true r e x h = h
 if-Ok false r e x h = absurd (Err≢Ok e x h)
 
 if-None : {T : Type 0} (b : Bool) (x : T) → (if b then None else Some x) ≡ None → b ≡ true
 if-None true x h = refl
 if-None false x h = absurd (Some≢None x h)
+
+pub and-true : (a b : Bool) → (a && b) ≡ true → (a ≡ true) × (b ≡ true)
+and-true true b h = (refl, h)
+and-true false b h = absurd (false≢true h)
 
 -- an item that isn't twice, is within its limits and ends rightly
 checked-within : (twice ends : Bool) (first last : LineFault) (fault : Option LineFault) (found item : Item)
@@ -120,10 +129,10 @@ bound count most keeps before (item ∷ rest) lines h =
     subst (λ items. count items ≤ most) (append_assoc before (item ∷ []) rest)
     (bound count most keeps (before ++ item ∷ []) rest lines.1 (keeps before item lines.0.within h))
 
-at_most-None : (found greatest : ℕ) (which' : Which) → at_most found greatest which' ≡ None → found ≤ greatest
+pub at_most-None : (found greatest : ℕ) (which' : Which) → at_most found greatest which' ≡ None → found ≤ greatest
 at_most-None found greatest which' h = leb-true found greatest (if-None (nat_le found greatest) (Limit which' (min found (2 ^ 64 - 1))) h)
 
-or_else-None : (fault other : Option LineFault) → or_else fault other ≡ None → (fault ≡ None) × (other ≡ None)
+pub or_else-None : (fault other : Option LineFault) → or_else fault other ≡ None → (fault ≡ None) × (other ≡ None)
 or_else-None None other h = (refl, h)
 or_else-None (Some fault) other h = absurd (Some≢None fault h)
 
@@ -133,3 +142,72 @@ globals-keep before item within h = omega (arith, length-global_names-append bef
 
 pub length-global_names : (items : List Item) → IsProgram items → length (global_names items) ≤ 64
 length-global_names items program = bound (λ xs. length (global_names xs)) 64 globals-keep [] items program.lines (omega arith)
+
+types-keep : (before : List Item) (item : Item) → limit_fault before item ≡ None → length (type_names before) ≤ 64 → length (type_names (before ++ item ∷ [])) ≤ 64
+types-keep before (TypeLine name words) within h =
+    let most = at_most-None (length (type_names before) + 1) 64 which.Types (or_else-None (at_most (length (type_names before) + 1) 64 which.Types) (at_most (length words) 4096 which.Words) within).0 in
+    omega (arith, ap length (type_names-append before (TypeLine name words ∷ [])), length-append (type_names before) (name ∷ []), most)
+types-keep before item within h =
+    omega (arith, ap length (type_names-append before (item ∷ [])), length-append (type_names before) [])
+
+pub length-type_names : (items : List Item) → IsProgram items → length (type_names items) ≤ 64
+length-type_names items program = bound (λ xs. length (type_names xs)) 64 types-keep [] items program.lines (omega arith)
+
+length-script_names-append : (items behind : List Item) → length (script_names (items ++ behind)) ≡ length (script_names items) + length (script_names behind)
+length-script_names-append [] behind = omega arith
+length-script_names-append (Script name ∷ items) behind = omega (arith, length-script_names-append items behind)
+length-script_names-append (item ∷ items) behind = length-script_names-append items behind
+
+scripts-keep : (before : List Item) (item : Item) → limit_fault before item ≡ None → length (script_names before) ≤ 16 → length (script_names (before ++ item ∷ [])) ≤ 16
+scripts-keep before (Script name) within h = omega (arith, length-script_names-append before (Script name ∷ []), at_most-None (length (script_names before) + 1) 16 which.Scripts within)
+scripts-keep before item within h = omega (arith, length-script_names-append before (item ∷ []))
+
+some_script : (items : List Item) → has_script items ≡ true → 1 ≤ length (script_names items)
+some_script [] has = absurd (false≢true has)
+some_script (Script name ∷ items) has = omega arith
+some_script (item ∷ items) has = some_script items has
+
+pub length-script_names : (items : List Item) → IsProgram items → IsBetween 1 16 (length (script_names items))
+length-script_names items program =
+    (some_script items program.script, bound (λ xs. length (script_names xs)) 16 scripts-keep [] items program.lines (omega arith))
+
+-- The pages of the heap.
+
+within-None : (least found greatest : ℕ) (which' : Which) → within least found greatest which' ≡ None → IsBetween least greatest found
+within-None least found greatest which' h =
+    let both = and-true (nat_le least found) (nat_le found greatest) (if-None (nat_le least found && nat_le found greatest) (Limit which' found) h) in
+    (leb-true least found both.0, leb-true found greatest both.1)
+
+pub record IsHeapLine (item : Item) : Type 0 where
+  pub pages : ℕ
+  pub resident : ℕ
+  pub is : item ≡ Heap pages resident
+
+two_numbers : (pages resident : Result ℕ LineFault) (item : Item) → (pages >>= (λ p. resident >>= (λ r. Ok (Heap p r)))) ≡ Ok item → IsHeapLine item
+two_numbers (Ok p) (Ok r) item h = record { pages = p; resident = r; is = sym (Ok-injective (Heap p r) item h) }
+two_numbers (Ok p) (Err fault) item h = absurd (Err≢Ok fault item h)
+two_numbers (Err fault) resident item h = absurd (Err≢Ok fault item h)
+
+item_from-heap : (a b : List ℕ) (item : Item) → item_from keyword.Heap (a ∷ b ∷ []) ≡ Ok item → IsHeapLine item
+unfolding item_from
+item_from-heap a b item h = two_numbers (number a) (number b) item h
+
+pub heap_line-item : (words : List (List ℕ)) (item : Item) → heap_line words ≡ Ok item → IsHeapLine item
+heap_line-item (word ∷ a ∷ b ∷ []) item h =
+    item_from-heap a b item (if-Ok (bytes_eq word (codes "heap")) (item_from keyword.Heap (a ∷ b ∷ [])) (Text Header) item h)
+heap_line-item words item h = absurd (Err≢Ok (Text Header) item h)
+
+pub record IsHeapWithin (items : List Item) : Type 0 where
+  pub pages : IsBetween 1 4096 (pages_of items)
+  pub resident : IsBetween 1 (pages_of items) (resident_of items)
+
+heap_first : (item : Item) (items : List Item) → limit_fault [] item ≡ None → IsHeapLine item → IsHeapWithin (item ∷ items)
+heap_first item items h heap =
+    let both = or_else-None (within 1 heap.pages 4096 which.Pages) (within 1 heap.resident heap.pages which.Resident) (ap (limit_fault []) (sym heap.is) ∙ h) in
+    subst (λ first. IsHeapWithin (first ∷ items)) (sym heap.is)
+    (record { pages = within-None 1 heap.pages 4096 which.Pages both.0; resident = within-None 1 heap.resident heap.pages which.Resident both.1 })
+
+pub heap_within : (items : List Item) → IsProgram items → IsHeapWithin items
+heap_within [] program = absurd (false≢true program.script)
+heap_within (item ∷ items) program =
+    let line = program.lines.0 in heap_first item items line.within (heap_line-item line.words item line.says)

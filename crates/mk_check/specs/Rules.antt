@@ -17,20 +17,24 @@ is_declaration (Global name ty) = true
 is_declaration (Ptr name at) = true
 is_declaration item = false
 
--- lines with a word behind a pointer
-abbrev pub is_access : Item → Bool
-is_access (Getn number pointer index) = true
-is_access (Setn pointer index number) = true
-is_access (Getp loaded pointer index) = true
-is_access (Setp pointer index stored) = true
-is_access (Casp number pointer index expected stored) = true
-is_access (Lea moved pointer index) = true
-is_access item = false
+-- lines that read or write a number behind a pointer
+abbrev pub is_number_access : Item → Bool
+is_number_access (Getn number pointer index) = true
+is_number_access (Setn pointer index number) = true
+is_number_access item = false
+
+-- lines that read or write a pointer there
+abbrev pub is_pointer_access : Item → Bool
+is_pointer_access (Getp loaded pointer index) = true
+is_pointer_access (Setp pointer index stored) = true
+is_pointer_access (Casp number pointer index expected stored) = true
+is_pointer_access item = false
 
 -- other lines that change a pointer register, a global or the heap
 abbrev pub is_pointer_line : Item → Bool
 is_pointer_line (New pointer ty) = true
 is_pointer_line (Free pointer) = true
+is_pointer_line (Lea moved pointer index) = true
 is_pointer_line (Move copied pointer) = true
 is_pointer_line (Clear pointer) = true
 is_pointer_line (Loadg loaded global) = true

@@ -1,9 +1,10 @@
 //! Programs that are well typed.
-ghost use Rattle.std.specs.Prelude.{◌≡◌, ◌≤◌, length, IfOk, IfErr};
+ghost use Rattle.std.specs.Prelude.{◌≡◌, ◌≤◌, length, IfOk, IfErr, OnOk};
+ghost use Rattle.mk_core.specs.Config.{IsWithinLimits};
 ghost use Rattle.mk_script.specs.Grammar.{IsOfSomeText};
 ghost use Rattle.mk_script.specs.Scopes.{script_names};
 ghost use Rattle.mk_check.specs.Declarations.{pages_of, resident_of, types_of, globals_of};
-ghost use Rattle.mk_check.specs.Typing.{NamesFirstFault};
+ghost use Rattle.mk_check.specs.Typing.{IsWellTyped, NamesFirstFault};
 
 use crate::TypeStop;
 use crate::checking::check_lines;
@@ -35,9 +36,7 @@ impl Model for Checked {
 }
 
 impl Checked {
-    ghost use Rattle.mk_check.specs.Typing.{IsWellTyped};
-
-    /// The program.
+    /// The program, which is well typed.
     pub fn program(&self) -> &Program
         ensures program { result.now ≡ self.now }
         ensures well_typed { IsWellTyped self.now }
@@ -63,6 +62,9 @@ impl Checked {
         ensures markers { IfOk result (λ config. config.markers ≡ markers) }
         ensures types { IfOk result (λ config. config.types ≡ types_of self.now) }
         ensures globals { IfOk result (λ config. config.globals ≡ globals_of self.now) }
+
+        // What the grammar's limits and the types say of these.
+        ensures within_limits { IfOk result IsWithinLimits }
     {
         let items = self.program.items();
         let heap = heap_pages(items);
@@ -104,9 +106,12 @@ fn heap_pages(items: &[Item]) -> HeapPages
     }
 }
 
-/// The program, if it is well typed, in time linear in its length but for look-ups by name.
+/// The program, if it is well typed, in time linear in its length but for look-ups by name. Else its
+/// first fault: that of its least ill-typed line, where a script that is too long is one of its
+/// `script` line.
 pub fn check(alloc: Global, program: Program) -> Result<Checked, TypeStop>
     ensures program { IfOk result (λ checked. checked ≡ program) }
+    ensures well_typed { OnOk result (IsWellTyped program) }
     ensures first_fault { IfErr result (NamesFirstFault program) }
 {
     check_lines(alloc, program.items())?;

@@ -4,7 +4,7 @@ ghost use Rattle.std.specs.Option.{option_copied};
 ghost use Rattle.mk_script.specs.declared.items.Item.{Item};
 ghost use Rattle.mk_script.specs.Scopes.{is_script};
 ghost use Rattle.mk_check.specs.Lookups.{around};
-ghost use Rattle.mk_check.specs.Rules.{at_of, fault_of_sort, is_declaration, is_access, is_pointer_line, is_number_line};
+ghost use Rattle.mk_check.specs.Rules.{at_of, fault_of_sort, is_declaration, is_number_access, is_pointer_access, is_pointer_line, is_number_line};
 ghost use Rattle.mk_check.specs.Typing as rule;
 ghost use Rattle.mk_check.specs.declared.typing_faults.TypeKind.TheVariants as kind;
 
@@ -168,8 +168,8 @@ impl<'a> Lookups<'a> {
         }
     }
 
-    fn access_fault(&self, item: &Item) -> Option<TypeKind>
-        ensures { result ≡ fault_of_sort is_access (around self.now) item.now }
+    fn number_access_fault(&self, item: &Item) -> Option<TypeKind>
+        ensures { result ≡ fault_of_sort is_number_access (around self.now) item.now }
     {
         match item {
             Item::Getn {
@@ -190,6 +190,14 @@ impl<'a> Lookups<'a> {
                 .or(self.number_fault(number))
                 .or(self.offset_fault(pointer, *index))
                 .or(self.number_word_fault(pointer, *index)),
+            _ => None,
+        }
+    }
+
+    fn pointer_access_fault(&self, item: &Item) -> Option<TypeKind>
+        ensures { result ≡ fault_of_sort is_pointer_access (around self.now) item.now }
+    {
+        match item {
             Item::Getp {
                 loaded,
                 pointer,
@@ -222,15 +230,6 @@ impl<'a> Lookups<'a> {
                 .or(self.offset_fault(pointer, *index))
                 .or(self.pointer_word_fault(pointer, *index, expected))
                 .or(self.pointer_word_fault(pointer, *index, stored)),
-            Item::Lea {
-                moved,
-                pointer,
-                index,
-            } => self
-                .pointer_fault(moved)
-                .or(self.pointer_fault(pointer))
-                .or(self.offset_fault(pointer, *index))
-                .or(same_kind(self.place_of(moved), self.place_behind(pointer, *index))),
             _ => None,
         }
     }
@@ -244,6 +243,15 @@ impl<'a> Lookups<'a> {
                 .or(self.type_fault(ty))
                 .or(same_kind(self.place_of(pointer), Some(Place::base(ty)))),
             Item::Free { pointer } => self.pointer_fault(pointer).or(self.base_fault(pointer)),
+            Item::Lea {
+                moved,
+                pointer,
+                index,
+            } => self
+                .pointer_fault(moved)
+                .or(self.pointer_fault(pointer))
+                .or(self.offset_fault(pointer, *index))
+                .or(same_kind(self.place_of(moved), self.place_behind(pointer, *index))),
             Item::Move { copied, pointer } => self
                 .pointer_fault(copied)
                 .or(self.pointer_fault(pointer))
@@ -306,7 +314,8 @@ impl<'a> Lookups<'a> {
         ensures { (line : ℕ) (behind : List Item) → result ≡ rule.typing_fault (around self.now) line behind item.now }
     {
         self.declaration_fault(item)
-            .or(self.access_fault(item))
+            .or(self.number_access_fault(item))
+            .or(self.pointer_access_fault(item))
             .or(self.pointer_line_fault(item))
             .or(self.number_line_fault(item))
     }

@@ -1,0 +1,158 @@
+-- The configuration of a well typed program of some text is within its limits.
+use Rattle.std.proofs.Common.{◌≡◌, ℕ, ◌+◌, ◌≤◌, ◌<◌, Bool, true, false, List, [], ◌∷◌, ◌++◌, length, map, Option, Some, None, is_some, refl, ap, sym, subst, arith, add-one}
+use Rattle.std.specs.Prelude.{if◌then◌else◌, All, slice_get}
+use Rattle.std.specs.Str.{bytes_eq}
+use Rattle.std.proofs.lemmas.Bool.{false≢true}
+use Rattle.std.proofs.lemmas.List.{length-map}
+use Rattle.std.proofs.lemmas.List.Elements.{All-nil, All-cons}
+use Rattle.std.proofs.lemmas.Option.{slice_get_within}
+use Rattle.mk_never.specs.declared.types.Kind.{Kind}
+use Rattle.mk_never.specs.Types.{kinds_of}
+use Rattle.mk_core.specs.Config.{IsAmong, IsTypeAmong, IsWithinLimits}
+use Rattle.mk_script.specs.declared.items.At.{At}
+use Rattle.mk_script.specs.declared.items.TypeWord.{TypeWord}
+use Rattle.mk_script.specs.declared.items.TypeWord.TheVariants.{Number, Pointer}
+use Rattle.mk_script.specs.declared.items.Item.{Item}
+use Rattle.mk_script.specs.declared.items.Item.TheVariants.{TypeLine, Global}
+use Rattle.mk_script.specs.Scopes.{type_names, this_script, script_names}
+use Rattle.mk_script.specs.Lines.{at_most}
+use Rattle.mk_script.specs.declared.faults.Which.TheVariants as which
+use Rattle.mk_check.specs.declared.typing_faults.TypeKind.{TypeKind}
+use Rattle.mk_check.specs.declared.typing_faults.TypeKind.TheVariants as kind
+use Rattle.mk_check.specs.Declarations.{place_of, kind_of, kinds_among, types_of, globals_among, globals_of, pages_of, resident_of}
+use Rattle.mk_check.specs.Typing.{Around, TypingFault, ◌or◌, unless, at_line, typing_fault, fault_from, type_words, word_among, word_at, is_type, is_inside, pointers_have_types, pointers_are_inside, IsWellTyped}
+use Rattle.mk_check.proofs.GrammarLemmas.{Some≢None, AreLines, at_most-None, or_else-None, IsProgram, heap_within, length-script_names, length-type_names, length-global_names}
+use Rattle.mk_core.specs.declared.config.Config.{Config}
+use Rattle.mk_check.proofs.FormLemmas.{line_item-word}
+use Rattle.mk_check.proofs.NumberLemmas.{length-kinds_among, length-globals_among}
+
+or-None : (fault other : Option TypeKind) → fault or other ≡ None → (fault ≡ None) × (other ≡ None)
+or-None None other h = (refl, h)
+or-None (Some fault) other h = absurd (Some≢None fault h)
+
+unless-None : (b : Bool) (fault : TypeKind) → unless b fault ≡ None → b ≡ true
+unless-None true fault h = refl
+unless-None false fault h = absurd (Some≢None fault h)
+
+at_line-None : (line : ℕ) (fault : Option TypeKind) (other : Option TypingFault) → at_line line fault other ≡ None → (fault ≡ None) × (other ≡ None)
+at_line-None line None other h = (refl, h)
+at_line-None line (Some fault) other h = absurd (Some≢None _ h)
+
+-- A type that is found has a number, and its kinds stand there.
+pub record IsAt (types : List (List Kind)) (place : ℕ) (found : List Kind) : Type 0 where
+  pub within : place < length types
+  pub kinds : kinds_of types place ≡ found
+
+or_default : {X : Type 0} → X → Option X → X
+or_default other None = other
+or_default other (Some x) = x
+
+some_value : {X : Type 0} (other x y : X) → Some x ≡ Some y → x ≡ y
+unfolding or_default
+some_value other x y h = ap (or_default other) h
+
+module _ (names : List (List ℕ)) where
+  first_type : (words : List TypeWord) (types : List (List Kind)) → IsAt (map (kind_of names) words ∷ types) 0 (map (kind_of names) words)
+  first_type words types = record { within = omega arith; kinds = refl }
+
+  later_type : (first : List Kind) (types : List (List Kind)) (place : ℕ) (found : List Kind) → IsAt types place found → IsAt (first ∷ types) (place + 1) found
+  later_type first types place found h = rw add-one (record { within = omega (arith, h.within); kinds = h.kinds })
+
+  chosen : (b : Bool) (words sought : List TypeWord) (later : Option (List TypeWord)) (types : List (List Kind)) (place : ℕ)
+      → (later ≡ Some sought → IsAt types place (map (kind_of names) sought)) → (if b then Some words else later) ≡ Some sought
+      → IsAt (map (kind_of names) words ∷ types) (if b then 0 else place + 1) (map (kind_of names) sought)
+  chosen true words sought later types place behind h =
+      subst (λ ws. IsAt (map (kind_of names) words ∷ types) 0 (map (kind_of names) ws)) (some_value words words sought h) (first_type words types)
+  chosen false words sought later types place behind h = later_type (map (kind_of names) words) types place (map (kind_of names) sought) (behind h)
+
+  -- the type of a name
+  pub type_words-IsAt : (name : List ℕ) (items : List Item) (sought : List TypeWord) → type_words name items ≡ Some sought
+      → IsAt (kinds_among names items) (place_of name (type_names items)) (map (kind_of names) sought)
+  type_words-IsAt name [] sought h = absurd (Some≢None sought (sym h))
+  type_words-IsAt name (TypeLine other words ∷ items) sought h =
+      chosen (bytes_eq name other) words sought (type_words name items) (kinds_among names items) (place_of name (type_names items)) (type_words-IsAt name items sought) h
+  type_words-IsAt name (item ∷ items) sought h = type_words-IsAt name items sought h
+
+-- a value, by its test
+record HasValue {X : Type 0} (o : Option X) : Type 0 where
+  value : X
+  is : o ≡ Some value
+
+has_value : {X : Type 0} (o : Option X) → is_some o ≡ true → HasValue o
+has_value None h = absurd (false≢true h)
+has_value (Some x) h = record { value = x; is = refl }
+
+module _ (program : List Item) (script : List Item) where
+  -- the place of a type that is declared
+  pub is_type-within : (name : List ℕ) → is_type (record { program = program; script = script }) name ≡ None → place_of name (type_names program) < length (types_of program)
+  is_type-within name h =
+      let found = has_value (type_words name program) (unless-None (is_some (type_words name program)) kind.NoType h) in
+      (type_words-IsAt (type_names program) name program found.value found.is).within
+
+  word_within : (at : At) (found : Option (List TypeWord)) → type_words at.name program ≡ found → is_some (word_among found at.offset) ≡ true
+      → IsAmong (types_of program) (kind_of (type_names program) (Pointer at))
+  word_within at None is h = absurd (false≢true h)
+  word_within at (Some words) is h =
+      let type' = type_words-IsAt (type_names program) at.name program words is in
+      let word = has_value (slice_get words at.offset) h in
+      (type'.within, omega (arith, ap length type'.kinds, length-map words (kind_of (type_names program)), slice_get_within words at.offset word.value word.is))
+
+  -- a place that is inside its type
+  is_inside-IsAmong : (at : At) → is_inside (record { program = program; script = script }) (Some at) ≡ None → IsAmong (types_of program) (kind_of (type_names program) (Pointer at))
+  is_inside-IsAmong at h =
+      word_within at (type_words at.name program) refl (unless-None (is_some (word_at (record { program = program; script = script }) (Some at))) kind.Offset h)
+
+  words_among : (words : List TypeWord) → pointers_are_inside (record { program = program; script = script }) words ≡ None → All (IsAmong (types_of program)) (map (kind_of (type_names program)) words)
+  words_among [] h = All-nil (IsAmong (types_of program))
+  words_among (Number ∷ words) h = All-cons (IsAmong (types_of program)) _ _ tt (words_among words h)
+  words_among (Pointer at ∷ words) h =
+      let both = or-None (is_inside (record { program = program; script = script }) (Some at)) (pointers_are_inside (record { program = program; script = script }) words) h in
+      All-cons (IsAmong (types_of program)) _ _ (is_inside-IsAmong at both.0) (words_among words both.1)
+
+-- the types that lines behind these declare
+pub types-within : (program : List Item) (line : ℕ) (before items : List Item) → AreLines before items → fault_from program line before items ≡ None
+    → All (IsTypeAmong (types_of program)) (kinds_among (type_names program) items)
+types-within program line before [] lines h = All-nil (IsTypeAmong (types_of program))
+types-within program line before (TypeLine name words ∷ items) lines h =
+    let a : Around = record { program = program; script = this_script before } in
+    let both = at_line-None line (typing_fault a line items (TypeLine name words)) (fault_from program (line + 1) (before ++ TypeLine name words ∷ []) items) h in
+    let pointers = or-None (pointers_have_types a words) (pointers_are_inside a words) both.0 in
+    let limits = or_else-None (at_most (length (type_names before) + 1) 64 which.Types) (at_most (length words) 4096 which.Words) lines.0.within in
+    let size = length-map words (kind_of (type_names program)) in
+    All-cons (IsTypeAmong (types_of program)) _ _ (
+      (omega (arith, size, line_item-word before lines.0.words name words lines.0.says), omega (arith, size, at_most-None (length words) 4096 which.Words limits.1)),
+      words_among program (this_script before) words pointers.1,
+    )
+    (types-within program (line + 1) (before ++ TypeLine name words ∷ []) items lines.1 both.1)
+types-within program line before (item ∷ items) lines h =
+    types-within program (line + 1) (before ++ item ∷ []) items lines.1
+    (at_line-None line (typing_fault (record { program = program; script = this_script before }) line items item) (fault_from program (line + 1) (before ++ item ∷ []) items) h).1
+
+-- the globals that lines behind these declare
+pub globals-within : (program : List Item) (line : ℕ) (before items : List Item) → fault_from program line before items ≡ None
+    → All (λ ty. ty < length (types_of program)) (globals_among (type_names program) items)
+globals-within program line before [] h = All-nil (λ ty. ty < length (types_of program))
+globals-within program line before (Global name ty ∷ items) h =
+    let both = at_line-None line (is_type (record { program = program; script = this_script before }) ty) (fault_from program (line + 1) (before ++ Global name ty ∷ []) items) h in
+    All-cons (λ t. t < length (types_of program)) _ _ (is_type-within program (this_script before) ty both.0) (globals-within program (line + 1) (before ++ Global name ty ∷ []) items both.1)
+globals-within program line before (item ∷ items) h =
+    globals-within program (line + 1) (before ++ item ∷ []) items
+    (at_line-None line (typing_fault (record { program = program; script = this_script before }) line items item) (fault_from program (line + 1) (before ++ item ∷ []) items) h).1
+
+-- the configuration of a program is within its limits
+pub IsWithinLimits-of : (program : List Item) → IsProgram program → IsWellTyped program → (config : Config)
+    → config.pages ≡ pages_of program → config.resident ≡ resident_of program → config.callers ≡ length (script_names program) → config.markers ≤ 8
+    → config.types ≡ types_of program → config.globals ≡ globals_of program → IsWithinLimits config
+IsWithinLimits-of program lines typed config pages resident callers markers types globals =
+    let heap = heap_within program lines in
+    let scripts = length-script_names program lines in
+    record {
+      pages = (omega (arith, pages, heap.pages), omega (arith, pages, heap.pages));
+      resident = (omega (arith, resident, heap.resident), omega (arith, pages, resident, heap.resident));
+      callers = (omega (arith, callers, scripts), omega (arith, callers, scripts));
+      markers = markers;
+      type_count = omega (arith, ap length types, length-kinds_among (type_names program) program, length-type_names program lines);
+      global_count = omega (arith, ap length globals, length-globals_among (type_names program) program, length-global_names program lines);
+      types = rw types (types-within program 1 [] program lines.lines typed);
+      globals = rw (globals, types) (globals-within program 1 [] program typed);
+    }
