@@ -1,5 +1,5 @@
 -- Which programs are well typed, line by line.
-use Rattle.std.specs.Prelude.{ℕ, ◌+◌, ◌-◌, ◌^◌, min, Bool, true, false, ◌&&◌, ◌==◌, nat_le, if◌then◌else◌, List, [], ◌∷◌, ◌++◌, Option, Some, None, is_some, option_map, slice_get}
+use Rattle.std.specs.Prelude.{ℕ, ◌+◌, ◌-◌, ◌^◌, min, Bool, true, false, not, ◌&&◌, ◌==◌, nat_le, nat_lt, if◌then◌else◌, List, [], ◌∷◌, ◌++◌, length, Option, Some, None, is_some, option_map, slice_get}
 use Rattle.std.specs.List.{list_any}
 use Rattle.std.specs.Str.{bytes_eq}
 use Rattle.mk_script.specs.declared.items.At.{At}
@@ -167,7 +167,7 @@ abbrev pub fault_from : List Item → ℕ → List Item → List Item → Option
 fault_from program line before [] = None
 fault_from program line before (item ∷ items) =
     at_line line (typing_fault (record { program = program; script = this_script before }) line items item)
-    (fault_from program (line + 1) (before ++ item ∷ []) items)
+      (fault_from program (line + 1) (before ++ item ∷ []) items)
 
 abbrev pub first_typing_fault : List Item → Option TypingFault
 first_typing_fault program = fault_from program 1 [] program
