@@ -7,10 +7,11 @@ pub mod LookupLemmas
 pub mod NumberLemmas
 pub mod RuleLemmas
 pub mod Builds
+pub mod FeedLaws
 pub mod FewNames
 pub mod Moves
-pub mod Stands
-pub mod StepLaws
 pub mod Numbered
 pub mod NumberedParts
 pub mod OtherLines
+pub mod Stands
+pub mod StepLaws

@@ -134,7 +134,7 @@ module _ (nodes : List Node) where
   pub unfolded_done : (p : Place) → IsTree nodes → IsWithin (length nodes) p → node_at nodes p.at ≡ node.Done → p.frames ≡ [] → left_in nodes p ≡ Done
   unfolded_done p tree w e none = unfolded p node.Done tree w e ∙ ap (behind_frames (trees nodes)) none
 
-  pub below_length : (p : Place) (n : Node) → IsTree nodes → IsWithin (length nodes) p → node_at nodes p.at ≡ n → IsBelow (length nodes) n
+  below_length : (p : Place) (n : Node) → IsTree nodes → IsWithin (length nodes) p → node_at nodes p.at ≡ n → IsBelow (length nodes) n
   below_length p n tree w e = subst (λ (m : Node). IsBelow (length nodes) m) e (IsBelow-more p.at (length nodes) (node_at nodes p.at) (let h = w.at in omega arith) (tree p.at w.at))
 
   pub line_goes_on : (p : Place) (line : ℕ) (instruction : Instruction) (next : ℕ) → IsTree nodes → IsWithin (length nodes) p

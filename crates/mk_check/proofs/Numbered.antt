@@ -6,7 +6,7 @@ use Rattle.mk_core.specs.declared.events.Answer.{Answer}
 use Rattle.mk_script.specs.declared.items.Item.{Item}
 use Rattle.mk_script.specs.declared.items.Item.TheVariants.{Heap}
 use Rattle.mk_check.specs.Declarations.{place_of}
-use Rattle.mk_check.specs.Blocks.{Blocks, Done, Line, Rounds, Choice, followed_by, is_done}
+use Rattle.mk_check.specs.Blocks.{Blocks, Done, Line, Rounds, Choice, followed_by}
 use Rattle.mk_check.specs.Feed.{Scope, Fed, number_in, op_of, run_line, then_run, run_rounds, run, with_answer}
 use Rattle.mk_check.specs.Steps.{Steps, then_steps, none_left, steps_of, instruction_of, Kept, Stopped, asked, after_line, then_ran, ran_rounds, ran, answered, ran_on}
 use Rattle.mk_check.specs.Steps as steps
@@ -16,12 +16,6 @@ kept_of fed = record { numbers = fed.numbers; text = fed.text }
 
 abbrev pub stopped_of : Scope → Fed → Stopped
 stopped_of scope fed = record { left = steps_of scope fed.left; kept = kept_of fed }
-
-pub is_done-steps_of : (scope : Scope) (b : Blocks) → none_left (steps_of scope b) ≡ is_done b
-is_done-steps_of scope Done = refl
-is_done-steps_of scope (Line line item rest) = refl
-is_done-steps_of scope (Rounds rounds body rest) = refl
-is_done-steps_of scope (Choice number first second rest) = refl
 
 steps_of-followed_by : (scope : Scope) (a b : Blocks) → steps_of scope (followed_by a b) ≡ then_steps (steps_of scope a) (steps_of scope b)
 steps_of-followed_by scope Done b = refl

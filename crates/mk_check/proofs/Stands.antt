@@ -10,13 +10,14 @@ use Rattle.mk_check.specs.declared.feeding.instructions.Instruction.TheVariants.
 use Rattle.mk_check.specs.declared.feeding.tree.Node.{Node}
 use Rattle.mk_check.specs.declared.feeding.tree.Node.TheVariants as node
 use Rattle.mk_check.specs.Blocks.{Blocks, Done, Line, Rounds, Choice, ScriptText, script_of, blocks_from, is_done}
-use Rattle.mk_check.specs.Feed.{Scope, Fed, op_of, noted, refusal_line, refusal_text, number_of, shown, with_answer, note, take_answer, take_answers, begun, started, feed, has_ended}
+use Rattle.mk_check.specs.Feed.{Scope, Fed, op_of, noted, refusal_line, refusal_text, number_of, shown, with_answer, note, take_answer, begun, feed, has_ended}
 use Rattle.mk_check.specs.Steps.{Steps, then_steps, steps_of, instruction_of, Kept, Stopped, asked, with_text, answered, ran, ran_on}
 use Rattle.mk_check.specs.Steps as steps
 use Rattle.mk_check.specs.Trees.{Place, steps_at, trees, left_in, kept_in, stopped_in, with_kept, node_at, IsTree, IsWithin, StopsAt, HasStopped}
 use Rattle.mk_check.specs.Feeding.{FeedState, IsAtStop, op_of_node, op_in, first_op, script_scope, StandsFor}
 use Rattle.mk_check.proofs.StepLaws.{behind_text, stopped_behind_text, ran-text}
 use Rattle.mk_check.proofs.Numbered.{kept_of, stopped_of, run_agrees, op_of-asked, kept_of-with_answer, ops-with_answer}
+use Rattle.mk_check.proofs.FeedLaws.{feed_push}
 use Rattle.mk_check.proofs.Moves.{unfolded_done, unfolded_line}
 
 -- blocks that begin with a line
@@ -114,11 +115,6 @@ start_stops nodes scope script at p q tree begins stopped =
 
 -- One more answer.
 
-take_answers_push : (scope : Scope) (fed : Fed) (answers : List Answer) (a : Answer)
-    → take_answers scope fed (answers ++ a ∷ []) ≡ take_answer scope (take_answers scope fed answers) (take_answers scope fed answers).left a
-take_answers_push scope fed [] a = refl
-take_answers_push scope fed (b ∷ answers) a = take_answers_push scope (take_answer scope fed fed.left b) answers a
-
 record Notes (fed : Fed) (noted : Fed) (line : ℕ) (a : Answer) : Type 0 where
   kept : kept_of noted ≡ with_text (kept_of fed) (refusal_line line (refusal_text a))
   more : length noted.ops ≡ length fed.ops + 1
@@ -153,7 +149,7 @@ answered_from program k answers a line item rest s is taken some stop =
     let fed = feed program k answers in
     let agrees = answer_agrees scope fed line item rest a some in
     let at : feed program k (answers ++ a ∷ []) ≡ take_answer scope fed (Line line item rest) a =
-    take_answers_push scope (started scope (script_of program k)) answers a ∙ ap (λ (b : Blocks). take_answer scope fed b a) is in
+    feed_push program k answers a ∙ ap (λ (b : Blocks). take_answer scope fed b a) is in
     let same : stopped_in s.nodes s.place ≡ stopped_of scope (feed program k (answers ++ a ∷ [])) =
     stop ∙ (ap (λ (b : Blocks). ran_on (steps_of scope b) a (kept_of fed)) is ∙ (sym agrees.stop ∙ ap (stopped_of scope) (sym at))) in
     record {

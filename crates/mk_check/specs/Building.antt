@@ -44,6 +44,7 @@ pub record Built : Type 0 where
 abbrev pub part_at : List Steps → Part → StepPart
 part_at built part = record { steps = steps_at built part.steps; second = steps_at built part.second }
 
+-- the parts, the innermost first
 abbrev pub parts_at : List Steps → List Part → List StepPart
 parts_at built parts = fold (λ behind part. part_at built part ∷ behind) [] parts
 
@@ -67,6 +68,7 @@ with_part b steps second = record b { parts = b.parts ++ record { steps = steps;
 abbrev pub grown : Built → Node → ℕ → Built
 grown b n second = with_part (record b { nodes = b.nodes ++ n ∷ [] }) (length b.nodes) second
 
+-- the new nodes and parts have the line before those that were there
 pub record Adds (line : ℕ) (e : Element) (old new : Built) : Type 0 where
   pub sound : IsSound new
   pub parts : parts_in new ≡ with_element line e (parts_in old)

@@ -20,6 +20,7 @@ pub record IsAtStop (s : FeedState) : Type 0 where
   pub within : IsWithin (length s.nodes) s.place
   pub stops : StopsAt (node_at s.nodes s.place.at) s.place
 
+-- the operation that a node asks for
 abbrev pub op_of_node : List ℕ → Node → Option Op
 op_of_node numbers node.Done = None
 op_of_node numbers (node.Line line instruction next) = asked numbers instruction
@@ -30,12 +31,14 @@ op_of_node numbers (node.Choice number first second next) = None
 abbrev pub op_in : FeedState → Option Op
 op_in s = op_of_node s.place.numbers (node_at s.nodes s.place.at)
 
+-- the operation that blocks begin with
 abbrev pub first_op : Scope → Fed → Blocks → Option Op
 first_op scope fed Done = None
 first_op scope fed (Line line item rest) = op_of scope fed item
 first_op scope fed (Rounds rounds body rest) = None
 first_op scope fed (Choice number first second rest) = None
 
+-- the names that script k may use
 abbrev pub script_scope : List Item → ℕ → Scope
 script_scope program k = scope_of program (script_of program k).items
 

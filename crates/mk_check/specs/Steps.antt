@@ -79,14 +79,17 @@ arithmetic scope (item.Print number) = Some (Print (number_place scope number))
 arithmetic scope (item.Setn pointer index number) = Some (Store (pointer_place scope pointer) index (number_place scope number))
 arithmetic scope other = None
 
+-- an operation, or else another instruction
 abbrev pub asking_or : Option Op → Option Instruction → Instruction
 asking_or None other = unwrap_or other Nothing
 asking_or (Some o) other = Ask o
 
+-- a line that is neither the head nor the end of a block
 abbrev pub instruction_of : Scope → Item → Instruction
 instruction_of scope item =
     asking_or (option_or (object_op scope item) (register_op scope item)) (option_or (option_or (load scope item) (pointer_test scope item)) (arithmetic scope item))
 
+-- what a line adds to the script's tree
 abbrev pub element_of : Scope → Item → Element
 element_of scope (item.Repeat rounds) = element.Repeat rounds
 element_of scope (item.If number) = element.If (number_place scope number)
@@ -107,6 +110,7 @@ pub record Kept : Type 0 where
   pub numbers : List ℕ
   pub text : List ℕ
 
+-- what is left to run, and what is kept
 pub record Stopped : Type 0 where
   pub left : Steps
   pub kept : Kept
@@ -143,9 +147,11 @@ after_line (Store q i number) kept = kept
 after_line (Load number o) kept = kept
 after_line (Show p) kept = kept
 
+-- what runs behind a part that may have stopped at an operation
 abbrev pub then_ran : Stopped → (Kept → Stopped) → Steps → Stopped
 then_ran stopped go rest = if none_left stopped.left then go stopped.kept else record stopped { left = then_steps stopped.left rest }
 
+-- rounds of a body
 abbrev pub ran_rounds : ℕ → Steps → (Kept → Stopped) → Kept → Stopped
 ran_rounds zero body go kept = record { left = Done; kept = kept }
 ran_rounds (suc more) body go kept = then_ran (go kept) (ran_rounds more body go) (Rounds more body Done)

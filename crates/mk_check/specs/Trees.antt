@@ -34,6 +34,7 @@ IsBelow place (node.Choice number first second next) = (first < place) × (secon
 abbrev pub node_at : List Node → ℕ → Node
 node_at nodes at = slice_index_or nodes at node.Done
 
+-- each node names those before it alone
 abbrev pub IsTree : List Node → Type 0
 IsTree nodes = (at : ℕ) → at < length nodes → IsBelow at (node_at nodes at)
 
@@ -49,6 +50,7 @@ abbrev pub frame_steps : List Steps → Steps → Frame → Steps
 frame_steps built behind (frame.Rounds rounds body next) = Rounds rounds (steps_at built body) (then_steps (steps_at built next) behind)
 frame_steps built behind (frame.Branch next) = then_steps (steps_at built next) behind
 
+-- the steps behind the innermost block
 abbrev pub behind_frames : List Steps → List Frame → Steps
 behind_frames built frames = fold (frame_steps built) Done frames
 
@@ -62,6 +64,7 @@ kept_in p = record { numbers = p.numbers; text = p.text }
 abbrev pub with_kept : Place → Kept → Place
 with_kept p kept = record p { numbers = kept.numbers; text = kept.text }
 
+-- what is left to run, and what is kept
 abbrev pub stopped_in : List Node → Place → Stopped
 stopped_in nodes p = record { left = left_in nodes p; kept = kept_in p }
 

@@ -1,0 +1,47 @@
+-- A script that is fed with one more answer.
+use Rattle.std.proofs.Common.{◌≡◌, ℕ, true, List, [], ◌∷◌, ◌++◌, refl, ap, ◌∙◌}
+use Rattle.std.specs.Prelude.{Option, Some}
+use Rattle.mk_never.specs.declared.operations.Op.{Op}
+use Rattle.mk_core.specs.declared.events.Answer.{Answer}
+use Rattle.mk_script.specs.declared.items.Item.{Item}
+use Rattle.mk_check.specs.Blocks.{Blocks, Done, Line, Rounds, Choice, is_done, script_of}
+use Rattle.mk_check.specs.Feed.{Scope, Fed, op_of, noted, with_answer, note, take_answer, take_answers, started, feed, has_ended}
+use Rattle.mk_check.specs.Feeding.{first_op, script_scope, next_op}
+use Rattle.mk_check.proofs.Numbered.{run_agrees, ops-with_answer}
+
+take_answers_push : (scope : Scope) (fed : Fed) (answers : List Answer) (a : Answer)
+    → take_answers scope fed (answers ++ a ∷ []) ≡ take_answer scope (take_answers scope fed answers) (take_answers scope fed answers).left a
+take_answers_push scope fed [] a = refl
+take_answers_push scope fed (b ∷ answers) a = take_answers_push scope (take_answer scope fed fed.left b) answers a
+
+pub feed_push : (program : List Item) (k : ℕ) (answers : List Answer) (a : Answer)
+    → feed program k (answers ++ a ∷ []) ≡ take_answer (script_scope program k) (feed program k answers) (feed program k answers).left a
+feed_push program k answers a = take_answers_push (script_scope program k) (started (script_scope program k) (script_of program k)) answers a
+
+taken_at_end : (scope : Scope) (fed : Fed) (left : Blocks) (a : Answer) → is_done left ≡ true → take_answer scope fed left a ≡ fed
+taken_at_end scope fed Done a h = refl
+taken_at_end scope fed (Line line item rest) a h = cc
+taken_at_end scope fed (Rounds rounds body rest) a h = refl
+taken_at_end scope fed (Choice number first second rest) a h = refl
+
+-- A script that has ended takes no answer.
+pub feed_push-ended : (program : List Item) (k : ℕ) (answers : List Answer) (a : Answer) → has_ended (feed program k answers) ≡ true
+    → feed program k (answers ++ a ∷ []) ≡ feed program k answers
+feed_push-ended program k answers a h =
+    feed_push program k answers a ∙ taken_at_end (script_scope program k) (feed program k answers) (feed program k answers).left a h
+
+ops_taken : (scope : Scope) (fed : Fed) (left : Blocks) (a : Answer) (o : Op) → first_op scope fed left ≡ Some o
+    → (take_answer scope fed left a).ops ≡ fed.ops ++ noted o a ∷ []
+ops_taken scope fed Done a o h = cc
+ops_taken scope fed (Line line item rest) a o h =
+    (run_agrees scope rest (with_answer scope (note fed (op_of scope fed item) line a) item a)).answers
+    ∙ (ops-with_answer scope (note fed (op_of scope fed item) line a) item a ∙ ap (λ (p : Option Op). (note fed p line a).ops) h)
+ops_taken scope fed (Rounds rounds body rest) a o h = cc
+ops_taken scope fed (Choice number first second rest) a o h = cc
+
+-- The operation that is answered is noted behind those before it.
+pub ops-feed_push : (program : List Item) (k : ℕ) (answers : List Answer) (a : Answer) (o : Op) → next_op program k answers ≡ Some o
+    → (feed program k (answers ++ a ∷ [])).ops ≡ (feed program k answers).ops ++ noted o a ∷ []
+ops-feed_push program k answers a o h =
+    ap (λ (f : Fed). f.ops) (feed_push program k answers a)
+    ∙ ops_taken (script_scope program k) (feed program k answers) (feed program k answers).left a o h
