@@ -13,3 +13,4 @@ pub mod StepLaws
 pub mod Numbered
 pub mod NumberedParts
 pub mod OtherLines
+pub mod WorkLaws
