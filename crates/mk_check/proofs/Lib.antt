@@ -9,9 +9,11 @@ pub mod RuleLemmas
 pub mod Builds
 pub mod FeedLaws
 pub mod FewNames
+pub mod LinesLeft
 pub mod Moves
 pub mod Numbered
 pub mod NumberedParts
 pub mod OtherLines
 pub mod Stands
 pub mod StepLaws
+pub mod WorkLaws

@@ -8,7 +8,7 @@ use Rattle.mk_check.specs.declared.feeding.tree.Node.TheVariants as node
 use Rattle.mk_check.specs.Blocks.{Blocks, Done, Line, Rounds, Choice, script_of}
 use Rattle.mk_check.specs.Feed.{Scope, Fed, op_of, scope_of, feed}
 use Rattle.mk_check.specs.Steps.{asked, steps_of}
-use Rattle.mk_check.specs.Trees.{Place, left_in, node_at, IsWithin, StopsAt}
+use Rattle.mk_check.specs.Trees.{Place, left_in, node_at, IsWithin, StopsAt, work_of}
 
 -- the nodes of a script, and where it is
 pub record FeedState : Type 0 where
@@ -30,6 +30,10 @@ op_of_node numbers (node.Choice number first second next) = None
 -- the operation that it is at
 abbrev pub op_in : FeedState → Option Op
 op_in s = op_of_node s.place.numbers (node_at s.nodes s.place.at)
+
+-- no fewer than the operations that are left to ask for
+abbrev pub work_left : FeedState → ℕ
+work_left s = work_of (left_in s.nodes s.place)
 
 -- the operation that blocks begin with
 abbrev pub first_op : Scope → Fed → Blocks → Option Op

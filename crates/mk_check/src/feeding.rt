@@ -44,7 +44,7 @@ impl Feed {
     ghost use Rattle.mk_script.specs.declared.items.Item.{Item};
     ghost use Rattle.mk_check.specs.Feed.{feed, has_ended};
     ghost use Rattle.mk_script.specs.Grammar.{IsOfSomeText};
-    ghost use Rattle.mk_check.specs.Feeding.{script_scope, op_in, next_op, StandsFor, TakesAnswer};
+    ghost use Rattle.mk_check.specs.Feeding.{script_scope, op_in, next_op, work_left, StandsFor, TakesAnswer};
 
     /// Script `script` of a program, from 0 on, which has no answer yet.
     pub fn start(alloc: Global, program: &[Item], script: u64) -> Result<Feed, NoMemory>
@@ -79,6 +79,7 @@ impl Feed {
     pub fn answer(&mut self, alloc: Global, answer: Answer) -> Result<(), NoMemory>
         requires { IsSome (op_in self.old) }
         ensures ok { OnOk result (TakesAnswer self.old answer self.new) }
+        ensures nearer { OnOk result (work_left self.new < work_left self.old) }
         ensures err { OnErr result (self.new ≡ self.old) }
     {
         let Node::Line {
