@@ -12,3 +12,5 @@ pub mod StepLaws
 pub mod Numbered
 pub mod NumberedParts
 pub mod OtherLines
+pub mod DeclaredPlaces
+pub mod TypedLines
