@@ -14,3 +14,5 @@ pub mod NumberedParts
 pub mod OtherLines
 pub mod DeclaredPlaces
 pub mod TypedLines
+pub mod DeclaredRegisters
+pub mod AdmittedLines
