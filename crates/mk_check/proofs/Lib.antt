@@ -6,6 +6,7 @@ pub mod NumberLemmas
 pub mod RuleLemmas
 pub mod Builds
 pub mod FewNames
+pub mod LinesLeft
 pub mod Moves
 pub mod Stands
 pub mod StepLaws

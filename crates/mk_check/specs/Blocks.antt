@@ -1,5 +1,5 @@
 -- A script as a tree of blocks.
-use Rattle.std.specs.Prelude.{ℕ, zero, suc, ◌+◌, Bool, true, false, List, [], ◌∷◌, Option, Some, None}
+use Rattle.std.specs.Prelude.{⊤, ℕ, zero, suc, ◌+◌, Bool, true, false, List, [], ◌∷◌, Option, Some, None}
 use Rattle.mk_script.specs.declared.items.Item.{Item}
 use Rattle.mk_script.specs.declared.items.Item.TheVariants.{Script, Repeat, If, Else, End}
 
@@ -23,6 +23,22 @@ is_done Done = true
 is_done (Line line item rest) = false
 is_done (Rounds rounds body rest) = false
 is_done (Choice number first second rest) = false
+
+-- P holds of each line's number and item
+abbrev pub AllPlaced : (ℕ → Item → Type 0) → Blocks → Type 0
+AllPlaced P Done = ⊤
+AllPlaced P (Line line item rest) = P line item × AllPlaced P rest
+AllPlaced P (Rounds rounds body rest) = AllPlaced P body × AllPlaced P rest
+AllPlaced P (Choice number first second rest) = AllPlaced P first × AllPlaced P second × AllPlaced P rest
+
+-- P holds of each line's item
+abbrev pub AllLines : (Item → Type 0) → Blocks → Type 0
+AllLines P blocks = AllPlaced (λ line. P) blocks
+
+-- P holds of each item and its line's number; the first item stands at this line
+abbrev pub AllFrom : (ℕ → Item → Type 0) → ℕ → List Item → Type 0
+AllFrom P line [] = ⊤
+AllFrom P line (item ∷ items) = P line item × AllFrom P (line + 1) items
 
 -- A part of a script, read from its end: the blocks so far, and the second branch, where its `else` was read.
 pub record Part : Type 0 where
