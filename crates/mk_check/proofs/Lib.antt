@@ -17,3 +17,5 @@ pub mod DeclaredPlaces
 pub mod TypedLines
 pub mod DeclaredRegisters
 pub mod AdmittedLines
+pub mod TypedScripts
+pub mod AdmittedScripts
