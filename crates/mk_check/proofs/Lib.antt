@@ -17,3 +17,9 @@ pub mod OtherLines
 pub mod Stands
 pub mod StepLaws
 pub mod WorkLaws
+pub mod DeclaredPlaces
+pub mod TypedLines
+pub mod DeclaredRegisters
+pub mod AdmittedLines
+pub mod TypedScripts
+pub mod AdmittedScripts

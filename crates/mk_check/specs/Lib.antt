@@ -4,6 +4,7 @@ pub mod Building
 pub mod Declarations
 pub mod Feed
 pub mod Feeding
+pub mod Laws
 pub mod Lengths
 pub mod Lookups
 pub mod Numbers

@@ -4,6 +4,7 @@
 mod checked;
 mod checking;
 mod feeding;
+pub mod laws;
 mod lengths;
 mod lookups;
 mod numbers;

@@ -1,0 +1,58 @@
+-- Laws of scripts: the operations that they ask for, one after the other, in any order of their turns.
+use Rattle.std.specs.Prelude.{◌≡◌, ℕ, ◌<◌, List, [], ◌∷◌, length, ◌==◌, if◌then◌else◌, Some, All}
+use Rattle.mk_never.specs.declared.operations.Op.{Op}
+use Rattle.mk_never.specs.NeverHeap.{NeverState, Call, start_of, after_calls}
+use Rattle.mk_never.specs.Admitted.{IsAdmitted, AreAdmitted}
+use Rattle.mk_core.specs.declared.events.Answer.{Answer}
+use Rattle.mk_script.specs.declared.items.Item.{Item}
+use Rattle.mk_script.specs.Scopes.{script_names}
+use Rattle.mk_script.specs.Grammar.{IsOfSomeText}
+use Rattle.mk_check.specs.Typing.{IsWellTyped}
+use Rattle.mk_check.specs.Declarations.{types_of, globals_of}
+use Rattle.mk_check.specs.Feed.{feed, noted}
+use Rattle.mk_check.specs.Feeding.{next_op}
+
+-- a program that is well typed, and the program of some text
+pub record IsChecked (program : List Item) : Type 0 where
+  pub well_typed : IsWellTyped program
+  pub of_some_text : IsOfSomeText program
+
+-- The number is that of one of the program's scripts.
+abbrev pub IsScript : List Item → ℕ → Type 0
+IsScript program k = k < length (script_names program)
+
+-- the operations of a caller among the calls, in their order
+abbrev pub ops_of_caller : ℕ → List Call → List Op
+ops_of_caller caller [] = []
+ops_of_caller caller (x ∷ xs) = if x.caller == caller then x.op ∷ ops_of_caller caller xs else ops_of_caller caller xs
+
+-- The caller's operations are those that script k notes, fed with the answers.
+abbrev pub AreNotedBy : List Item → ℕ → List Answer → List Call → Type 0
+AreNotedBy program k answers calls = ops_of_caller k calls ≡ (feed program k answers).ops
+
+-- the heap of a program before any call
+abbrev pub heap_of : List Item → ℕ → NeverState
+heap_of program callers = start_of (types_of program) callers
+
+-- The calls are admitted, from the start of the program's heap.
+abbrev pub AreAdmittedFor : List Item → ℕ → List Call → Type 0
+AreAdmittedFor program callers calls = AreAdmitted (globals_of program) (heap_of program callers) calls
+
+-- The operation is admitted behind the calls.
+abbrev pub IsAdmittedBehind : List Item → ℕ → List Call → ℕ → Op → Type 0
+IsAdmittedBehind program callers calls caller op = IsAdmitted (globals_of program) (after_calls (heap_of program callers) calls) caller op
+
+-- What script k asks for next is admitted behind the calls, as it is asked for and as it is noted with any answer.
+pub record NextIsAdmitted (program : List Item) (callers : ℕ) (calls : List Call) (k : ℕ) (answers : List Answer) : Type 0 where
+  pub asked : (op : Op) → next_op program k answers ≡ Some op → IsAdmittedBehind program callers calls k op
+  pub noted : (op : Op) (answer : Answer) → next_op program k answers ≡ Some op → IsAdmittedBehind program callers calls k (noted op answer)
+
+-- some answers with which script k notes the caller's operations among the calls
+pub record HasAnswers (program : List Item) (k : ℕ) (calls : List Call) : Type 0 where
+  pub answers : List Answer
+  pub are_noted : AreNotedBy program k answers calls
+
+-- Each call is of a script, and each script's are what it notes, fed with some answers.
+pub record AreOfScripts (program : List Item) (calls : List Call) : Type 0 where
+  pub callers : All (λ call. IsScript program call.caller) calls
+  pub ops : (k : ℕ) → IsScript program k → HasAnswers program k calls
