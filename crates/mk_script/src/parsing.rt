@@ -14,7 +14,9 @@ use std::alloc::{AllocError, Global};
 /// The greatest length of a text, in bytes.
 const TEXT_LIMIT: usize = 1_048_576;
 
-/// The program of a text, or its first fault. Each line is judged before those behind it are looked at.
+/// The program of a text, or the fault of the first line that has one. Of a line's faults the first is
+/// meant, in the order header, word, number or name, twice, limit, end. `NoMemory` says nothing of the
+/// text.
 pub fn parse(alloc: Global, bytes: &[u8]) -> Result<Program, TextStop>
     ensures program { IfOk result (λ program. program_of bytes.now ≡ Ok program) }
     ensures fault { IfErr result (λ stop. stop ≢ TextStop.NoMemory → program_of bytes.now ≡ Err stop) }
