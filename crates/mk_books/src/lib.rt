@@ -1,5 +1,5 @@
 //! The heap's books: where an object goes, counts of the pages, and what can be given back. A page whose
-//! header is no header word counts as free.
+//! header is no header word counts as reserved: it is neither free nor resident.
 #![tactic(auto)]
 
 mod books;

@@ -10,7 +10,7 @@ use mk_geom::{Header, Page, cells, decode};
 pub(crate) fn is_free(page: Page) -> bool
     ensures { result ≡ is_free_page (use_of_page page) }
 {
-    matches!(decode(page.header), None | Some(Header::Free))
+    matches!(decode(page.header), Some(Header::Free))
 }
 
 pub(crate) fn is_resident(page: Page) -> bool

@@ -13,8 +13,9 @@ use Rattle.mk_geom.specs.PageUses.{PageUse, Nothing, Cells, PartOfRun}
 abbrev pub bits_of : ℕ → ℕ → List Bool
 bits_of count used = map (λ k. bit_at used k == 1) (range_with_len 0 count)
 
+-- A page whose header is no header word is as a page of an unmapped run: neither free nor resident.
 abbrev pub use_under : Option Header → ℕ → PageUse
-use_under None used = Nothing
+use_under None used = PartOfRun false
 use_under (Some Free) used = Nothing
 use_under (Some (Block class)) used = Cells class false (bits_of (cells_of class) used)
 use_under (Some (Run pages mapped)) used = PartOfRun mapped
