@@ -1,4 +1,5 @@
-pub mod Continues
+pub mod NameCounts
+pub mod NarrowPrograms
+pub mod PlainOps
+pub mod Runs
 pub mod Stands
-pub mod Whole
-pub mod Within

@@ -1,6 +1,5 @@
 -- What a script prints on a heap of which nothing is given back.
-use Rattle.std.specs.Prelude.{◌≡◌, ℕ, ◌+◌, ◌*◌, true, List, [], ◌∷◌, length, map, sum_by, nat_lt, Option, Some, IfSome}
-use Rattle.mk_script.specs.Grammar.{program_of}
+use Rattle.std.specs.Prelude.{◌≡◌, ℕ, ◌+◌, ◌*◌, true, List, [], ◌∷◌, length, map, sum_by, nat_lt}
 use Rattle.mk_never.specs.declared.operations.Op.{Op}
 use Rattle.mk_never.specs.declared.operations.Op.TheVariants.{New}
 use Rattle.mk_never.specs.Types.{kinds_of}
@@ -8,7 +7,7 @@ use Rattle.mk_never.specs.NeverHeap.{NeverState, Allocation, Call, start_of, aft
 use Rattle.mk_core.specs.declared.events.Answer.{Answer}
 use Rattle.mk_core.specs.Image.{answers_of}
 use Rattle.mk_script.specs.declared.items.Item.{Item}
-use Rattle.mk_check.specs.Declared.{types_of, pages_of}
+use Rattle.mk_check.specs.Declarations.{types_of, pages_of}
 use Rattle.mk_check.specs.Feed.{feed, has_ended}
 
 -- the words of all objects granted so far
@@ -43,16 +42,3 @@ pub record IsRunText (program : List Item) (text : List ℕ) : Type 0 where
   pub given : answers ≡ answers_of (bases_of (after_calls (start_of (types_of program) 1) (calls_of 0 (feed program 0 answers).ops))) (replies_of (start_of (types_of program) 1) (calls_of 0 (feed program 0 answers).ops))
   pub full : EachFullIsByRoom (64 * pages_of program) (start_of (types_of program) 1) (calls_of 0 (feed program 0 answers).ops)
   pub printed : text ≡ (feed program 0 answers).text
-
--- The bytes are a text whose program runs to this text.
-abbrev pub PrintsText : List ℕ → List ℕ → Type 0
-PrintsText bytes text = (program : List Item) × (program_of bytes ≡ Some program) × IsRunText program text
-
--- A program was read from the source, to the end of its input, and W holds of the text that it prints. Where the
--- source doesn't tell its bytes, the program is that of some text.
-pub record HasRun (old new : Option (List ℕ)) (W : List ℕ → Type 0) : Type 0 where
-  pub input : List ℕ
-  pub text : List ℕ
-  pub read : IfSome old (λ left. (input ≡ left) × (new ≡ Some []))
-  pub prints : PrintsText input text
-  pub written : W text

@@ -1,7 +1,15 @@
 -- How the program ends.
-use Rattle.std.specs.Prelude.{ℕ}
+use Rattle.std.specs.Prelude.{ℕ, List, [], ◌++◌}
+use Rattle.std.specs.Fmt.{decimal}
+use lib.Chars.{codes}
+use Rattle.mk_script.specs.declared.faults.TextKind.{TextKind}
+use Rattle.mk_script.specs.declared.faults.TextKind.TheVariants as text
+use Rattle.mk_script.specs.declared.faults.Which.{Which}
+use Rattle.mk_script.specs.declared.faults.Which.TheVariants.{Bytes, Pages, Resident, Scripts, Globals, Types, Words, Pointers, Numbers, Depth}
+use Rattle.mk_check.specs.declared.typing_faults.TypeKind.{TypeKind}
+use Rattle.mk_check.specs.declared.typing_faults.TypeKind.TheVariants as typing
 use Rattle.markus.specs.declared.statuses.Status.{Status}
-use Rattle.markus.specs.declared.statuses.Status.TheVariants.{Ok, NoMemory, Usage, ReadFault, WriteFault, NotBuilt}
+use Rattle.markus.specs.declared.statuses.Status.TheVariants.{Ok, NoMemory, Usage, ReadFault, WriteFault, Text, IllTyped, Limit, NotBuilt}
 
 abbrev pub number_of : Status → ℕ
 number_of Ok = 0
@@ -9,7 +17,57 @@ number_of NoMemory = 1
 number_of Usage = 2
 number_of ReadFault = 3
 number_of WriteFault = 4
+number_of (Text line kind) = 5
+number_of (IllTyped line kind) = 6
+number_of (Limit line which found) = 7
 number_of NotBuilt = 9
+
+abbrev pub text_words : TextKind → List ℕ
+text_words text.Header = codes "header"
+text_words text.Word = codes "word"
+text_words text.Number = codes "number"
+text_words text.Name = codes "name"
+text_words text.Twice = codes "twice"
+text_words text.End = codes "end"
+
+abbrev pub typing_words : TypeKind → List ℕ
+typing_words typing.NoType = codes "no type"
+typing_words typing.NoRegister = codes "no register"
+typing_words typing.NoGlobal = codes "no global"
+typing_words typing.Offset = codes "offset"
+typing_words typing.Kind = codes "kind"
+typing_words typing.InteriorFree = codes "interior free"
+typing_words (typing.TooLong count) = codes "too long " ++ decimal count
+
+abbrev pub which_word : Which → List ℕ
+which_word Bytes = codes "bytes"
+which_word Pages = codes "pages"
+which_word Resident = codes "resident"
+which_word Scripts = codes "scripts"
+which_word Globals = codes "globals"
+which_word Types = codes "types"
+which_word Words = codes "words"
+which_word Pointers = codes "pointers"
+which_word Numbers = codes "numbers"
+which_word Depth = codes "depth"
+
+abbrev pub limit_words : Which → ℕ → List ℕ
+limit_words which found = codes "limit " ++ (which_word which ++ (codes " " ++ decimal found))
+
+abbrev pub at_line : ℕ → List ℕ → List ℕ
+at_line line words = codes "line " ++ (decimal line ++ (codes ": " ++ (words ++ codes "\n")))
+
+-- the line for standard error
+abbrev pub status_line : Status → List ℕ
+status_line Ok = []
+status_line NoMemory = codes "no memory\n"
+status_line Usage = codes "usage: markus run, check, print, replay, gen or trace\n"
+status_line ReadFault = codes "read failed\n"
+status_line WriteFault = codes "write failed\n"
+status_line (Text line kind) = at_line line (text_words kind)
+status_line (IllTyped line kind) = at_line line (typing_words kind)
+status_line (Limit line which found) = at_line line (limit_words which found)
+status_line NotBuilt = codes "not built\n"
 
 -- the statuses that come before the first write
 abbrev pub IsBeforeWriting : Status → Type 0
@@ -18,13 +76,19 @@ IsBeforeWriting NoMemory = Unit {0}
 IsBeforeWriting Usage = Unit {0}
 IsBeforeWriting ReadFault = Unit {0}
 IsBeforeWriting WriteFault = ⊥
+IsBeforeWriting (Text line kind) = Unit {0}
+IsBeforeWriting (IllTyped line kind) = Unit {0}
+IsBeforeWriting (Limit line which found) = Unit {0}
 IsBeforeWriting NotBuilt = Unit {0}
 
--- the statuses that a text of the narrow form has where nothing fails but memory
-abbrev pub IsOkOrNoMemory : Status → Type 0
-IsOkOrNoMemory Ok = Unit {0}
-IsOkOrNoMemory NoMemory = Unit {0}
-IsOkOrNoMemory Usage = ⊥
-IsOkOrNoMemory ReadFault = ⊥
-IsOkOrNoMemory WriteFault = ⊥
-IsOkOrNoMemory NotBuilt = ⊥
+-- the statuses that say what is wrong with a text
+abbrev pub IsRefusal : Status → Type 0
+IsRefusal Ok = ⊥
+IsRefusal NoMemory = ⊥
+IsRefusal Usage = ⊥
+IsRefusal ReadFault = ⊥
+IsRefusal WriteFault = ⊥
+IsRefusal (Text line kind) = Unit {0}
+IsRefusal (IllTyped line kind) = Unit {0}
+IsRefusal (Limit line which found) = Unit {0}
+IsRefusal NotBuilt = Unit {0}

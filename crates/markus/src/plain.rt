@@ -1,10 +1,10 @@
 //! A plain heap: an array of words, of which each object takes its own behind the last one, and of
 //! which nothing is given back.
-ghost use Rattle.std.specs.Prelude.{◌≡◌, ◌*◌, ◌<◌, ◌≤◌, IfOk, replicate, length};
-ghost use Rattle.markus.specs.Plain.{new_answer, after_new, get_answer, set_answer, after_set};
+ghost use Rattle.std.specs.Prelude.{◌≡◌, ◌<◌, ◌≤◌, IfOk};
+ghost use Rattle.markus.specs.Plain.{wiped, new_answer, after_new, get_answer, set_answer, after_set, IsPlainOp, plain_answer, after_plain};
 
 use mk_core::Answer;
-use mk_never::NoMemory;
+use mk_never::{NoMemory, Op};
 use std::alloc::Global;
 use std::marker::Model;
 
@@ -34,7 +34,7 @@ impl Plain {
     pub fn new(alloc: Global, pages: u64, size: u64) -> Result<Plain, NoMemory>
         requires pages { pages ≤ 4096 }
         requires size { size ≤ 32 }
-        ensures { IfOk result (λ p. p ≡ record { heap = replicate (64 * pages) 0; size = size; granted = 0; pointer = 0 }) }
+        ensures { IfOk result (λ plain. plain ≡ wiped pages size) }
     {
         let Ok(heap) = Vec::from_elem(alloc, 0, (64 * pages) as usize) else {
             return Err(NoMemory);
@@ -47,8 +47,22 @@ impl Plain {
         })
     }
 
+    /// Applies an operation on the one register and the one type.
+    pub fn apply(&mut self, op: Op) -> Answer
+        requires { IsPlainOp self.old.size op }
+        ensures answer { result ≡ plain_answer self.old op }
+        ensures after { self.new ≡ after_plain self.old op }
+    {
+        match op {
+            Op::New { .. } => self.allocate(),
+            Op::GetNum { i, .. } => self.load(i),
+            Op::SetNum { i, n, .. } => self.store(i, n),
+            _ => unreachable!(),
+        }
+    }
+
     /// Points the register to a new object of zero words.
-    pub fn allocate(&mut self) -> Answer
+    fn allocate(&mut self) -> Answer
         ensures answer { result ≡ new_answer self.old }
         ensures after { self.new ≡ after_new self.old }
     {
@@ -62,7 +76,7 @@ impl Plain {
     }
 
     /// The word `index` words behind the one that the register points to.
-    pub fn load(&self, index: u64) -> Answer
+    fn load(&self, index: u64) -> Answer
         requires { index < self.now.size }
         ensures { result ≡ get_answer self.now index }
     {
@@ -73,7 +87,7 @@ impl Plain {
     }
 
     /// Stores to that word.
-    pub fn store(&mut self, index: u64, number: u64) -> Answer
+    fn store(&mut self, index: u64, number: u64) -> Answer
         requires { index < self.old.size }
         ensures answer { result ≡ set_answer self.old }
         ensures after { self.new ≡ after_set self.old index number }

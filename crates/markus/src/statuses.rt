@@ -1,11 +1,14 @@
 //! How the program ends.
-ghost use Rattle.std.specs.Prelude.{◌≡◌};
-ghost use Rattle.markus.specs.Statuses.{number_of};
+ghost use Rattle.std.specs.Prelude.{◌≡◌, IfOk, string_bytes};
+ghost use Rattle.markus.specs.Statuses as spec;
+ghost use Rattle.markus.specs.Statuses.{number_of, status_line, text_words, typing_words, which_word, limit_words};
 
+use mk_check::TypeKind;
 use mk_never::NoMemory;
-use std::alloc::Global;
+use mk_script::{TextKind, Which};
+use std::alloc::{AllocError, Global};
 
-/// How the program ends.
+/// How the program ends. Lines are counted from 1.
 #[derive(Clone, Copy, Debug, PartialEq, Eq)]
 pub enum Status {
     Ok,
@@ -13,6 +16,12 @@ pub enum Status {
     Usage,
     ReadFault,
     WriteFault,
+    /// The first line that isn't of the grammar.
+    Text { line: u64, kind: TextKind },
+    /// The least ill-typed line.
+    IllTyped { line: u64, kind: TypeKind },
+    /// A quantity outside its limits. For bytes the line is 0.
+    Limit { line: u64, which: Which, found: u64 },
     /// The text asks for what isn't built yet.
     NotBuilt,
 }
@@ -28,23 +37,96 @@ impl Status {
             Status::Usage => 2,
             Status::ReadFault => 3,
             Status::WriteFault => 4,
+            Status::Text { .. } => 5,
+            Status::IllTyped { .. } => 6,
+            Status::Limit { .. } => 7,
             Status::NotBuilt => 9,
         }
     }
 
     /// The line for standard error, with its newline. `Ok` has none.
-    pub fn text(&self, alloc: Global) -> Result<Vec<u8>, NoMemory> {
-        let line: &[u8] = match self {
-            Status::Ok => b"",
-            Status::NoMemory => b"no memory\n",
-            Status::Usage => b"usage: markus run, check, print, replay, gen or trace\n",
-            Status::ReadFault => b"read failed\n",
-            Status::WriteFault => b"write failed\n",
-            Status::NotBuilt => b"not built\n",
-        };
-        match line.to_vec(alloc) {
-            Ok(text) => Ok(text),
+    pub fn text(&self, alloc: Global) -> Result<Vec<u8>, NoMemory>
+        ensures { IfOk result (λ text. text.items ≡ status_line self.now) }
+    {
+        match self.line(alloc) {
+            Ok(line) => Ok(line.into_bytes()),
             Err(_) => Err(NoMemory),
         }
+    }
+
+    fn line(&self, alloc: Global) -> Result<String, AllocError>
+        ensures { IfOk result (λ line. string_bytes line ≡ status_line self.now) }
+    {
+        match self {
+            Status::Ok => String::from_str(alloc, ""),
+            Status::NoMemory => String::from_str(alloc, "no memory\n"),
+            Status::Usage => String::from_str(alloc, "usage: markus run, check, print, replay, gen or trace\n"),
+            Status::ReadFault => String::from_str(alloc, "read failed\n"),
+            Status::WriteFault => String::from_str(alloc, "write failed\n"),
+            Status::Text { line, kind } => at_line(alloc, *line, words_of_text(*kind)),
+            Status::IllTyped { line, kind } => type_line(alloc, *line, *kind),
+            Status::Limit { line, which, found } => limit_line(alloc, *line, *which, *found),
+            Status::NotBuilt => String::from_str(alloc, "not built\n"),
+        }
+    }
+}
+
+fn at_line(alloc: Global, line: u64, words: &str) -> Result<String, AllocError>
+    ensures { IfOk result (λ text. string_bytes text ≡ spec.at_line line words.now) }
+{
+    format!(in alloc; "line {line}: {words}\n")
+}
+
+fn type_line(alloc: Global, line: u64, kind: TypeKind) -> Result<String, AllocError>
+    ensures { IfOk result (λ text. string_bytes text ≡ spec.at_line line (typing_words kind)) }
+{
+    match kind {
+        TypeKind::TooLong { count } => {
+            let words = format!(in alloc; "too long {count}")?;
+            at_line(alloc, line, words.as_str())
+        }
+        TypeKind::NoType => at_line(alloc, line, "no type"),
+        TypeKind::NoRegister => at_line(alloc, line, "no register"),
+        TypeKind::NoGlobal => at_line(alloc, line, "no global"),
+        TypeKind::Offset => at_line(alloc, line, "offset"),
+        TypeKind::Kind => at_line(alloc, line, "kind"),
+        TypeKind::InteriorFree => at_line(alloc, line, "interior free"),
+    }
+}
+
+fn limit_line(alloc: Global, line: u64, which: Which, found: u64) -> Result<String, AllocError>
+    ensures { IfOk result (λ text. string_bytes text ≡ spec.at_line line (limit_words which found)) }
+{
+    let which = word_of(which);
+    format!(in alloc; "line {line}: limit {which} {found}\n")
+}
+
+fn words_of_text(kind: TextKind) -> &'static str
+    ensures { result.now ≡ text_words kind }
+{
+    match kind {
+        TextKind::Header => "header",
+        TextKind::Word => "word",
+        TextKind::Number => "number",
+        TextKind::Name => "name",
+        TextKind::Twice => "twice",
+        TextKind::End => "end",
+    }
+}
+
+fn word_of(which: Which) -> &'static str
+    ensures { result.now ≡ which_word which }
+{
+    match which {
+        Which::Bytes => "bytes",
+        Which::Pages => "pages",
+        Which::Resident => "resident",
+        Which::Scripts => "scripts",
+        Which::Globals => "globals",
+        Which::Types => "types",
+        Which::Words => "words",
+        Which::Pointers => "pointers",
+        Which::Numbers => "numbers",
+        Which::Depth => "depth",
     }
 }

@@ -3,13 +3,23 @@
 
 use crate::statuses::Status;
 use crate::top::markus;
+use mk_check::TypeKind;
 use mk_io::{MemSink, MemSource};
 use mk_never::{Kind, NeverHeap, Op, Reply, TypeTable};
+use mk_script::{TextKind, Which};
 use std::alloc::{AllocError, Global};
 use std::test::Fail;
 
 const FIRST_RUN: &[u8] = b"heap 1 1\ntype A n*32\nscript s\nptr p A\nnum n\nnew p A\nconst n 7\n\
     setn p 1 n\nconst n 0\ngetn n p 1\nprint n\n";
+
+/// A loop of two rounds, and a branch.
+const BLOCKS: &[u8] = b"heap 1 1\ntype A n\nscript s\nptr p A\nnum n\nconst n 3\nnew p A\nrepeat 2\n\
+    setn p 0 n\nconst n 0\ngetn n p 0\nif n\nprint n\nelse\nnew p A\nend\nend\n";
+
+const SPACED: &[u8] = b" heap 1  1\ntype A n n n p:A+0\nscript s\nptr p A+0";
+
+const CANONICAL: &[u8] = b"heap 1 1\ntype A n*3 p:A\nscript s\nptr p A\n";
 
 /// A run: its words, its text, how its source and its sink are cut into calls and which of these
 /// fail, and how it ends.
@@ -57,24 +67,19 @@ fn run(alloc: Global, case: &Case) -> Result<(Status, Vec<u8>), AllocError> {
 #[test]
 fn ends_as_the_cases_do(rt: HostRuntime) -> Result<(), Fail> {
     let run_word: &[&str] = &["run"];
+    let refused: &[u8] = b"heap 1 1\ntype A n*2\nscript s\nptr p A\nnum n\nconst n 5\ngetn n p 0\nprint n\n";
+    let full: &[u8] = b"heap 1 1\ntype A n*32\nscript s\nptr p A\nnew p A\nnew p A\nnew p A\n";
     let cases = [
         ample(run_word, FIRST_RUN, Status::Ok, b"script s\n7\n"),
-        ample(
-            run_word,
-            b"heap 1 1\ntype A n*2\nscript s\nptr p A\nnum n\nconst n 5\ngetn n p 0\nprint n\n",
-            Status::Ok,
-            b"script s\n7: null\n0\n",
-        ),
-        ample(
-            run_word,
-            b"heap 1 1\ntype A n*32\nscript s\nptr p A\nnew p A\nnew p A\nnew p A\n",
-            Status::Ok,
-            b"script s\n7: full\n",
-        ),
+        ample(run_word, refused, Status::Ok, b"script s\n7: null\n0\n"),
+        ample(run_word, full, Status::Ok, b"script s\n7: full\n"),
+        ample(run_word, BLOCKS, Status::Ok, b"script s\n3\n3\n"),
+        ample(&["check"], BLOCKS, Status::Ok, b"ok\n"),
+        ample(&["print"], SPACED, Status::Ok, CANONICAL),
+        ample(run_word, SPACED, Status::NotBuilt, b""),
         ample(&[], b"", Status::Usage, b""),
         ample(&["fly"], b"", Status::Usage, b""),
         ample(&["run", "run"], FIRST_RUN, Status::Usage, b""),
-        ample(run_word, b"", Status::NotBuilt, b""),
         Case {
             source: (16, &[1]),
             ..ample(run_word, FIRST_RUN, Status::ReadFault, b"")
@@ -82,10 +87,6 @@ fn ends_as_the_cases_do(rt: HostRuntime) -> Result<(), Fail> {
         Case {
             sink: (4, &[1]),
             ..ample(run_word, FIRST_RUN, Status::WriteFault, b"")
-        },
-        Case {
-            sink: (4, &[2]),
-            ..ample(run_word, FIRST_RUN, Status::WriteFault, b"scri")
         },
         Case {
             sink: (4, &[3]),
@@ -105,21 +106,40 @@ fn ends_as_the_cases_do(rt: HostRuntime) -> Result<(), Fail> {
 }
 
 #[test]
-fn tells_each_status(rt: HostRuntime) -> Result<(), Fail> {
-    let lines: [(Status, &[u8]); 6] = [
-        (Status::Ok, b""),
-        (Status::NoMemory, b"no memory\n"),
+fn names_the_same_fault_in_every_chunking(rt: HostRuntime) -> Result<(), Fail> {
+    let cases: [(&[u8], Status, &[u8]); 4] = [
         (
-            Status::Usage,
-            b"usage: markus run, check, print, replay, gen or trace\n",
+            b"heap 1 1\nscript s\nshow\tp\n",
+            Status::Text { line: 3, kind: TextKind::Word },
+            b"line 3: word\n",
         ),
-        (Status::ReadFault, b"read failed\n"),
-        (Status::WriteFault, b"write failed\n"),
-        (Status::NotBuilt, b"not built\n"),
+        (
+            b"heap 2 3\nscript 1\n",
+            Status::Limit { line: 1, which: Which::Resident, found: 3 },
+            b"line 1: limit resident 3\n",
+        ),
+        (
+            b"heap 1 1\ntype A n\nscript s\nptr p A\nnew p B\nfree q\n",
+            Status::IllTyped { line: 5, kind: TypeKind::NoType },
+            b"line 5: no type\n",
+        ),
+        (
+            b"heap 1 1\nscript s\nnum n\nrepeat 500000\nprint n\nend\n",
+            Status::IllTyped { line: 2, kind: TypeKind::TooLong { count: 1_000_001 } },
+            b"line 2: too long 1000001\n",
+        ),
     ];
-    for (status, line) in lines {
-        let text = status.text(rt.alloc()).map_err(|_| AllocError)?;
-        assert_eq!(rt; text.as_slice(), line);
+    for (text, expected, line) in cases {
+        for chunk in [1, 7, 4096] {
+            let case = Case {
+                source: (chunk, &[]),
+                ..ample(&["check"], text, expected, b"")
+            };
+            let (status, _) = run(rt.alloc(), &case)?;
+            assert_eq!(rt; status, expected);
+        }
+        let told = expected.text(rt.alloc()).map_err(|_| AllocError)?;
+        assert_eq!(rt; told.as_slice(), line);
     }
     Ok(())
 }

@@ -1,41 +1,21 @@
 //! All that the program does.
-ghost use Rattle.std.specs.Prelude.{◌≡◌, ◌≢◌, ◌↔◌, map, string_bytes, true, false, None, IsSome, IfNone, IfSome, IfOk, IsSomeAnd};
+ghost use Rattle.std.specs.Prelude.{◌≡◌, ◌≢◌, ◌↔◌, map, string_bytes, None, IsSomeAnd};
 ghost use Rattle.mk_io.specs.Bytes.{Appends, AppendsPart};
 ghost use Rattle.mk_io.specs.Faults.{Rose};
-ghost use Rattle.mk_script.specs.Grammar.{program_of};
-ghost use Rattle.markus.specs.Commands.{is_run_command};
-ghost use Rattle.markus.specs.RunText.{HasRun, PrintsText};
-ghost use Rattle.markus.specs.Statuses.{IsBeforeWriting, IsOkOrNoMemory};
+ghost use Rattle.markus.specs.Commands.{command_of};
+ghost use Rattle.markus.specs.Outputs.{HasAnswered, IsStatusOn};
+ghost use Rattle.markus.specs.Statuses.{IsBeforeWriting, IsRefusal};
 
-use crate::running::run_script;
+use crate::commands::command_in;
+use crate::outputs::output_of;
 use crate::statuses::Status;
 use mk_io::{Failed, ReadStop, Sink, Source, read_all, write_all};
-use mk_never::NoMemory;
-use mk_script::parse;
+use mk_script::Which;
 use std::alloc::Global;
 
-fn is_run(words: &[String]) -> bool
-    ensures { result ≡ is_run_command (map (λ word. string_bytes word) words.now) }
-{
-    match words {
-        [word] => word.as_str() == "run",
-        _ => false,
-    }
-}
-
-/// What the script of a text prints, where the text is of the narrow form.
-fn text_of(alloc: Global, bytes: &[u8]) -> Result<Option<Vec<u8>>, NoMemory>
-    ensures prints { IfOk result (λ found. IfSome found (λ text. PrintsText bytes.now text.items)) }
-    ensures none { IfOk result (λ found. IfNone found (program_of bytes.now ≡ None)) }
-{
-    match parse(alloc, bytes)? {
-        Some(program) => Ok(Some(run_script(alloc, &program)?)),
-        None => Ok(None),
-    }
-}
-
-/// Does all that the program does: with the one word `run` it reads a text from the source, runs its
-/// script, and writes what that prints to the sink. The whole output is made before the first write.
+/// Does all that the program does. With the one word `run`, `check` or `print` it reads a text from the
+/// source and writes to the sink what its script prints, the line `ok`, or its canonical text. The
+/// whole output is made before the first write.
 ///
 /// Where the source doesn't tell its bytes, or the sink what it took, the clauses on these say
 /// nothing, as with standard input and output.
@@ -45,16 +25,16 @@ pub fn markus<S: Source, K: Sink>(
     source: &mut S,
     sink: &mut K,
 ) -> Status
-    // What was read is a text of the narrow form, read to its end, and what its script prints was written.
+    // What was read to its end is a text that the command accepts, and what it writes on it was written.
     ensures ok { result ≡ Status.Ok →
-        HasRun (S.left source.old) (S.left source.new) (Appends (K.taken sink.old) (K.taken sink.new)) }
+        HasAnswered (map (λ word. string_bytes word) words.now) (S.left source.old) (S.left source.new) (Appends (K.taken sink.old) (K.taken sink.new)) }
     ensures part { result ≡ Status.WriteFault →
-        HasRun (S.left source.old) (S.left source.new) (AppendsPart (K.taken sink.old) (K.taken sink.new)) }
+        HasAnswered (map (λ word. string_bytes word) words.now) (S.left source.old) (S.left source.new) (AppendsPart (K.taken sink.old) (K.taken sink.new)) }
 
     // When each refusal comes.
-    ensures usage { (result ≡ Status.Usage) ↔ (is_run_command (map (λ word. string_bytes word) words.now) ≡ false) }
+    ensures usage { (result ≡ Status.Usage) ↔ (command_of (map (λ word. string_bytes word) words.now) ≡ None) }
     ensures read_fault { result ≡ Status.ReadFault → Rose (S.faults source.old) (S.faults source.new) }
-    ensures not_built { result ≡ Status.NotBuilt → IfSome (S.left source.old) (λ input. program_of input ≡ None) }
+    ensures refused { IsRefusal result → IsStatusOn (command_of (map (λ word. string_bytes word) words.now)) (S.left source.old) result }
     ensures write_fault { result ≡ Status.WriteFault → Rose (K.faults sink.old) (K.faults sink.new) }
     ensures read_whole { result ≢ Status.ReadFault → S.faults source.new ≡ S.faults source.old }
     ensures written_whole { result ≢ Status.WriteFault → K.faults sink.new ≡ K.faults sink.old }
@@ -63,28 +43,31 @@ pub fn markus<S: Source, K: Sink>(
     ensures unread { result ≡ Status.Usage → source.new ≡ source.old }
     ensures unwritten { IsBeforeWriting result → sink.new ≡ sink.old }
 
-    // A text of the narrow form is run, where no count of faults rises.
-    ensures complete { is_run_command (map (λ word. string_bytes word) words.now) ≡ true
-        → IsSomeAnd (S.left source.old) (λ input. IsSome (program_of input))
-        → ¬ Rose (S.faults source.old) (S.faults source.new)
+    // Where no count of faults rises, the status is that of the command on the text.
+    ensures complete { ¬ Rose (S.faults source.old) (S.faults source.new)
         → ¬ Rose (K.faults sink.old) (K.faults sink.new)
-        → IsOkOrNoMemory result }
+        → IsStatusOn (command_of (map (λ word. string_bytes word) words.now)) (S.left source.old) result }
 {
-    if !is_run(words) {
+    let Some(command) = command_in(words) else {
         return Status::Usage;
-    }
-    let bytes = match read_all(alloc, source) {
-        Ok(bytes) => bytes,
+    };
+    let text = match read_all(alloc, source) {
+        Ok(text) => text,
         Err(ReadStop::ReadFault) => return Status::ReadFault,
-        Err(ReadStop::TooLong) => return Status::NotBuilt,
+        Err(ReadStop::TooLong) => {
+            return Status::Limit {
+                line: 0,
+                which: Which::Bytes,
+                found: 1_048_577,
+            };
+        }
         Err(ReadStop::NoMemory) => return Status::NoMemory,
     };
-    let text = match text_of(alloc, &bytes) {
-        Ok(Some(text)) => text,
-        Ok(None) => return Status::NotBuilt,
-        Err(NoMemory) => return Status::NoMemory,
+    let output = match output_of(alloc, command, &text) {
+        Ok(output) => output,
+        Err(status) => return status,
     };
-    match write_all(sink, &text) {
+    match write_all(sink, &output) {
         Ok(()) => Status::Ok,
         Err(Failed) => Status::WriteFault,
     }

@@ -1,41 +1,42 @@
-use Rattle.std.proofs.Common.{◌≡◌, refl, ℕ, List, All, ap, subst, sym, ◌∙◌, drop}
+use Rattle.std.proofs.Common.{◌<◌, List, [], refl, sym, ◌∙◌, subst, length}
+use Rattle.mk_core.specs.declared.events.Answer.{Answer}
 use Rattle.mk_script.specs.declared.items.Item.{Item}
-use Rattle.mk_check.specs.Declared.{pages_of}
-use Rattle.mk_check.specs.Blocks.{script_of}
-use Rattle.markus.specs.Plain.{IndexIsWithin, words_in, begun, plain_text, after_lines, Running}
-use Rattle.markus.specs.RunText.{IsRunText}
-use Rattle.markus.proofs.Whole.{narrow_prints}
-use Rattle.markus.proofs.Within.{narrow_within}
+use Rattle.mk_script.specs.Scopes.{script_names}
+use Rattle.mk_check.specs.Feeding.{StandsFor, TakesAnswer}
+use Rattle.markus.specs.Plain.{PlainHeap}
+use Rattle.markus.proofs.NarrowPrograms.{script_is_there}
+use Rattle.markus.proofs.Runs.{Runs, begins, next_is_plain, goes_on, ends}
 use Rattle.markus.proofs.running.run_script.Goals as goal
-use Rattle.markus.proofs.running.run_script.Goals.{In_ok-running}
 
--- what the script begins with, and its lines
-started : (c : In_ok-running) → c.in_ok-running.running ≡ begun (pages_of c.args.program.now) (words_in c.args.program.now) (script_of c.args.program.now 0).name
-started c =
-    let items = c.items.ensures.items in
-    let pages : c.parts_of-parts.result.pages ≡ pages_of c.args.program.now = c.parts_of-parts.ensures.pages ∙ ap pages_of items in
-    let words : c.parts_of-parts.result.words ≡ words_in c.args.program.now = c.parts_of-parts.ensures.words ∙ ap words_in items in
-    let name : c.parts_of-parts.result.name.now ≡ (script_of c.args.program.now 0).name =
-    c.parts_of-parts.ensures.name ∙ ap (λ (xs : List Item). (script_of xs 0).name) items in
-    c.in_ok-running.ensures ∙ (rw (pages, words, name) refl)
+pub start-requires-clause-exists : goal.start-requires-clause-exists
+start-requires-clause-exists c =
+    subst (λ (xs : List Item). 0 < length (script_names xs)) (sym (c.items.ensures.items ∙ c.program.ensures.program)) (script_is_there c.args.checked.now c.requires)
 
-lines : (c : In_ok-running) → c.parts_of-parts.result.lines.now ≡ drop 4 c.args.program.now
-lines c = c.parts_of-parts.ensures.lines ∙ ap (λ (xs : List Item). drop 4 xs) c.items.ensures.items
+pub loop-op-init : goal.loop-op-init
+loop-op-init c =
+    begins c.args.checked.now c.in_ok-plain.plain c.in_ok-feed.feed c.requires c.in_ok-plain.ensures
+    (subst (λ (xs : List Item). StandsFor xs 0 c.in_ok-feed.feed []) (c.items.ensures.items ∙ c.program.ensures.program) c.in_ok-feed.ensures)
 
-pub run_lines-requires-clause-within : goal.run_lines-requires-clause-within
-run_lines-requires-clause-within c =
-    let before = (goal.at.run_lines-requires-clause-within c).In_ok-running in
-    let within : All (IndexIsWithin (words_in c.args.program.now)) (drop 4 c.args.program.now) = narrow_within c.args.program.now c.requires in
-    let size : c.in_ok-running.running.plain.size ≡ words_in c.args.program.now = ap (λ (r : Running). r.plain.size) (started before) in
-    rw (lines before, size) within
+pub apply-answer-requires : goal.apply-answer-requires
+apply-answer-requires c =
+    let runs = c.loop-op.invariant in
+    next_is_plain c.args.checked.now c.loop-op.plain c.loop-op.feed c.in-Some.op c.requires c.program.ensures.well_typed runs
+    (sym (c.in-Some.ensures.next c.args.checked.now 0 runs.answers runs.fed))
 
-pub returns : goal.returns
-returns c =
-    let before = (goal.at.returns c).In_ok-running in
-    let ran : c.run_lines.new.self ≡ after_lines c.in_ok-running.running 5 c.parts_of-parts.result.lines.now = c.in_ok-run_lines.ensures in
-    let whole : after_lines c.in_ok-running.running 5 c.parts_of-parts.result.lines.now
-    ≡ after_lines (begun (pages_of c.args.program.now) (words_in c.args.program.now) (script_of c.args.program.now 0).name) 5 (drop 4 c.args.program.now) =
-    rw (started before, lines before) refl in
-    let text : c.running.inside.text.items ≡ plain_text c.args.program.now =
-    ap (λ (r : Running). r.text) (c.running.view_is ∙ (ran ∙ whole)) in
-    subst (λ (t : List ℕ). IsRunText c.args.program.now t) (sym text) (narrow_prints c.args.program.now c.requires)
+pub loop-op-smaller : goal.loop-op-smaller
+loop-op-smaller c = c.in_ok-answer.ensures.nearer
+
+pub loop-op-preserved : goal.loop-op-preserved
+loop-op-preserved c =
+    let runs = c.loop-op.invariant in
+    subst (λ (p : PlainHeap). Runs c.args.checked.now p c.answer.new.self) (sym c.apply-answer.ensures.after)
+    (goes_on c.args.checked.now c.loop-op.plain c.loop-op.feed c.answer.new.self c.in-Some.op c.requires c.program.ensures.well_typed runs
+    (sym (c.in-Some.ensures.next c.args.checked.now 0 runs.answers runs.fed))
+    (subst (λ (a : Answer). TakesAnswer c.loop-op.feed a c.answer.new.self) c.apply-answer.ensures.answer c.in_ok-answer.ensures.ok))
+
+pub returns-in-Ok : goal.returns-in-Ok
+returns-in-Ok c =
+    let runs = c.loop-op.invariant in
+    let ended = (c.in_default.ensures.none c.args.checked.now 0 runs.answers runs.fed).0 refl in
+    ends c.args.checked.now c.loop-op.plain c.loop-op.feed c.in-Ok.text.items runs ended
+    (c.in-Ok.ensures.items_if_clones_equal (λ x y e. e) ∙ c.text.ensures c.args.checked.now 0 runs.answers runs.fed)

@@ -1,0 +1,76 @@
+-- What a command writes on an input, and the status that it ends with where nothing fails.
+use Rattle.std.specs.Prelude.{◌≡◌, ℕ, List, [], Bool, true, false, if◌then◌else◌, Option, Some, None, IfSome, Ok as Accepted, Err as Refused, ◌⊎◌}
+use Rattle.std.specs.declared.result.Result.{Result}
+use lib.Chars.{codes}
+use Rattle.mk_script.specs.declared.items.Item.{Item}
+use Rattle.mk_script.specs.declared.faults.TextStop.{TextStop}
+use Rattle.mk_script.specs.declared.faults.TextStop.TheVariants as stop
+use Rattle.mk_script.specs.Grammar.{program_of}
+use Rattle.mk_script.specs.Canonical.{canonical_text}
+use Rattle.mk_check.specs.declared.typing_faults.TypeStop.{TypeStop}
+use Rattle.mk_check.specs.declared.typing_faults.TypeStop.TheVariants as typing
+use Rattle.mk_check.specs.Typing.{TypingFault, first_typing_fault}
+use Rattle.markus.specs.declared.commands.Command.{Command}
+use Rattle.markus.specs.declared.commands.Command.TheVariants.{Run, Check, Print}
+use Rattle.markus.specs.declared.statuses.Status.{Status}
+use Rattle.markus.specs.declared.statuses.Status.TheVariants.{Ok, NoMemory, Text, IllTyped, Limit, NotBuilt}
+use Rattle.markus.specs.Commands.{command_of}
+use Rattle.markus.specs.Narrow.{is_narrow}
+use Rattle.markus.specs.RunText.{IsRunText}
+
+-- where a program is well typed, this status; else that of its least ill-typed line
+abbrev pub typed_or : Option TypingFault → Status → Status
+typed_or None status = status
+typed_or (Some fault) status = IllTyped fault.line fault.kind
+
+-- A program that isn't of the narrow form isn't run yet. To be printed it needn't be well typed.
+abbrev pub status_of_program : Command → List Item → Status
+status_of_program Run program = typed_or (first_typing_fault program) (if is_narrow program then Ok else NotBuilt)
+status_of_program Check program = typed_or (first_typing_fault program) Ok
+status_of_program Print program = Ok
+
+abbrev pub status_of_text_stop : TextStop → Status
+status_of_text_stop (stop.Text line kind) = Text line kind
+status_of_text_stop (stop.Limit line which found) = Limit line which found
+status_of_text_stop stop.NoMemory = NoMemory
+
+abbrev pub status_of_text : Command → Result (List Item) TextStop → Status
+status_of_text command (Accepted program) = status_of_program command program
+status_of_text command (Refused stop) = status_of_text_stop stop
+
+abbrev pub status_of_type_stop : TypeStop → Status
+status_of_type_stop (typing.IllTyped line kind) = IllTyped line kind
+status_of_type_stop typing.NoMemory = NoMemory
+
+-- the status of a command on an input, where nothing fails
+abbrev pub status_on : Command → List ℕ → Status
+status_on command input = status_of_text command (program_of input)
+
+abbrev pub IsOutputOf : Command → List Item → List ℕ → Type 0
+IsOutputOf Run program output = IsRunText program output
+IsOutputOf Check program output = output ≡ codes "ok\n"
+IsOutputOf Print program output = output ≡ canonical_text program
+
+-- what a command writes on an input that it accepts
+pub record IsOutput (command : Command) (input output : List ℕ) : Type 0 where
+  pub program : List Item
+  pub is_text : program_of input ≡ Accepted program
+  pub accepted : status_of_program command program ≡ Ok
+  pub output_is : IsOutputOf command program output
+
+-- An input was read from the source to its end, and W holds of what the words' command writes on it. Where the source
+-- doesn't tell its bytes, there is such an input.
+pub record HasAnswered (words : List (List ℕ)) (old new : Option (List ℕ)) (W : List ℕ → Type 0) : Type 0 where
+  pub command : Command
+  pub input : List ℕ
+  pub output : List ℕ
+  pub named : command_of words ≡ Some command
+  pub read : IfSome old (λ left. (input ≡ left) × (new ≡ Some []))
+  pub answers : IsOutput command input output
+  pub written : W output
+
+-- The command's status on the input, or no memory
+abbrev pub IsStatusOn : Option Command → Option (List ℕ) → Status → Type 0
+IsStatusOn (Some command) (Some input) status = (status ≡ NoMemory) ⊎ (status ≡ status_on command input)
+IsStatusOn None input status = Unit {0}
+IsStatusOn (Some command) None status = Unit {0}
