@@ -114,7 +114,7 @@ start_stops nodes scope script at p q tree begins stopped =
 
 -- One more answer.
 
-take_answers_push : (scope : Scope) (fed : Fed) (answers : List Answer) (a : Answer)
+pub take_answers_push : (scope : Scope) (fed : Fed) (answers : List Answer) (a : Answer)
     → take_answers scope fed (answers ++ a ∷ []) ≡ take_answer scope (take_answers scope fed answers) (take_answers scope fed answers).left a
 take_answers_push scope fed [] a = refl
 take_answers_push scope fed (b ∷ answers) a = take_answers_push scope (take_answer scope fed fed.left b) answers a
