@@ -1,5 +1,5 @@
 -- What a well-typed line asks for is admitted, and leaves its script's registers as declared.
-use Rattle.std.proofs.Common.{◌≡◌, ℕ, ◌+◌, ◌<◌, ◌≤◌, Bool, true, false, List, length, Option, Some, None, refl, ap, sym, subst, ◌∙◌, arith}
+use Rattle.std.proofs.Common.{◌≡◌, ℕ, ◌<◌, Bool, true, false, List, length, Option, Some, refl, sym, subst, ◌∙◌, arith}
 use Rattle.std.specs.Prelude.{IfSome, slice_get}
 use Rattle.mk_never.specs.declared.types.Kind.{Kind}
 use Rattle.mk_never.specs.declared.types.Kind.TheVariants.{Num as NumKind, To}
@@ -7,23 +7,22 @@ use Rattle.mk_never.specs.declared.values.Value.{Value}
 use Rattle.mk_never.specs.declared.values.Value.TheVariants.{Null, Num, Ptr}
 use Rattle.mk_never.specs.declared.operations.Op.{Op}
 use Rattle.mk_never.specs.declared.operations.Op.TheVariants as op
-use Rattle.mk_never.specs.NeverHeap.{NeverState, register_at, global_at, word_at, with_register, with_word, with_new, is_same, target_of, moved_on, after_free, after_op}
+use Rattle.mk_never.specs.NeverHeap.{NeverState, word_at, with_register, with_new, is_same, target_of, after_free, after_op}
 use Rattle.mk_never.specs.Admitted.{IsNumber, IsPointer, IsOfKind, IsBase, Meets, IsAdmitted}
-use Rattle.mk_never.specs.Typed.{IsTyped}
 use Rattle.mk_never.proofs.Edits.{left_at_by, if_by}
 use Rattle.mk_core.specs.declared.events.Answer.{Answer}
 use Rattle.mk_core.specs.declared.events.Answer.TheVariants as answer
 use Rattle.mk_script.specs.declared.items.At.{At}
 use Rattle.mk_script.specs.declared.items.TypeWord.TheVariants.{Number, Pointer}
 use Rattle.mk_script.specs.declared.items.Item.{Item}
-use Rattle.mk_script.specs.declared.items.Item.TheVariants.{Heap, New, Free, Getn, Setn, Getp, Setp, Casp, Lea, Move, Clear, Loadg, Storeg, Same, Isnull, Show}
+use Rattle.mk_script.specs.declared.items.Item.TheVariants.{New, Free, Getn, Setn, Getp, Setp, Casp, Lea, Move, Clear, Loadg, Storeg, Same, Isnull, Show}
 use Rattle.mk_script.specs.Scopes.{type_names, global_names, pointer_names}
 use Rattle.mk_check.specs.Typing.{pointer_at, global_type, moved_by, base_of}
-use Rattle.mk_check.specs.Declarations.{place_of, kind_of, types_of, globals_of}
-use Rattle.mk_check.specs.Feed.{Scope, Fed, pointer_place, number_in, op_of, noted, scope_of}
+use Rattle.mk_check.specs.Declarations.{place_of, kind_of, globals_of}
+use Rattle.mk_check.specs.Feed.{Fed, op_of, noted, scope_of}
 use Rattle.mk_check.specs.NamesInScope.{HasFew}
 use Rattle.mk_check.proofs.DeclaredPlaces.{pointer_within, type_place, global_place, global_within}
-use Rattle.mk_check.proofs.TypedLines.{PointsBefore, PointsBeforeOne, PointsBehind, IsDeclared, PointsToType, PointsToGlobal, Says}
+use Rattle.mk_check.proofs.TypedLines.{PointsBefore, PointsBeforeOne, PointsBehind, PointsToType, PointsToGlobal, Says}
 use Rattle.mk_check.proofs.DeclaredRegisters.{kind_at, register_of, AreAsDeclared, FitsScript, set_register, meets_weaker, meets_before, loaded_word, moved_word, global_word}
 
 -- what holds of a New, full or not, holds of it as it is noted
@@ -92,25 +91,40 @@ module _ (program script : List Item) (few : HasFew (scope_of program script)) (
   -- What a typed line asks for is admitted, also as it is noted.
   pub admitted : (fed : Fed) (item : Item) → Says program script item → IfSome (op_of (scope_of program script) fed item) (λ o. (a : Answer) → Admits (noted o a))
   admitted fed (New pointer ty) s = noted_new Admits _ _ (λ full. record {
-    of_a_caller = fits.of_a_caller; in_range = (pointers pointer _ s.declared, types pointer ty s); access = tt; store = tt;
+    of_a_caller = fits.of_a_caller;
+    in_range = (pointers pointer _ s.declared, types pointer ty s);
+    access = tt;
+    store = tt;
   })
   admitted fed (Free pointer) s = λ a. record {
-    of_a_caller = fits.of_a_caller; in_range = pointers pointer s.at s.declared; access = tt;
+    of_a_caller = fits.of_a_caller;
+    in_range = pointers pointer s.at s.declared;
+    access = tt;
     store = bases program (register_of script n caller pointer) s.at s.base (fits.declared pointer s.at s.declared);
   }
   admitted fed (Getn number pointer index) s = λ a. record {
-    of_a_caller = fits.of_a_caller; in_range = pointers pointer s.at s.declared; access = number_access pointer index s; store = tt;
+    of_a_caller = fits.of_a_caller;
+    in_range = pointers pointer s.at s.declared;
+    access = number_access pointer index s;
+    store = tt;
   }
   admitted fed (Setn pointer index number) s = λ a. record {
-    of_a_caller = fits.of_a_caller; in_range = pointers pointer s.at s.declared; access = number_access pointer index s; store = tt;
+    of_a_caller = fits.of_a_caller;
+    in_range = pointers pointer s.at s.declared;
+    access = number_access pointer index s;
+    store = tt;
   }
   admitted fed (Getp loaded pointer index) s = λ a. record {
-    of_a_caller = fits.of_a_caller; in_range = (pointers loaded s.at s.declared, pointers pointer s.word.at s.word.declared);
-    access = pointer_access pointer index loaded s; store = tt;
+    of_a_caller = fits.of_a_caller;
+    in_range = (pointers loaded s.at s.declared, pointers pointer s.word.at s.word.declared);
+    access = pointer_access pointer index loaded s;
+    store = tt;
   }
   admitted fed (Setp pointer index stored) s = λ a. record {
-    of_a_caller = fits.of_a_caller; in_range = (pointers pointer s.word.at s.word.declared, pointers stored s.at s.declared);
-    access = pointer_access pointer index stored s; store = store_access pointer index stored s;
+    of_a_caller = fits.of_a_caller;
+    in_range = (pointers pointer s.word.at s.word.declared, pointers stored s.at s.declared);
+    access = pointer_access pointer index stored s;
+    store = store_access pointer index stored s;
   }
   admitted fed (Casp number pointer index expected stored) s = λ a. record {
     of_a_caller = fits.of_a_caller;
@@ -119,21 +133,35 @@ module _ (program script : List Item) (few : HasFew (scope_of program script)) (
     store = meets_both n (register_of script n caller pointer) index _ _ (store_access pointer index expected s.0) (store_access pointer index stored s.1);
   }
   admitted fed (Lea moved pointer index) s = λ a. record {
-    of_a_caller = fits.of_a_caller; in_range = (pointers moved _ s.declared, pointers pointer s.before.at s.before.declared);
-    access = any_access pointer index moved s; store = tt;
+    of_a_caller = fits.of_a_caller;
+    in_range = (pointers moved _ s.declared, pointers pointer s.before.at s.before.declared);
+    access = any_access pointer index moved s;
+    store = tt;
   }
   admitted fed (Move copied pointer) s = λ a. record {
-    of_a_caller = fits.of_a_caller; in_range = (pointers copied s.at s.first_is, pointers pointer s.at s.second_is); access = tt; store = tt;
+    of_a_caller = fits.of_a_caller;
+    in_range = (pointers copied s.at s.first_is, pointers pointer s.at s.second_is);
+    access = tt;
+    store = tt;
   }
   admitted fed (Clear pointer) s = λ a. record { of_a_caller = fits.of_a_caller; in_range = pointers pointer s.at s.declared; access = tt; store = tt }
   admitted fed (Loadg loaded global) s = λ a. record {
-    of_a_caller = fits.of_a_caller; in_range = (pointers loaded _ s.declared, globals global s.ty s.is); access = tt; store = tt;
+    of_a_caller = fits.of_a_caller;
+    in_range = (pointers loaded _ s.declared, globals global s.ty s.is);
+    access = tt;
+    store = tt;
   }
   admitted fed (Storeg stored global) s = λ a. record {
-    of_a_caller = fits.of_a_caller; in_range = (globals global s.ty s.is, pointers stored _ s.declared); access = tt; store = global_store stored global s;
+    of_a_caller = fits.of_a_caller;
+    in_range = (globals global s.ty s.is, pointers stored _ s.declared);
+    access = tt;
+    store = global_store stored global s;
   }
   admitted fed (Same number first second) s = λ a. record {
-    of_a_caller = fits.of_a_caller; in_range = (pointers first s.0.at s.0.declared, pointers second s.1.at s.1.declared); access = tt; store = tt;
+    of_a_caller = fits.of_a_caller;
+    in_range = (pointers first s.0.at s.0.declared, pointers second s.1.at s.1.declared);
+    access = tt;
+    store = tt;
   }
   admitted fed (Isnull number pointer) s = λ a. record { of_a_caller = fits.of_a_caller; in_range = pointers pointer s.at s.declared; access = tt; store = tt }
   admitted fed (Show pointer) s = λ a. record { of_a_caller = fits.of_a_caller; in_range = pointers pointer s.at s.declared; access = tt; store = tt }

@@ -1,14 +1,14 @@
 -- The operations of a well-typed program's scripts are admitted.
-use Rattle.std.proofs.Common.{◌≡◌, ◌≢◌, ℕ, zero, suc, ◌+◌, ◌*◌, ◌<◌, ◌≤◌, Bool, true, false, List, [], ◌∷◌, ◌++◌, length, Option, Some, None, refl, ap, sym, subst, ◌∙◌, ⊎_elim, arith}
+use Rattle.std.proofs.Common.{◌≡◌, ◌≢◌, ℕ, ◌+◌, ◌*◌, ◌<◌, ◌≤◌, Bool, true, false, List, [], ◌∷◌, ◌++◌, length, Option, Some, None, refl, ap, sym, subst, ◌∙◌, ⊎_elim, arith}
 use Rattle.std.specs.Prelude.{All, IfSome, ◌==◌, if◌then◌else◌}
 use Rattle.std.proofs.lemmas.Bool.{eqb-true, eq-eqb, cases_Bool, false≢true}
-use Rattle.std.proofs.lemmas.List.{get_or-replicate, length-replicate}
+use Rattle.std.proofs.lemmas.List.{append-nil, get_or-replicate, length-replicate}
 use Rattle.std.proofs.lemmas.List.Elements.{All-nil, All-head, All-tail, All-push}
 use Rattle.mk_never.specs.declared.values.Value.{Value}
 use Rattle.mk_never.specs.declared.values.Value.TheVariants.{Null}
 use Rattle.mk_never.specs.declared.operations.Op.{Op}
 use Rattle.mk_never.specs.declared.operations.Op.TheVariants as op
-use Rattle.mk_never.specs.NeverHeap.{NeverState, Call, register_at, start_of, after_op, after_calls}
+use Rattle.mk_never.specs.NeverHeap.{NeverState, Call, after_op, after_calls}
 use Rattle.mk_never.specs.Admitted.{IsOfKind, IsAdmitted, AreAdmitted}
 use Rattle.mk_never.specs.Laws.{Continues, KeepsRegisters}
 use Rattle.mk_never.proofs.Later.{op_stays}
@@ -16,22 +16,21 @@ use Rattle.mk_never.proofs.Registers as registers
 use Rattle.mk_never.proofs.TypedCalls as typed_calls
 use Rattle.mk_core.specs.declared.events.Answer.{Answer}
 use Rattle.mk_core.specs.declared.events.Answer.TheVariants as answer
-use Rattle.mk_script.specs.declared.items.At.{At}
 use Rattle.mk_script.specs.declared.items.Item.{Item}
 use Rattle.mk_script.specs.Scopes.{pointer_names, script_names}
 use Rattle.mk_check.specs.Blocks.{Blocks, Done, Line, Rounds, Choice, AllPlaced, AllFrom, blocks_from, script_of}
 use Rattle.mk_check.specs.Declarations.{place_of, types_of, globals_of}
-use Rattle.mk_check.specs.Typing.{pointer_at}
-use Rattle.mk_check.specs.Feed.{Scope, Fed, op_of, noted, note, with_answer, run, take_answer, take_answers, begun, started, scope_of, feed}
+use Rattle.mk_check.specs.Feed.{Fed, op_of, noted, note, with_answer, run, take_answer, take_answers, begun, started, scope_of, feed}
 use Rattle.mk_check.specs.Feeding.{script_scope, next_op}
-use Rattle.mk_check.specs.Laws.{IsChecked, IsScript, ops_of_caller, AreNotedBy, heap_of, AreAdmittedFor, NextIsAdmitted, HasAnswers, AreOfScripts}
+use Rattle.mk_check.specs.Laws.{IsChecked, IsScript, ops_of_caller, AreNotedBy, AnswersAreNoted, OthersAreIgnored, heap_of, AreAdmittedFor, NextIsAdmitted, AreOfScripts}
 use Rattle.mk_check.specs.NamesInScope.{HasFew}
 use Rattle.mk_check.proofs.AdmittedLines.{admitted, line_keeps}
 use Rattle.mk_check.proofs.DeclaredPlaces.{pointer_within}
 use Rattle.mk_check.proofs.DeclaredRegisters.{kind_at, AreAsDeclared, FitsScript}
 use Rattle.mk_check.proofs.FewNames.{text_has_few}
-use Rattle.mk_check.proofs.LinesLeft.{IsAtLine, AllPlaced-run, AllPlaced-take_answers, placed_of_script, next_placed}
+use Rattle.mk_check.proofs.LinesLeft.{AllPlaced-run, AllPlaced-take_answers, placed_of_script, next_placed}
 use Rattle.mk_check.proofs.Numbered.{run_agrees, ops-with_answer}
+use Rattle.mk_check.proofs.Stands.{take_answers_push}
 use Rattle.mk_check.proofs.TypedLines.{Says}
 use Rattle.mk_check.proofs.TypedScripts.{script_says}
 
@@ -172,6 +171,57 @@ started_ops program k =
 pub first_are_noted : (program : List Item) (k : ℕ) → AreNotedBy program k [] []
 first_are_noted program k = sym (started_ops program k)
 
+-- One call more.
+
+ops_push : (caller : ℕ) (calls : List Call) (x : Call) → ops_of_caller caller (calls ++ x ∷ []) ≡ ops_of_caller caller calls ++ ops_of_caller caller (x ∷ [])
+ops_push caller [] x = refl
+ops_push caller (y ∷ calls) x = by_test (y.caller == caller) (ops_push caller calls x)
+  where
+    by_test : (same : Bool) → ops_of_caller caller (calls ++ x ∷ []) ≡ ops_of_caller caller calls ++ ops_of_caller caller (x ∷ [])
+        → (if same then y.op ∷ ops_of_caller caller (calls ++ x ∷ []) else ops_of_caller caller (calls ++ x ∷ []))
+        ≡ (if same then y.op ∷ ops_of_caller caller calls else ops_of_caller caller calls) ++ ops_of_caller caller (x ∷ [])
+    by_test true e = ap (λ (ops : List Op). y.op ∷ ops) e
+    by_test false e = e
+
+own_op : (caller : ℕ) (o : Op) → ops_of_caller caller (record { caller = caller; op = o } ∷ []) ≡ o ∷ []
+own_op caller o = ap (λ (same : Bool). if same then o ∷ [] else []) (eq-eqb caller caller refl)
+
+other_op : (caller : ℕ) (x : Call) → x.caller ≢ caller → ops_of_caller caller (x ∷ []) ≡ []
+other_op caller x differs = by_test (x.caller == caller) refl
+  where
+    by_test : (same : Bool) → (x.caller == caller) ≡ same → (if same then x.op ∷ [] else []) ≡ []
+    by_test true e = absurd (differs (eqb-true x.caller caller e))
+    by_test false e = refl
+
+any_line : (P : Item → Type 0) → ((item : Item) → P item) → (line : ℕ) (items : List Item) → AllFrom (λ l. P) line items
+any_line P each line [] = tt
+any_line P each line (item ∷ items) = (each item, any_line P each (line + 1) items)
+
+-- the answer is noted behind those before it
+answer_ops : (program : List Item) (k : ℕ) (answers : List Answer) (o : Op) (a : Answer) → next_op program k answers ≡ Some o
+    → (feed program k (answers ++ a ∷ [])).ops ≡ (feed program k answers).ops ++ noted o a ∷ []
+answer_ops program k answers o a e =
+    let scope = script_scope program k in
+    let fed = feed program k answers in
+    let at = next_placed (λ line item. Unit {0}) program k answers o (any_line (λ item. Unit {0}) (λ item. tt) (script_of program k).line (lines_of program k)) e in
+    let with_note = note fed (op_of scope fed at.item) at.line a in
+    ap (λ (f : Fed). f.ops) (take_answers_push scope (started scope (script_of program k)) answers a)
+    ∙ (ap (λ (left : Blocks). (take_answer scope fed left a).ops) at.left
+    ∙ ((run_agrees scope at.rest (with_answer scope with_note at.item a)).answers
+    ∙ (ops-with_answer scope with_note at.item a ∙ ap (λ (asked : Option Op). (note fed asked at.line a).ops) at.op)))
+
+pub answers_are_noted : (program : List Item) (k : ℕ) (answers : List Answer) (calls : List Call) → AreNotedBy program k answers calls
+    → AnswersAreNoted program k answers calls
+answers_are_noted program k answers calls are o a e =
+    let call : Call = record { caller = k; op = noted o a } in
+    ops_push k calls call ∙ (ap (λ (ops : List Op). ops ++ ops_of_caller k (call ∷ [])) are
+    ∙ (ap (λ (ops : List Op). (feed program k answers).ops ++ ops) (own_op k (noted o a)) ∙ sym (answer_ops program k answers o a e)))
+
+pub others_are_ignored : (program : List Item) (k : ℕ) (answers : List Answer) (calls : List Call) → AreNotedBy program k answers calls
+    → OthersAreIgnored program k answers calls
+others_are_ignored program k answers calls are call differs =
+    ops_push k calls call ∙ (ap (λ (ops : List Op). ops_of_caller k calls ++ ops) (other_op k call differs) ∙ (append-nil (ops_of_caller k calls) ∙ are))
+
 feed_asked : (program : List Item) (k : ℕ) (answers : List Answer) → IsChecked program → All (IsAsked program (lines_of program k)) (feed program k answers).ops
 feed_asked program k answers checked =
     let script = script_of program k in
@@ -221,10 +271,12 @@ all_admitted program checked n (x ∷ xs) fits callers asked =
     let few = λ (k : ℕ). text_has_few program k checked.of_some_text in
     let parts = λ (k : ℕ) (is : IsScript program k). split_ops (IsAsked program (lines_of program k)) k x xs (asked k is) in
     let is_script = All-head (λ call. IsScript program call.caller) x xs callers in
-    let admits = asked_admitted program (lines_of program x.caller) (few x.caller) n x.caller (fits x.caller is_script) x.op ((parts x.caller is_script).0 refl) in
-    (admits, all_admitted program checked (after_op n x.caller x.op) xs
-    (λ k is. call_fits program (lines_of program k) (few k) n k (fits k is) x admits (parts k is).0)
-    (All-tail (λ call. IsScript program call.caller) x xs callers) (λ k is. (parts k is).1))
+    let admits = asked_admitted program (lines_of program x.caller) (few x.caller) n x.caller (fits x.caller is_script) x.op ((parts x.caller is_script).0 refl) in (
+      admits,
+      all_admitted program checked (after_op n x.caller x.op) xs
+          (λ k is. call_fits program (lines_of program k) (few k) n k (fits k is) x admits (parts k is).0)
+          (All-tail (λ call. IsScript program call.caller) x xs callers) (λ k is. (parts k is).1),
+    )
 
 pub scripts_are_admitted : (program : List Item) (callers : ℕ) (calls : List Call) → IsChecked program → length (script_names program) ≤ callers
     → AreOfScripts program calls → AreAdmittedFor program callers calls

@@ -1,5 +1,5 @@
 -- A caller's registers hold what its script declares them for, and its typed lines keep them so.
-use Rattle.std.proofs.Common.{◌≡◌, ℕ, zero, suc, ◌+◌, ◌*◌, ◌<◌, ◌≤◌, Bool, true, false, List, length, map, get_or, Option, Some, None, refl, ap, sym, subst, ◌∙◌, arith}
+use Rattle.std.proofs.Common.{◌≡◌, ℕ, ◌+◌, ◌*◌, ◌<◌, List, length, map, get_or, Option, Some, None, refl, ap, sym, subst, ◌∙◌, arith}
 use Rattle.std.specs.Prelude.{IfSome, option_map, slice_get}
 use Rattle.std.proofs.lemmas.List.{length-map}
 use Rattle.std.proofs.lemmas.Option.{same_Some, slice_get-map, slice_get_within, get_or_from_slice_get}
@@ -15,7 +15,7 @@ use Rattle.mk_never.specs.Typed.{IsSound, Suits, kind_in, IsTyped}
 use Rattle.mk_never.proofs.Edits.{if_by, set_by, exists}
 use Rattle.mk_script.specs.declared.items.At.{At}
 use Rattle.mk_script.specs.declared.items.TypeWord.{TypeWord}
-use Rattle.mk_script.specs.declared.items.TypeWord.TheVariants.{Number, Pointer}
+use Rattle.mk_script.specs.declared.items.TypeWord.TheVariants.{Pointer}
 use Rattle.mk_script.specs.declared.items.Item.{Item}
 use Rattle.mk_script.specs.Scopes.{type_names, global_names, pointer_names}
 use Rattle.mk_check.specs.Typing.{type_words, global_type, pointer_at, moved_by, word_among, base_of}
@@ -95,9 +95,10 @@ meets_word program n (Ptr number ty offset) at i word types typed sound of_kind 
     let offset_is : offset + i ≡ at.offset + i = ap (λ (o : ℕ). o + i) of_kind.1 in
     let here : get_or (map (kind_of names) found.all) (at.offset + i) NumKind ≡ kind_of names word =
     get_or_from_slice_get (map (kind_of names) found.all) (at.offset + i) (kind_of names word) NumKind
-    (slice_get-map (kind_of names) found.all (at.offset + i) ∙ ap (λ (w : Option TypeWord). option_map (kind_of names) w) found.at) in
-    (omega (arith, length-map found.all (kind_of names)),
-    ap (λ (k : List Kind). get_or k (offset + i) NumKind) kinds ∙ (ap (λ (o : ℕ). get_or (map (kind_of names) found.all) o NumKind) offset_is ∙ here))
+    (slice_get-map (kind_of names) found.all (at.offset + i) ∙ ap (λ (w : Option TypeWord). option_map (kind_of names) w) found.at) in (
+      omega (arith, length-map found.all (kind_of names)),
+      ap (λ (k : List Kind). get_or k (offset + i) NumKind) kinds ∙ (ap (λ (o : ℕ). get_or (map (kind_of names) found.all) o NumKind) offset_is ∙ here),
+    )
 
 pub meets_before : (program script : List Item) (n : NeverState) (caller : ℕ) → FitsScript program script n caller
     → (pointer : List ℕ) (i : ℕ) (word : TypeWord) → PointsBefore program script pointer i word

@@ -1,7 +1,6 @@
 -- What a well-typed line says of its registers, its types and its globals.
-use Rattle.std.proofs.Common.{◌≡◌, ℕ, ◌+◌, Bool, true, false, List, Option, Some, None, refl, ap, sym, subst, ◌∙◌}
-use Rattle.std.specs.Prelude.{◌&&◌, ◌==◌, is_some, option_map}
-use Rattle.std.specs.Option.{option_or}
+use Rattle.std.proofs.Common.{◌≡◌, ℕ, ◌+◌, Bool, true, false, List, Option, Some, None, refl, ap, sym, ◌∙◌}
+use Rattle.std.specs.Prelude.{◌==◌, is_some, option_map}
 use Rattle.std.specs.Str.{bytes_eq}
 use Rattle.std.proofs.lemmas.Bool.{and_parts, eqb-true, false≢true}
 use Rattle.std.proofs.lemmas.Option.{same_Some}
@@ -10,7 +9,7 @@ use Rattle.mk_script.specs.declared.items.At.{At}
 use Rattle.mk_script.specs.declared.items.TypeWord.{TypeWord}
 use Rattle.mk_script.specs.declared.items.TypeWord.TheVariants.{Number, Pointer}
 use Rattle.mk_script.specs.declared.items.Item.{Item}
-use Rattle.mk_script.specs.declared.items.Item.TheVariants.{Heap, New, Free, Getn, Setn, Getp, Setp, Casp, Lea, Move, Clear, Loadg, Storeg, Same, Isnull, Show}
+use Rattle.mk_script.specs.declared.items.Item.TheVariants.{New, Free, Getn, Setn, Getp, Setp, Casp, Lea, Move, Clear, Loadg, Storeg, Same, Isnull, Show}
 use Rattle.mk_check.specs.declared.typing_faults.TypeKind.{TypeKind}
 use Rattle.mk_check.specs.declared.typing_faults.TypeKind.TheVariants as kind
 use Rattle.mk_check.specs.Typing.{Around, type_words, global_type, pointer_at, ◌or◌, unless, is_type, is_pointer, same_at, moved_by, place_behind, word_among, word_at, is_inside, is_number_word, word_points, base_of, is_base, global_at, same_kind, holds_number, points_as, typing_fault}

@@ -40,9 +40,9 @@ module _ (program : List Item) where
   rest_says script before (Script name ∷ more) line place all e = tt
   rest_says script before (item ∷ more) line place all e =
       let none = next_none before more line item e in (
-      says (record { program = program; script = this_script before }) script (stays script (this_script before) (before_next_script (item ∷ more)) all) line more item none.0,
-      rest_says script (before ++ item ∷ []) more (line + 1) (place + 1) (more_lines script before (before_next_script more) item all refl) none.1,
-  )
+        says (record { program = program; script = this_script before }) script (stays script (this_script before) (before_next_script (item ∷ more)) all) line more item none.0,
+        rest_says script (before ++ item ∷ []) more (line + 1) (place + 1) (more_lines script before (before_next_script more) item all refl) none.1,
+      )
 
   from_says : (before more : List Item) (line place k : ℕ) → fault_from program line before more ≡ None
       → AllFrom (λ l. Says program (script_from place k more).items) (script_from place k more).line (script_from place k more).items

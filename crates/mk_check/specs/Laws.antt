@@ -1,5 +1,5 @@
 -- Laws of scripts: the operations that they ask for, one after the other, in any order of their turns.
-use Rattle.std.specs.Prelude.{◌≡◌, ℕ, ◌<◌, List, [], ◌∷◌, length, ◌==◌, if◌then◌else◌, Some, All}
+use Rattle.std.specs.Prelude.{◌≡◌, ◌≢◌, ℕ, ◌<◌, List, [], ◌∷◌, ◌++◌, length, ◌==◌, if◌then◌else◌, Some, All}
 use Rattle.mk_never.specs.declared.operations.Op.{Op}
 use Rattle.mk_never.specs.NeverHeap.{NeverState, Call, start_of, after_calls}
 use Rattle.mk_never.specs.Admitted.{IsAdmitted, AreAdmitted}
@@ -29,6 +29,15 @@ ops_of_caller caller (x ∷ xs) = if x.caller == caller then x.op ∷ ops_of_cal
 -- The caller's operations are those that script k notes, fed with the answers.
 abbrev pub AreNotedBy : List Item → ℕ → List Answer → List Call → Type 0
 AreNotedBy program k answers calls = ops_of_caller k calls ≡ (feed program k answers).ops
+
+-- Behind what script k asks for next, noted with any answer, the caller's operations are still those that the script notes.
+abbrev pub AnswersAreNoted : List Item → ℕ → List Answer → List Call → Type 0
+AnswersAreNoted program k answers calls = (op : Op) (answer : Answer) → next_op program k answers ≡ Some op
+    → AreNotedBy program k (answers ++ answer ∷ []) (calls ++ record { caller = k; op = noted op answer } ∷ [])
+
+-- Behind a call of another, they are those that it noted.
+abbrev pub OthersAreIgnored : List Item → ℕ → List Answer → List Call → Type 0
+OthersAreIgnored program k answers calls = (call : Call) → call.caller ≢ k → AreNotedBy program k answers (calls ++ call ∷ [])
 
 -- the heap of a program before any call
 abbrev pub heap_of : List Item → ℕ → NeverState

@@ -4,16 +4,26 @@ ghost use Rattle.mk_never.specs.NeverHeap.{Call};
 ghost use Rattle.mk_core.specs.declared.events.Answer.{Answer};
 ghost use Rattle.mk_script.specs.declared.items.Item.{Item};
 ghost use Rattle.mk_script.specs.Scopes.{script_names};
-ghost use Rattle.mk_check.specs.Laws.{IsChecked, IsScript, AreNotedBy, AreAdmittedFor, NextIsAdmitted, AreOfScripts};
+ghost use Rattle.mk_check.specs.Laws.{IsChecked, IsScript, AreNotedBy, AnswersAreNoted, OthersAreIgnored, AreAdmittedFor, NextIsAdmitted, AreOfScripts};
 
 /// What a script asks for next is admitted: behind any admitted calls, whatever their other callers did, if
 /// its own are those that it noted so far.
-#[tactic(auto, using(crate::proofs::AdmittedScripts::next_is_admitted, crate::proofs::AdmittedScripts::first_are_noted))]
+#[tactic(auto, using(crate::proofs::AdmittedScripts::next_is_admitted))]
 pub fn the_next_operation_is_admitted()
-    ensures next { (program : List Item) (callers : ℕ) (calls : List Call) (k : ℕ) (answers : List Answer)
+    ensures { (program : List Item) (callers : ℕ) (calls : List Call) (k : ℕ) (answers : List Answer)
         → IsChecked program → length (script_names program) ≤ callers → IsScript program k → AreAdmittedFor program callers calls
         → AreNotedBy program k answers calls → NextIsAdmitted program callers calls k answers }
-    ensures from_the_start { (program : List Item) (k : ℕ) → AreNotedBy program k [] [] }
+{}
+
+/// A caller's operations are those that its script notes: before any call, and still with one call more, whether
+/// it is what the script asks for next or another caller's.
+#[tactic(auto, using(crate::proofs::AdmittedScripts::first_are_noted, crate::proofs::AdmittedScripts::answers_are_noted, crate::proofs::AdmittedScripts::others_are_ignored))]
+pub fn what_scripts_ask_is_noted()
+    ensures at_first { (program : List Item) (k : ℕ) → AreNotedBy program k [] [] }
+    ensures answered { (program : List Item) (k : ℕ) (answers : List Answer) (calls : List Call)
+        → AreNotedBy program k answers calls → AnswersAreNoted program k answers calls }
+    ensures ignored { (program : List Item) (k : ℕ) (answers : List Answer) (calls : List Call)
+        → AreNotedBy program k answers calls → OthersAreIgnored program k answers calls }
 {}
 
 /// Scripts call no more than is admitted, in whatever order they take their turns and whatever they are answered.
