@@ -60,7 +60,10 @@ impl Status {
         match self {
             Status::Ok => String::from_str(alloc, ""),
             Status::NoMemory => String::from_str(alloc, "no memory\n"),
-            Status::Usage => String::from_str(alloc, "usage: markus run, check, print, replay, gen or trace\n"),
+            Status::Usage => String::from_str(
+                alloc,
+                "usage: markus run, check, print, replay, gen or trace\n",
+            ),
             Status::ReadFault => String::from_str(alloc, "read failed\n"),
             Status::WriteFault => String::from_str(alloc, "write failed\n"),
             Status::Text { line, kind } => at_line(alloc, *line, words_of_text(*kind)),

@@ -14,7 +14,8 @@ const FIRST_RUN: &[u8] = b"heap 1 1\ntype A n*32\nscript s\nptr p A\nnum n\nnew 
     setn p 1 n\nconst n 0\ngetn n p 1\nprint n\n";
 
 /// A loop of two rounds, and a branch.
-const BLOCKS: &[u8] = b"heap 1 1\ntype A n\nscript s\nptr p A\nnum n\nconst n 3\nnew p A\nrepeat 2\n\
+const BLOCKS: &[u8] =
+    b"heap 1 1\ntype A n\nscript s\nptr p A\nnum n\nconst n 3\nnew p A\nrepeat 2\n\
     setn p 0 n\nconst n 0\ngetn n p 0\nif n\nprint n\nelse\nnew p A\nend\nend\n";
 
 const SPACED: &[u8] = b" heap 1  1\ntype A n n n p:A+0\nscript s\nptr p A+0";
@@ -67,7 +68,8 @@ fn run(alloc: Global, case: &Case) -> Result<(Status, Vec<u8>), AllocError> {
 #[test]
 fn ends_as_the_cases_do(rt: HostRuntime) -> Result<(), Fail> {
     let run_word: &[&str] = &["run"];
-    let refused: &[u8] = b"heap 1 1\ntype A n*2\nscript s\nptr p A\nnum n\nconst n 5\ngetn n p 0\nprint n\n";
+    let refused: &[u8] =
+        b"heap 1 1\ntype A n*2\nscript s\nptr p A\nnum n\nconst n 5\ngetn n p 0\nprint n\n";
     let full: &[u8] = b"heap 1 1\ntype A n*32\nscript s\nptr p A\nnew p A\nnew p A\nnew p A\n";
     let cases = [
         ample(run_word, FIRST_RUN, Status::Ok, b"script s\n7\n"),
@@ -110,22 +112,35 @@ fn names_the_same_fault_in_every_chunking(rt: HostRuntime) -> Result<(), Fail> {
     let cases: [(&[u8], Status, &[u8]); 4] = [
         (
             b"heap 1 1\nscript s\nshow\tp\n",
-            Status::Text { line: 3, kind: TextKind::Word },
+            Status::Text {
+                line: 3,
+                kind: TextKind::Word,
+            },
             b"line 3: word\n",
         ),
         (
             b"heap 2 3\nscript 1\n",
-            Status::Limit { line: 1, which: Which::Resident, found: 3 },
+            Status::Limit {
+                line: 1,
+                which: Which::Resident,
+                found: 3,
+            },
             b"line 1: limit resident 3\n",
         ),
         (
             b"heap 1 1\ntype A n\nscript s\nptr p A\nnew p B\nfree q\n",
-            Status::IllTyped { line: 5, kind: TypeKind::NoType },
+            Status::IllTyped {
+                line: 5,
+                kind: TypeKind::NoType,
+            },
             b"line 5: no type\n",
         ),
         (
             b"heap 1 1\nscript s\nnum n\nrepeat 500000\nprint n\nend\n",
-            Status::IllTyped { line: 2, kind: TypeKind::TooLong { count: 1_000_001 } },
+            Status::IllTyped {
+                line: 2,
+                kind: TypeKind::TooLong { count: 1_000_001 },
+            },
             b"line 2: too long 1000001\n",
         ),
     ];

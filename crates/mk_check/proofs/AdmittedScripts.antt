@@ -30,7 +30,7 @@ use Rattle.mk_check.proofs.DeclaredRegisters.{kind_at, AreAsDeclared, FitsScript
 use Rattle.mk_check.proofs.FewNames.{text_has_few}
 use Rattle.mk_check.proofs.LinesLeft.{AllPlaced-run, AllPlaced-take_answers, placed_of_script, next_placed}
 use Rattle.mk_check.proofs.Numbered.{run_agrees, ops-with_answer}
-use Rattle.mk_check.proofs.Stands.{take_answers_push}
+use Rattle.mk_check.proofs.FeedLaws.{take_answers_push}
 use Rattle.mk_check.proofs.TypedLines.{Says}
 use Rattle.mk_check.proofs.TypedScripts.{script_says}
 

@@ -9,7 +9,7 @@ use Rattle.mk_check.specs.Feed.{Scope, Fed, op_of, noted, with_answer, note, tak
 use Rattle.mk_check.specs.Feeding.{first_op, script_scope, next_op}
 use Rattle.mk_check.proofs.Numbered.{run_agrees, ops-with_answer}
 
-take_answers_push : (scope : Scope) (fed : Fed) (answers : List Answer) (a : Answer)
+pub take_answers_push : (scope : Scope) (fed : Fed) (answers : List Answer) (a : Answer)
     → take_answers scope fed (answers ++ a ∷ []) ≡ take_answer scope (take_answers scope fed answers) (take_answers scope fed answers).left a
 take_answers_push scope fed [] a = refl
 take_answers_push scope fed (b ∷ answers) a = take_answers_push scope (take_answer scope fed fed.left b) answers a
