@@ -18,7 +18,7 @@ number_of Usage = 2
 number_of ReadFault = 3
 number_of WriteFault = 4
 number_of (Text line kind) = 5
-number_of (IllTyped line kind) = 6
+number_of (IllTyped line fault) = 6
 number_of (Limit line which found) = 7
 number_of NotBuilt = 9
 
@@ -65,7 +65,7 @@ status_line Usage = codes "usage: markus run, check, print, replay, gen or trace
 status_line ReadFault = codes "read failed\n"
 status_line WriteFault = codes "write failed\n"
 status_line (Text line kind) = at_line line (text_words kind)
-status_line (IllTyped line kind) = at_line line (typing_words kind)
+status_line (IllTyped line fault) = at_line line (typing_words fault)
 status_line (Limit line which found) = at_line line (limit_words which found)
 status_line NotBuilt = codes "not built\n"
 
@@ -77,7 +77,7 @@ IsBeforeWriting Usage = Unit {0}
 IsBeforeWriting ReadFault = Unit {0}
 IsBeforeWriting WriteFault = ⊥
 IsBeforeWriting (Text line kind) = Unit {0}
-IsBeforeWriting (IllTyped line kind) = Unit {0}
+IsBeforeWriting (IllTyped line fault) = Unit {0}
 IsBeforeWriting (Limit line which found) = Unit {0}
 IsBeforeWriting NotBuilt = Unit {0}
 
@@ -89,6 +89,6 @@ IsRefusal Usage = ⊥
 IsRefusal ReadFault = ⊥
 IsRefusal WriteFault = ⊥
 IsRefusal (Text line kind) = Unit {0}
-IsRefusal (IllTyped line kind) = Unit {0}
+IsRefusal (IllTyped line fault) = Unit {0}
 IsRefusal (Limit line which found) = Unit {0}
 IsRefusal NotBuilt = Unit {0}
