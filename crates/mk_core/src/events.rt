@@ -1,4 +1,100 @@
-//! What a call is answered.
+//! The events of a history: one access to one word of the shared table, by one seat.
+
+use mk_never::Op;
+
+/// Who makes a step: a caller or a marker, numbered from 0, or the host.
+#[derive(Clone, Copy, Debug, PartialEq, Eq)]
+pub enum Seat {
+    Caller(u64),
+    Marker(u64),
+    Host,
+}
+
+/// The name of a word of the shared table that can be looked at. Pages, callers, registers, globals and
+/// heap words are numbered from 0.
+#[derive(Clone, Copy, Debug, PartialEq, Eq)]
+pub enum Word {
+    Phase,
+    Gate(u64),
+    Reg { caller: u64, register: u64 },
+    Global(u64),
+    Head(u64),
+    Used(u64),
+    Quar(u64),
+    Mark(u64),
+    Black(u64),
+    Dirty(u64),
+    Heap(u64),
+    Held,
+    Fresh,
+    Cycles,
+    Released,
+    Full,
+}
+
+/// A count that the turn's holder keeps in the table.
+#[derive(Clone, Copy, Debug, PartialEq, Eq)]
+pub enum Tally {
+    Held,
+    Fresh,
+    Cycles,
+    Released,
+    Full,
+}
+
+/// A kind of step, with the numbers that are fixed before its access. What the access finds isn't among
+/// them.
+#[derive(Clone, Copy, Debug, PartialEq, Eq)]
+pub enum Step {
+    Enter(Op),
+    Leave,
+    Reg,
+    Probe,
+    Read,
+    Write,
+    Cas,
+    Getg,
+    Setg,
+    /// The host's carries no operation.
+    Take(Option<Op>),
+    Give,
+    Look(Word),
+    Head { page: u64, value: u64 },
+    Used { page: u64, value: u64 },
+    Quar { page: u64, value: u64 },
+    Grant,
+    Tally { tally: Tally, value: u64 },
+    Hold(u64),
+    Open(u64),
+    Clear(u64),
+    Mark { page: u64, value: u64 },
+    Wipe(u64),
+    Full,
+    Begin,
+    Close,
+    Release,
+    End,
+    Want,
+    Dirty,
+    Undirty(u64),
+    Black { page: u64, value: u64 },
+    Unblack(u64),
+    Attend,
+    Quit,
+    Mlook(Word),
+    Claim { page: u64, cell: u64 },
+    Mload,
+    Mmark,
+    Mblack,
+    Over,
+}
+
+/// One step of one seat.
+#[derive(Clone, Copy, Debug, PartialEq, Eq)]
+pub struct Event {
+    pub seat: Seat,
+    pub step: Step,
+}
 
 /// The image of a reply, in words: a pointer is its address, and null is 0.
 #[derive(Clone, Copy, Debug, PartialEq, Eq)]
@@ -11,4 +107,20 @@ pub enum Answer {
     Fault,
     Null,
     Double,
+}
+
+/// The refusal of an event that may not come next: the first condition that fails, 1 to 7.
+#[derive(Clone, Copy, Debug, PartialEq, Eq)]
+pub struct NotEnabled {
+    pub condition: u64,
+}
+
+/// The seats that a kind of step is open to: callers in a call, the holder of the turn, markers, or the
+/// host alone.
+#[derive(Clone, Copy, Debug, PartialEq, Eq)]
+pub enum Group {
+    Callers,
+    Turn,
+    Markers,
+    Host,
 }

@@ -1,0 +1,39 @@
+-- Tests that hold of each number below one.
+use Rattle.std.proofs.Common.{◌≡◌, ℕ, zero, suc, ◌+◌, ◌<◌, Bool, true, false, ◌&&◌, refl, sym, ◌∙◌, ap, inl, inr, arith, add-one}
+use Rattle.std.proofs.lemmas.Bool.{cases_eq}
+use Rattle.mk_core.specs.Tests.{all_below}
+
+and_left : (a b : Bool) → (a && b) ≡ true → (a ≡ true) × (b ≡ true)
+and_left true true h = (refl, refl)
+and_left true false h = cc
+and_left false b h = cc
+
+and_false : (a : Bool) → (a && false) ≡ false
+and_false true = refl
+and_false false = refl
+
+pub all_below_zero_is : (test : ℕ → Bool) → all_below 0 test ≡ true
+unfolding all_below
+all_below_zero_is test = refl
+
+-- one more
+pub all_below_more_is : (n : ℕ) (test : ℕ → Bool) → all_below n test ≡ true → test n ≡ true → all_below (n + 1) test ≡ true
+unfolding all_below
+all_below_more_is n test h t = rw (add-one, h) t
+
+-- where one fails, all does
+pub all_below_not_is : (n k : ℕ) (test : ℕ → Bool) → k < n → test k ≡ false → all_below n test ≡ false
+unfolding all_below
+all_below_not_is zero k test lt f = absurd (omega arith)
+all_below_not_is (suc n) k test lt f = elim (cases_eq k n) [
+  | inl e ↦ ap (λ b. all_below n test && b) (ap test (sym e) ∙ f) ∙ and_false (all_below n test)
+  | inr ne ↦ ap (λ b. b && test n) (all_below_not_is n k test (omega arith) f)
+]
+
+-- what it says of each
+pub all_below-at : (n k : ℕ) (test : ℕ → Bool) → all_below n test ≡ true → k < n → test k ≡ true
+unfolding all_below
+all_below-at zero k test h lt = absurd (omega arith)
+all_below-at (suc n) k test h lt =
+    let b = and_left (all_below n test) (test n) h in
+    elim (cases_eq k n) [ inl e ↦ ap test e ∙ b.1 | inr ne ↦ all_below-at n k test b.0 (omega arith) ]

@@ -1,0 +1,9 @@
+-- Bits of words.
+use Rattle.std.proofs.Common.{◌≡◌, ℕ, ◌^◌, ◌<◌, ◌≤◌, false, ap, arith}
+use Rattle.std.specs.Prelude.{◌==◌}
+use Rattle.std.proofs.lemmas.Nat.Bits.{bit_at_above}
+use Rattle.mk_core.specs.Tests.{has_bit}
+
+-- a word has no bit behind its last
+pub has_bit_past : (word k : ℕ) → word < 2 ^ 64 → 64 ≤ k → has_bit word k ≡ false
+has_bit_past word k lt le = ap (λ b. b == 1) (bit_at_above word 64 k lt le)

@@ -1,0 +1,2 @@
+pub mod AllBelow
+pub mod Bits

@@ -1,0 +1,199 @@
+-- The calls of callers: the operands and the steps of each operation, and what a step makes of the call in flight.
+use Rattle.std.specs.Prelude.{ℕ, ◌+◌, ◌-◌, ◌*◌, ◌/◌, ◌%◌, ◌^◌, Bool, true, false, ◌&&◌, not, nat_lt, ◌==◌, List, [], ◌∷◌, length, Option, Some, None, if◌then◌else◌}
+use Rattle.mk_never.specs.declared.operations.Op.{Op}
+use Rattle.mk_never.specs.declared.operations.Op.TheVariants as op
+use Rattle.mk_core.specs.declared.config.Config.{Config}
+use Rattle.mk_core.specs.declared.events.Answer.{Answer}
+use Rattle.mk_core.specs.declared.events.Answer.TheVariants as answer
+use Rattle.mk_core.specs.declared.seats.Stage.{Stage}
+use Rattle.mk_core.specs.declared.seats.Stage.TheVariants.{Idle, LoadQ, LoadP, LoadR, Probe, Read, Write, Cas, Getg, Setg, Store, Put, Dirty, Leave, Turn, Give}
+use Rattle.mk_core.specs.declared.seats.Flight.{Flight}
+use Rattle.mk_core.specs.declared.seats.Progress.{Progress}
+
+-- the registers q, p, r and d of an operation, its global, and its offset in words; 0 where it has none
+
+abbrev pub q_of : Op → ℕ
+q_of (op.GetNum q i) = q
+q_of (op.SetNum q i n) = q
+q_of (op.GetPtr d q i) = q
+q_of (op.SetPtr q i p) = q
+q_of (op.CasPtr q i p r) = q
+q_of (op.Lea d q i) = q
+q_of (op.Move d q) = q
+q_of (op.Same p q) = q
+q_of _ = 0
+
+abbrev pub p_of : Op → ℕ
+p_of (op.Free p) = p
+p_of (op.SetPtr q i p) = p
+p_of (op.CasPtr q i p r) = p
+p_of (op.SetGlobal g p) = p
+p_of (op.Same p q) = p
+p_of (op.IsNull p) = p
+p_of _ = 0
+
+abbrev pub r_of : Op → ℕ
+r_of (op.CasPtr q i p r) = r
+r_of _ = 0
+
+abbrev pub d_of : Op → ℕ
+d_of (op.New d ty full) = d
+d_of (op.GetPtr d q i) = d
+d_of (op.Lea d q i) = d
+d_of (op.Move d q) = d
+d_of (op.Clear d) = d
+d_of (op.GetGlobal d g) = d
+d_of _ = 0
+
+abbrev pub g_of : Op → ℕ
+g_of (op.GetGlobal d g) = g
+g_of (op.SetGlobal g p) = g
+g_of _ = 0
+
+abbrev pub i_of : Op → ℕ
+i_of (op.GetNum q i) = i
+i_of (op.SetNum q i n) = i
+i_of (op.GetPtr d q i) = i
+i_of (op.SetPtr q i p) = i
+i_of (op.CasPtr q i p r) = i
+i_of (op.Lea d q i) = i
+i_of _ = 0
+
+abbrev pub has_type : Config → Op → Bool
+has_type c (op.New d ty full) = nat_lt ty (length c.types)
+has_type c _ = true
+
+-- the registers, the global and the type of an operation are there
+abbrev pub has_operands : Config → Op → Bool
+has_operands c o =
+    nat_lt (q_of o) 8 && nat_lt (p_of o) 8 && nat_lt (r_of o) 8 && nat_lt (d_of o) 8 && nat_lt (g_of o) 64 && has_type c o
+
+-- a call of the operation begins with `take`, and else with `enter`
+abbrev pub is_under_turn : Op → Bool
+is_under_turn (op.New d ty full) = true
+is_under_turn (op.Free p) = true
+is_under_turn _ = false
+
+-- the steps behind that one, in order
+abbrev pub steps_of : Op → List Stage
+steps_of (op.GetNum q i) = LoadQ ∷ Probe ∷ Read ∷ Leave ∷ []
+steps_of (op.GetPtr d q i) = LoadQ ∷ Probe ∷ Read ∷ Put ∷ Leave ∷ []
+steps_of (op.SetNum q i n) = LoadQ ∷ Probe ∷ Write ∷ Dirty ∷ Leave ∷ []
+steps_of (op.SetPtr q i p) = LoadQ ∷ LoadP ∷ Probe ∷ Write ∷ Dirty ∷ Leave ∷ []
+steps_of (op.CasPtr q i p r) = LoadQ ∷ LoadP ∷ LoadR ∷ Probe ∷ Cas ∷ Dirty ∷ Leave ∷ []
+steps_of (op.Lea d q i) = LoadQ ∷ Store ∷ Leave ∷ []
+steps_of (op.Move d q) = LoadQ ∷ Store ∷ Leave ∷ []
+steps_of (op.Clear d) = Store ∷ Leave ∷ []
+steps_of (op.GetGlobal d g) = Getg ∷ Put ∷ Leave ∷ []
+steps_of (op.SetGlobal g p) = LoadP ∷ Setg ∷ Leave ∷ []
+steps_of (op.Same p q) = LoadP ∷ LoadQ ∷ Leave ∷ []
+steps_of (op.IsNull p) = LoadP ∷ Leave ∷ []
+steps_of (op.New d ty full) = Turn ∷ Give ∷ []
+steps_of (op.Free p) = LoadP ∷ Turn ∷ Give ∷ []
+
+abbrev pub number_of_stage : Stage → ℕ
+number_of_stage Idle = 0
+number_of_stage LoadQ = 1
+number_of_stage LoadP = 2
+number_of_stage LoadR = 3
+number_of_stage Probe = 4
+number_of_stage Read = 5
+number_of_stage Write = 6
+number_of_stage Cas = 7
+number_of_stage Getg = 8
+number_of_stage Setg = 9
+number_of_stage Store = 10
+number_of_stage Put = 11
+number_of_stage Dirty = 12
+number_of_stage Leave = 13
+number_of_stage Turn = 14
+number_of_stage Give = 15
+
+abbrev pub first_of : List Stage → Stage
+first_of [] = Idle
+first_of (s ∷ ss) = s
+
+-- the stage behind this one
+abbrev pub stage_behind : Stage → List Stage → Stage
+stage_behind stage [] = Idle
+stage_behind stage (s ∷ ss) = if number_of_stage s == number_of_stage stage then first_of ss else stage_behind stage ss
+
+-- the stage behind a refusal: a register that would have been loaded becomes null first
+abbrev pub stage_refused : Op → Stage
+stage_refused (op.GetPtr d q i) = Put
+stage_refused (op.Lea d q i) = Put
+stage_refused _ = Leave
+
+-- no call
+abbrev pub at_rest : Flight
+at_rest = record { stage = Idle; op = op.IsNull 0; q = 0; p = 0; r = 0; loaded = 0 }
+
+abbrev pub begun : Op → Flight
+begun o = record { stage = first_of (steps_of o); op = o; q = 0; p = 0; r = 0; loaded = 0 }
+
+-- the heap word that an access meets, in whole numbers, and its page
+abbrev pub word_met : Flight → ℕ
+word_met f = (f.q - 65536) / 8 + i_of f.op
+
+abbrev pub page_met : Flight → ℕ
+page_met f = word_met f / 64
+
+-- what the deciding store puts into d
+abbrev pub value_for : Flight → Op → ℕ
+value_for f (op.Lea d q i) = (f.q + 8 * i) % 2 ^ 64
+value_for f (op.Move d q) = f.q
+value_for f _ = 0
+
+-- what a write stores
+abbrev pub value_written : Flight → Op → ℕ
+value_written f (op.SetNum q i n) = n
+value_written f _ = f.p
+
+-- the next step of the call, undecided or decided by this answer
+abbrev pub onward : Flight → Option Answer → Progress
+onward f a = record { flight = record f { stage = stage_behind f.stage (steps_of f.op) }; answer = a }
+
+-- nothing is decided, and the call stays where it is
+abbrev pub still : Flight → Progress
+still f = record { flight = f; answer = None }
+
+abbrev pub refused : Flight → Answer → Progress
+refused f a = record { flight = record f { stage = stage_refused f.op; loaded = 0 }; answer = Some a }
+
+abbrev pub one_if : Bool → ℕ
+one_if true = 1
+one_if false = 0
+
+-- `reg` that loads q and finds this value
+abbrev pub progress_q : Flight → Op → ℕ → Progress
+progress_q f (op.Move d q) found = onward (record f { q = found }) None
+progress_q f (op.Same p q) found = onward (record f { q = found }) (Some (answer.Num (one_if (f.p == found))))
+progress_q f _ found = if found == 0 then refused (record f { q = found }) answer.Null else onward (record f { q = found }) None
+
+-- `reg` that loads p
+abbrev pub progress_p : Flight → Op → ℕ → Progress
+progress_p f (op.IsNull p) found = onward (record f { p = found }) (Some (answer.Num (one_if (found == 0))))
+progress_p f (op.Free p) found =
+    if found == 0
+    then record { flight = record f { stage = Give; p = found }; answer = Some answer.Done }
+    else onward (record f { p = found }) None
+progress_p f _ found = onward (record f { p = found }) None
+
+abbrev pub progress_reg : Flight → Stage → ℕ → Progress
+progress_reg f LoadQ found = progress_q f f.op found
+progress_reg f LoadP found = progress_p f f.op found
+progress_reg f LoadR found = onward (record f { r = found }) None
+progress_reg f Store found = onward f (Some answer.Done)
+progress_reg f Put found = onward f None
+progress_reg f _ found = still f
+
+-- `read`: a number is the answer, and a pointer is put into d besides
+abbrev pub progress_read : Flight → Op → ℕ → Progress
+progress_read f (op.GetPtr d q i) found = onward (record f { loaded = found }) (Some (answer.Word found))
+progress_read f _ found = onward f (Some (answer.Num found))
+
+abbrev pub progress_cas : Flight → ℕ → Progress
+progress_cas f found = onward f (Some (answer.Num (one_if (found == f.p))))
+
+abbrev pub progress_getg : Flight → ℕ → Progress
+progress_getg f found = onward (record f { loaded = found }) (Some (answer.Word found))

@@ -1,0 +1,128 @@
+-- Cells and runs as the words show them.
+use Rattle.std.specs.Prelude.{ℕ, ◌+◌, ◌-◌, ◌*◌, ◌/◌, ◌^◌, Bool, true, false, ◌&&◌, ◌||◌, not, ◌==◌, nat_le, nat_lt, Option, Some, None, slice_index, bit_and}
+use Rattle.mk_geom.specs.declared.addresses.Cell.{Cell}
+use Rattle.mk_geom.specs.declared.headers.Header.{Header}
+use Rattle.mk_geom.specs.declared.headers.Header.TheVariants.{Free, Block, Run, Later, LeafBlock, LeafRun}
+use Rattle.mk_geom.specs.Classes.{cells_of, class_words_of}
+use Rattle.mk_geom.specs.Headers.{header_of}
+use Rattle.mk_geom.specs.Addresses.{cell_at, page_at_address}
+use Rattle.mk_core.specs.declared.seats.RunPages.{RunPages}
+use Rattle.mk_core.specs.Image.{address_of}
+use Rattle.mk_core.specs.Words.{Words, header_at, used_at}
+use Rattle.mk_core.specs.Tests.{all_below, has_bit, without}
+use Rattle.mk_core.specs.Moments.{is_phase}
+
+-- how many cells there are under a header; a run is one, at its head page
+abbrev pub cells_under : Option Header → ℕ
+cells_under (Some (Block class)) = cells_of class
+cells_under (Some (LeafBlock class)) = cells_of class
+cells_under (Some (Run count mapped)) = 1
+cells_under (Some (LeafRun count)) = 1
+cells_under _ = 0
+
+-- the words of one of them
+abbrev pub words_under : Option Header → ℕ
+words_under (Some (Block class)) = class_words_of class
+words_under (Some (LeafBlock class)) = class_words_of class
+words_under (Some (Run count mapped)) = 64 * count
+words_under (Some (LeafRun count)) = 64 * count
+words_under _ = 0
+
+-- the run that has its head there
+abbrev pub run_headed : Option Header → ℕ → Option RunPages
+run_headed (Some (Run count mapped)) page = Some (record { page = page; count = count })
+run_headed (Some (LeafRun count)) page = Some (record { page = page; count = count })
+run_headed _ page = None
+
+abbrev pub heads_run : Option Header → Bool
+heads_run (Some (Run count mapped)) = true
+heads_run (Some (LeafRun count)) = true
+heads_run _ = false
+
+abbrev pub is_leaf_header : Option Header → Bool
+is_leaf_header (Some (LeafBlock class)) = true
+is_leaf_header (Some (LeafRun count)) = true
+is_leaf_header _ = false
+
+-- the page is one of an unmapped run
+abbrev pub is_unmapped_header : Option Header → Bool
+is_unmapped_header (Some (Run count mapped)) = not mapped
+is_unmapped_header (Some (Later distance mapped)) = not mapped
+is_unmapped_header _ = false
+
+abbrev pub header_in : Words → ℕ → Option Header
+header_in w p = header_of (header_at w p)
+
+abbrev pub head_behind : Option Header → ℕ → ℕ
+head_behind (Some (Later distance mapped)) page = page - distance
+head_behind _ page = page
+
+-- the head page of a page's run; another page is its own
+abbrev pub head_page : Words → ℕ → ℕ
+head_page w p = head_behind (header_in w p) p
+
+-- the bits of a page's cells
+abbrev pub cell_bits : Words → ℕ → ℕ
+cell_bits w p = 2 ^ cells_under (header_in w p) - 1
+
+-- the first word of a cell, and how many it has
+abbrev pub first_word : Words → Cell → ℕ
+first_word w cell = 64 * cell.page + cell.index * words_under (header_in w cell.page)
+
+abbrev pub cell_words : Words → Cell → ℕ
+cell_words w cell = words_under (header_in w cell.page)
+
+-- What a value points into, by lookup, in a heap of so many pages.
+abbrev pub pointed_cell : ℕ → Words → ℕ → Option Cell
+pointed_cell pages w value = cell_at pages (header_at w (page_at_address value)) value
+
+abbrev pub is_used : Words → Cell → Bool
+is_used w cell = has_bit (used_at w cell.page) cell.index
+
+abbrev pub is_freed : Words → Cell → Bool
+is_freed w cell = has_bit (slice_index w.freed cell.page) cell.index
+
+abbrev pub is_marked : Words → Cell → Bool
+is_marked w cell = has_bit (slice_index w.marks cell.page) cell.index
+
+-- The cell isn't scanned: its type has no pointer, or its run is unmapped.
+abbrev pub has_no_pointers : Option Header → Bool
+has_no_pointers header = is_leaf_header header || is_unmapped_header header
+
+abbrev pub is_marked_cell : Words → Option Cell → Bool
+is_marked_cell w (Some cell) = is_marked w cell
+is_marked_cell w None = true
+
+-- The value points into nothing, or into a marked cell.
+abbrev pub points_well : ℕ → Words → ℕ → Bool
+points_well pages w value = is_marked_cell w (pointed_cell pages w value)
+
+abbrev pub word_points_well : ℕ → Words → ℕ → Bool
+word_points_well pages w n = points_well pages w (slice_index w.heap n)
+
+abbrev pub words_point_well : ℕ → Words → Cell → Bool
+words_point_well pages w cell = all_below (cell_words w cell) (λ i. word_points_well pages w (first_word w cell + i))
+
+abbrev pub words_are_zero : Words → ℕ → ℕ → Bool
+words_are_zero w first count = all_below count (λ i. slice_index w.heap (first + i) == 0)
+
+-- A released cell, while the phase is releasing: in the snapshot, and not marked.
+abbrev pub is_released : Words → Cell → Bool
+is_released w cell =
+    is_phase w 4 && has_bit (slice_index w.snapshot cell.page) cell.index && not (is_marked w cell)
+
+abbrev pub is_released_cell : Words → Option Cell → Bool
+is_released_cell w (Some cell) = is_released w cell
+is_released_cell w None = false
+
+-- of a page's cells these, as bits, are all released
+abbrev pub are_released : Words → ℕ → ℕ → Bool
+are_released w p bits =
+    (without bits (slice_index w.snapshot p) == 0) && (bit_and bits (slice_index w.marks p) == 0)
+
+-- no cell of the page is released
+abbrev pub none_is_released : Words → ℕ → Bool
+none_is_released w p = without (slice_index w.snapshot p) (slice_index w.marks p) == 0
+
+abbrev pub is_in_run : RunPages → ℕ → Bool
+is_in_run run n = nat_le run.page (n / 64) && nat_lt (n / 64 - run.page) run.count

@@ -1,0 +1,79 @@
+-- Which event may come next: the first of the seven conditions that fails, or 0.
+use Rattle.std.specs.Prelude.{◌≡◌, ℕ, ◌+◌, ◌*◌, Bool, true, false, ◌&&◌, not, ◌==◌, Option, Some, None, if◌then◌else◌}
+use Rattle.mk_core.specs.declared.config.Config.{Config}
+use Rattle.mk_core.specs.declared.events.Seat.{Seat}
+use Rattle.mk_core.specs.declared.events.Seat.TheVariants.{Caller, Marker, Host}
+use Rattle.mk_core.specs.declared.events.Step.{Step}
+use Rattle.mk_core.specs.declared.events.Step.TheVariants as step
+use Rattle.mk_core.specs.declared.events.Event.{Event}
+use Rattle.mk_core.specs.declared.seats.Flight.{Flight}
+use Rattle.mk_core.specs.declared.seats.Marker.{Marker as MarkerState}
+use Rattle.mk_core.specs.declared.seats.Placing.{Placing}
+use Rattle.mk_core.specs.declared.seats.Placing.TheVariants.{Unplaced, Chosen, Used, Granted}
+use Rattle.mk_core.specs.Words.{phase_of}
+use Rattle.mk_core.specs.Moments.{Moment, flight_of, marker_of}
+use Rattle.mk_core.specs.Order.{seat_exists, group_of, is_open_to, is_in_order}
+use Rattle.mk_core.specs.Ranges.{is_in_range, has_gates, has_phase}
+use Rattle.mk_core.specs.NewPlaces.{is_run_gone}
+use Rattle.mk_core.specs.TurnConditions.{may_head, may_use, may_quarantine, may_give, may_wipe, is_full, is_used_once}
+use Rattle.mk_core.specs.StopConditions.{may_mark, may_begin, may_close, may_end, may_undirty, may_black, may_unblack}
+use Rattle.mk_core.specs.MarkerConditions.{is_out, may_mlook, may_claim, may_mload, may_mmark, may_mblack, may_end_all}
+
+-- condition 7 for the kinds of a marker
+abbrev pub marker_may : Config → MarkerState → Step → Bool
+marker_may c x step.Attend = is_out x.presence
+marker_may c x step.Quit = not (is_out x.presence)
+marker_may c x (step.Mlook w) = may_mlook x w
+marker_may c x (step.Claim p k) = may_claim x p k
+marker_may c x step.Mload = may_mload x
+marker_may c x step.Mmark = may_mmark c x
+marker_may c x step.Mblack = may_mblack x
+marker_may c x _ = true
+
+-- condition 7 for the kinds of the turn's holder, where its call is f
+abbrev pub holder_may : Config → Moment → Flight → Step → Bool
+holder_may c m f step.Give = may_give m f
+holder_may c m f (step.Head p v) = may_head c m f p v
+holder_may c m f (step.Used p v) = may_use c m f p v
+holder_may c m f (step.Quar p v) = may_quarantine c m f p v
+holder_may c m f step.Grant = is_used_once m.seats.holding.placing
+holder_may c m f (step.Open j) = is_run_gone m.words m.seats.holding.freed
+holder_may c m f (step.Mark p v) = may_mark c m f p v
+holder_may c m f (step.Wipe n) = may_wipe c m n
+holder_may c m f step.Full = is_full c m.words f m.seats.holding.placing m.seats.holding.cycle
+holder_may c m f step.Begin = may_begin c.pages m.words
+holder_may c m f step.Close = may_close c m
+holder_may c m f step.End = may_end c.pages m.words
+holder_may c m f (step.Undirty p) = may_undirty m p
+holder_may c m f (step.Black p v) = may_black c m p v
+holder_may c m f (step.Unblack p) = may_unblack m
+holder_may c m f step.Over = may_end_all c m
+holder_may c m f _ = true
+
+abbrev pub meets_own : Config → Moment → Seat → Step → Bool
+meets_own c m (Marker k) s = marker_may c (marker_of m k) s
+meets_own c m (Caller k) s = holder_may c m (flight_of m (Caller k)) s
+meets_own c m Host s = holder_may c m (flight_of m Host) s
+
+-- The first condition that fails, or 0 where none does.
+abbrev pub failing : Config → Moment → Event → ℕ
+failing c m e =
+    if seat_exists c e.seat
+    then
+    (if is_open_to e.seat (group_of e.step)
+    then
+    (if is_in_order c m e.seat e.step
+    then
+    (if is_in_range c e.seat (flight_of m e.seat) e.step
+    then
+    (if has_gates c m.words e.seat (flight_of m e.seat) e.step
+    then
+    (if has_phase (phase_of m.words) e.step then (if meets_own c m e.seat e.step then 0 else 7) else 6)
+    else 5)
+    else 4)
+    else 3)
+    else 2)
+    else 1
+
+abbrev pub IsEnabled : Config → Moment → Event → Type 0
+IsEnabled c m e = failing c m e ≡ 0

@@ -1,0 +1,74 @@
+-- A moment: the words of the table, and what each seat is in the middle of. It decides which event may come next.
+use Rattle.std.specs.Prelude.{ℕ, ◌+◌, Bool, true, false, ◌&&◌, ◌||◌, not, ◌==◌, List, replicate, slice_index, slice_index_or, Option, None}
+use Rattle.mk_core.specs.declared.config.Config.{Config}
+use Rattle.mk_core.specs.declared.events.Seat.{Seat}
+use Rattle.mk_core.specs.declared.events.Seat.TheVariants.{Caller, Marker, Host}
+use Rattle.mk_core.specs.declared.seats.Flight.{Flight}
+use Rattle.mk_core.specs.declared.seats.Holding.{Holding}
+use Rattle.mk_core.specs.declared.seats.Placing.TheVariants.{Unplaced}
+use Rattle.mk_core.specs.declared.seats.OwnCycle.TheVariants.{NotBegun}
+use Rattle.mk_core.specs.declared.seats.Marker.{Marker as MarkerState}
+use Rattle.mk_core.specs.declared.seats.Presence.TheVariants.{Out}
+use Rattle.mk_core.specs.Words.{Words, zero_words_of, phase_of}
+use Rattle.mk_core.specs.Calls.{at_rest}
+use Rattle.mk_core.specs.Tests.{all_below}
+
+-- each caller's call, what the turn's holder has done, and the markers
+pub record Seats : Type 0 where
+  pub flights : List Flight
+  pub holding : Holding
+  pub markers : List MarkerState
+
+-- The count of fresh words is kept beside the table: the storage of the small objects freed behind the last `begin`.
+pub record Moment : Type 0 where
+  pub words : Words
+  pub seats : Seats
+  pub fresh_words : ℕ
+
+abbrev pub nothing_done : Holding
+nothing_done = record { hand = None; placing = Unplaced; freed = None; cycle = NotBegun }
+
+abbrev pub outside : MarkerState
+outside = record { presence = Out; scan = None; hand = None; seen = None }
+
+-- There are eight markers.
+abbrev pub first_moment : Config → Moment
+first_moment c =
+    record {
+      words = zero_words_of c.pages;
+      seats = record { flights = replicate c.callers at_rest; holding = nothing_done; markers = replicate 8 outside };
+      fresh_words = 0;
+    }
+
+-- the call of a seat; a host and a marker have none
+abbrev pub flight_of : Moment → Seat → Flight
+flight_of m (Caller k) = slice_index_or m.seats.flights k at_rest
+flight_of m (Marker k) = at_rest
+flight_of m Host = at_rest
+
+abbrev pub marker_of : Moment → ℕ → MarkerState
+marker_of m k = slice_index_or m.seats.markers k outside
+
+-- the number by which the turn names its holder
+abbrev pub holder_number : Config → Seat → ℕ
+holder_number c (Caller k) = k
+holder_number c (Marker k) = c.callers
+holder_number c Host = c.callers
+
+abbrev pub is_number_of : Seat → ℕ → Bool
+is_number_of (Caller k) j = k == j
+is_number_of (Marker k) j = false
+is_number_of Host j = false
+
+abbrev pub is_held : Words → ℕ → Bool
+is_held w j = slice_index w.gates j == 2
+
+-- all gates but the seat's own are held
+abbrev pub others_are_held : ℕ → Words → Seat → Bool
+others_are_held callers w seat = all_below callers (λ j. is_number_of seat j || is_held w j)
+
+abbrev pub none_is_held : ℕ → Words → Bool
+none_is_held callers w = all_below callers (λ j. not (is_held w j))
+
+abbrev pub is_phase : Words → ℕ → Bool
+is_phase w n = phase_of w == n

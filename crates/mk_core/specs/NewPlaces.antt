@@ -1,0 +1,126 @@
+-- The place of a New and what its pages become, and the object of a Free, over the words as they are.
+use Rattle.std.specs.Prelude.{ℕ, ◌+◌, ◌-◌, ◌*◌, ◌^◌, Bool, true, false, ◌&&◌, ◌==◌, nat_le, nat_lt, not, List, [], length, Option, Some, None, option_and_then, unwrap_or, if◌then◌else◌}
+use Rattle.std.specs.List.{list_all}
+use Rattle.mk_never.specs.declared.types.Kind.{Kind}
+use Rattle.mk_never.specs.declared.types.Kind.TheVariants.{Num, To}
+use Rattle.mk_never.specs.declared.operations.Op.{Op}
+use Rattle.mk_never.specs.declared.operations.Op.TheVariants as op
+use Rattle.mk_never.specs.Types.{kinds_of}
+use Rattle.mk_geom.specs.declared.addresses.Cell.{Cell}
+use Rattle.mk_geom.specs.declared.pages.Place.{Place}
+use Rattle.mk_geom.specs.Classes.{class_for, class_words_of, cells_of, run_pages_of}
+use Rattle.mk_geom.specs.Headers.{word_of}
+use Rattle.mk_geom.specs.PageUses.{place_among}
+use Rattle.mk_geom.specs.PageWords.{uses_of_pages}
+use Rattle.mk_geom.specs.Storages.{block_header, run_header}
+use Rattle.mk_core.specs.declared.config.Config.{Config}
+use Rattle.mk_core.specs.declared.seats.Flight.{Flight}
+use Rattle.mk_core.specs.declared.seats.Stage.{Stage}
+use Rattle.mk_core.specs.declared.seats.Stage.TheVariants.{Turn}
+use Rattle.mk_core.specs.declared.seats.Placing.{Placing}
+use Rattle.mk_core.specs.declared.seats.Placing.TheVariants.{Unplaced, Chosen, Used, Granted}
+use Rattle.mk_core.specs.declared.seats.RunPages.{RunPages}
+use Rattle.mk_core.specs.declared.seats.Object.{Object}
+use Rattle.mk_core.specs.Words.{Words, header_at}
+use Rattle.mk_core.specs.Tests.{all_below}
+use Rattle.mk_core.specs.Cells.{pointed_cell, words_are_zero}
+use Rattle.mk_core.specs.Moments.{Moment}
+
+abbrev pub is_number : Kind → Bool
+is_number Num = true
+is_number (To ty offset) = false
+
+-- a type without a pointer
+abbrev pub is_leaf : List Kind → Bool
+is_leaf kinds = list_all is_number kinds
+
+-- an object of these words
+abbrev pub object_of : List Kind → Object
+object_of kinds = record { words = length kinds; leaf = is_leaf kinds }
+
+-- the object that a New makes
+abbrev pub object_made : Config → Op → Object
+object_made c (op.New d ty full) = object_of (kinds_of c.types ty)
+object_made c _ = object_of []
+
+-- where an object goes by first fit, with so many pages resident at most
+abbrev pub first_fit : ℕ → Words → Object → Option Place
+first_fit resident w o = place_among resident o.words o.leaf (uses_of_pages w.pages)
+
+-- A New has one place: the first fit, up to the first step that serves its object.
+abbrev pub place_in : ℕ → Words → Object → Placing → Option Place
+place_in resident w o Unplaced = first_fit resident w o
+place_in resident w o (Chosen place) = Some place
+place_in resident w o (Used place) = Some place
+place_in resident w o Granted = None
+
+abbrev pub class_made : Object → ℕ
+class_made o = unwrap_or (class_for o.words) 0
+
+abbrev pub is_small_object : Object → Bool
+is_small_object o = nat_le o.words 32
+
+-- how many pages an object's cell or run has from its place's page on
+abbrev pub pages_made : Object → ℕ
+pages_made o = if is_small_object o then 1 else run_pages_of o.words
+
+-- the header word that the page so far behind the first of them gets
+abbrev pub header_made : Object → ℕ → ℕ
+header_made o distance =
+    if is_small_object o
+    then word_of (block_header (class_made o) o.leaf)
+    else word_of (run_header (run_pages_of o.words) true o.leaf distance)
+
+-- the bits of the cells that these headers make
+abbrev pub bits_made : Object → ℕ
+bits_made o = if is_small_object o then 2 ^ cells_of (class_made o) - 1 else 1
+
+-- the first heap word of the object
+abbrev pub base_made : Object → Place → ℕ
+base_made o place =
+    64 * place.page + (if is_small_object o then place.index * class_words_of (class_made o) else 0)
+
+-- the page so far behind a first one has the header word that is wanted there
+abbrev pub stands : Words → ℕ → (ℕ → ℕ) → ℕ → Bool
+stands w first wanted distance = header_at w (first + distance) == wanted distance
+
+-- The page is the first of so many that hasn't the header word that is wanted there, and the value is that word.
+abbrev pub is_next_header : Words → ℕ → ℕ → (ℕ → ℕ) → ℕ → ℕ → Bool
+is_next_header w first count wanted page value =
+    nat_le first page && nat_lt (page - first) count && not (header_at w page == wanted (page - first))
+    && all_below (page - first) (stands w first wanted) && (value == wanted (page - first))
+
+-- The pages of the place have the header words of the object.
+abbrev pub place_stands : Words → Object → Place → Bool
+place_stands w o place = all_below (pages_made o) (stands w place.page (header_made o))
+
+-- the header word of an unmapped run's page
+abbrev pub unmapped_header : ℕ → ℕ → ℕ
+unmapped_header count distance = word_of (run_header count false false distance)
+
+abbrev pub is_run_unmapped : Words → RunPages → Bool
+is_run_unmapped w run = all_below run.count (stands w run.page (unmapped_header run.count))
+
+-- The run that a call freed, if it freed one, is unmapped and wiped.
+abbrev pub is_run_gone : Words → Option RunPages → Bool
+is_run_gone w None = true
+is_run_gone w (Some run) = is_run_unmapped w run && words_are_zero w (64 * run.page) (64 * run.count)
+
+-- before the step that decides a New, or a Free whose register is loaded
+abbrev pub is_undecided_new : Flight → Bool
+is_undecided_new f = is_new_at f.stage f.op
+  where
+    is_new_at : Stage → Op → Bool
+    is_new_at Turn (op.New d ty full) = true
+    is_new_at _ _ = false
+
+abbrev pub is_undecided_free : Flight → Bool
+is_undecided_free f = is_free_at f.stage f.op
+  where
+    is_free_at : Stage → Op → Bool
+    is_free_at Turn (op.Free p) = true
+    is_free_at _ _ = false
+
+-- the cell that a Free frees: what its register points into
+abbrev pub target : ℕ → Words → Flight → Option Cell
+target pages w f = if is_undecided_free f then pointed_cell pages w f.p else None

@@ -1,0 +1,103 @@
+-- Conditions 4, 5 and 6: the arguments are in range, and the gates and the phase are as the kind asks.
+use Rattle.std.specs.Prelude.{ℕ, ◌*◌, Bool, true, false, ◌&&◌, ◌||◌, not, nat_lt, nat_le, ◌==◌, Option, Some, None}
+use Rattle.mk_geom.specs.declared.addresses.Cell.{Cell}
+use Rattle.mk_geom.specs.Headers.{header_of}
+use Rattle.mk_core.specs.declared.config.Config.{Config}
+use Rattle.mk_core.specs.declared.events.Seat.{Seat}
+use Rattle.mk_core.specs.declared.events.Word.{Word}
+use Rattle.mk_core.specs.declared.events.Word.TheVariants as word
+use Rattle.mk_core.specs.declared.events.Step.{Step}
+use Rattle.mk_core.specs.declared.events.Step.TheVariants as step
+use Rattle.mk_core.specs.declared.seats.Flight.{Flight}
+use Rattle.mk_core.specs.Words.{Words, phase_of}
+use Rattle.mk_core.specs.Calls.{has_operands, word_met}
+use Rattle.mk_core.specs.Cells.{header_in, heads_run, is_unmapped_header}
+use Rattle.mk_core.specs.NewPlaces.{target}
+use Rattle.mk_core.specs.Moments.{Moment, flight_of, is_number_of, is_held, others_are_held, none_is_held, is_phase}
+
+abbrev pub is_word : Config → Word → Bool
+is_word c (word.Gate j) = nat_lt j c.callers
+is_word c (word.Reg j r) = nat_lt j c.callers && nat_lt r 8
+is_word c (word.Global g) = nat_lt g 64
+is_word c (word.Head p) = nat_lt p c.pages
+is_word c (word.Used p) = nat_lt p c.pages
+is_word c (word.Quar p) = nat_lt p c.pages
+is_word c (word.Mark p) = nat_lt p c.pages
+is_word c (word.Black p) = nat_lt p c.pages
+is_word c (word.Dirty p) = nat_lt p c.pages
+is_word c (word.Heap n) = nat_lt n (64 * c.pages)
+is_word c _ = true
+
+abbrev pub is_other_caller : Config → Seat → ℕ → Bool
+is_other_caller c seat j = nat_lt j c.callers && not (is_number_of seat j)
+
+-- The word that a call accesses is one of the heap. It is at its `probe`, and then stays the same.
+abbrev pub is_word_met : Config → Flight → Bool
+is_word_met c f = nat_le 65536 f.q && nat_lt (word_met f) (64 * c.pages)
+
+-- condition 4
+abbrev pub is_in_range : Config → Seat → Flight → Step → Bool
+is_in_range c seat f (step.Enter o) = has_operands c o
+is_in_range c seat f (step.Take (Some o)) = has_operands c o
+is_in_range c seat f step.Probe = is_word_met c f
+is_in_range c seat f step.Read = is_word_met c f
+is_in_range c seat f step.Write = is_word_met c f
+is_in_range c seat f step.Cas = is_word_met c f
+is_in_range c seat f step.Dirty = is_word_met c f
+is_in_range c seat f (step.Look x) = is_word c x
+is_in_range c seat f (step.Head p v) = nat_lt p c.pages
+is_in_range c seat f (step.Used p v) = nat_lt p c.pages
+is_in_range c seat f (step.Quar p v) = nat_lt p c.pages
+is_in_range c seat f (step.Hold j) = is_other_caller c seat j
+is_in_range c seat f (step.Open j) = is_other_caller c seat j
+is_in_range c seat f (step.Clear p) = nat_lt p c.pages
+is_in_range c seat f (step.Mark p v) = nat_lt p c.pages
+is_in_range c seat f (step.Wipe n) = nat_lt n (64 * c.pages)
+is_in_range c seat f (step.Undirty p) = nat_lt p c.pages
+is_in_range c seat f (step.Black p v) = nat_lt p c.pages
+is_in_range c seat f (step.Unblack p) = nat_lt p c.pages
+is_in_range c seat f (step.Mlook x) = is_word c x
+is_in_range c seat f (step.Claim p k) = nat_lt p c.pages && nat_lt k 32
+is_in_range c seat f _ = true
+
+-- An undecided Free whose register points into a run is of a large object.
+abbrev pub is_run_cell : Words → Option Cell → Bool
+is_run_cell w (Some cell) = heads_run (header_in w cell.page)
+is_run_cell w None = false
+
+-- condition 5
+abbrev pub has_gates : Config → Words → Seat → Flight → Step → Bool
+has_gates c w seat f step.Give = none_is_held c.callers w
+has_gates c w seat f (step.Look (word.Reg j r)) = is_number_of seat j || is_held w j
+has_gates c w seat f (step.Head p v) = not (is_unmapped_header (header_of v)) || others_are_held c.callers w seat
+has_gates c w seat f (step.Quar p v) = not (is_run_cell w (target c.pages w f)) || others_are_held c.callers w seat
+has_gates c w seat f (step.Hold j) = not (is_held w j)
+has_gates c w seat f (step.Open j) = is_held w j
+has_gates c w seat f step.Close = others_are_held c.callers w seat
+has_gates c w seat f step.Release = others_are_held c.callers w seat
+has_gates c w seat f step.Want = others_are_held c.callers w seat
+has_gates c w seat f (step.Undirty p) = not (is_phase w 2) || others_are_held c.callers w seat
+has_gates c w seat f (step.Black p v) = others_are_held c.callers w seat
+has_gates c w seat f (step.Unblack p) = not (is_phase w 2) || others_are_held c.callers w seat
+has_gates c w seat f _ = true
+
+-- condition 6, of the phase; where it goes by case, it is one that a case names
+abbrev pub has_phase : ℕ → Step → Bool
+has_phase n step.Give = (n == 0) || (n == 1) || (n == 5)
+has_phase n (step.Head p v) = (n == 0) || (n == 1) || (n == 4)
+has_phase n (step.Used p v) = (n == 0) || (n == 1) || (n == 4)
+has_phase n (step.Quar p v) = (n == 0) || (n == 1) || (n == 4)
+has_phase n step.Grant = (n == 0) || (n == 1)
+has_phase n (step.Open j) = not (n == 3)
+has_phase n (step.Clear p) = n == 0
+has_phase n (step.Mark p v) = (n == 1) || (n == 2)
+has_phase n step.Full = n == 0
+has_phase n step.Begin = n == 0
+has_phase n step.Close = n == 2
+has_phase n step.Release = n == 3
+has_phase n step.End = n == 4
+has_phase n step.Want = n == 1
+has_phase n (step.Undirty p) = (n == 0) || (n == 2)
+has_phase n (step.Black p v) = n == 2
+has_phase n (step.Unblack p) = (n == 0) || (n == 2)
+has_phase n _ = true

@@ -1,0 +1,95 @@
+-- Condition 7 for the kinds of the turn's holder that mark, begin, close and end a cycle.
+use Rattle.std.specs.Prelude.{ℕ, ◌+◌, ◌-◌, ◌*◌, ◌^◌, Bool, true, false, ◌&&◌, ◌||◌, not, nat_lt, ◌==◌, List, Option, Some, None, if◌then◌else◌, slice_index, bit_and}
+use Rattle.std.specs.List.{list_all}
+use Rattle.mk_geom.specs.declared.addresses.Cell.{Cell}
+use Rattle.mk_geom.specs.declared.pages.Place.{Place}
+use Rattle.mk_core.specs.declared.config.Config.{Config}
+use Rattle.mk_core.specs.declared.seats.Flight.{Flight}
+use Rattle.mk_core.specs.declared.seats.Hand.{Hand}
+use Rattle.mk_core.specs.declared.seats.Marker.{Marker}
+use Rattle.mk_core.specs.declared.seats.Presence.{Presence}
+use Rattle.mk_core.specs.declared.seats.Presence.TheVariants.{Out, Visiting, Attending}
+use Rattle.mk_core.specs.Words.{Words, header_at, used_at}
+use Rattle.mk_core.specs.Tests.{all_below, has_bit, without}
+use Rattle.mk_core.specs.Cells.{header_in, head_page, cells_under, cell_bits, has_no_pointers, pointed_cell, is_marked, points_well, words_point_well, none_is_released}
+use Rattle.mk_core.specs.NewPlaces.{object_made, is_small_object, bits_made, is_undecided_new}
+use Rattle.mk_core.specs.TurnConditions.{place_now}
+use Rattle.mk_core.specs.Moments.{Moment, is_phase}
+
+abbrev pub is_attending : Presence → Bool
+is_attending Attending = true
+is_attending _ = false
+
+abbrev pub none_attends : List Marker → Bool
+none_attends markers = list_all (λ (marker : Marker). not (is_attending marker.presence)) markers
+
+-- `mark` (a): the one bit of the cell into which the hand points
+abbrev pub is_bit_of : Option Cell → ℕ → ℕ → Bool
+is_bit_of None page value = false
+is_bit_of (Some cell) page value = (page == cell.page) && (value == 2 ^ cell.index)
+
+abbrev pub marks_by_hand : ℕ → Words → Option Hand → ℕ → ℕ → Bool
+marks_by_hand pages w None page value = false
+marks_by_hand pages w (Some hand) page value = is_bit_of (pointed_cell pages w hand.value) page value
+
+-- `mark` (b): the bits of the cells that the place's page gets. A block's page has no header yet.
+abbrev pub marks_place : Config → Moment → Flight → Option Place → ℕ → ℕ → Bool
+marks_place c m f None page value = false
+marks_place c m f (Some place) page value =
+    is_phase m.words 1 && (page == place.page) && (value == bits_made (object_made c f.op))
+    && (not (is_small_object (object_made c f.op)) || (header_at m.words page == 0))
+
+abbrev pub may_mark : Config → Moment → Flight → ℕ → ℕ → Bool
+may_mark c m f page value =
+    marks_by_hand c.pages m.words m.seats.holding.hand page value || marks_place c m f (place_now c m f) page value
+
+-- `begin`: no mark is left, the snapshot is taken, and no object is fresh
+abbrev pub has_clean_page : Words → ℕ → Bool
+has_clean_page w p =
+    (slice_index w.marks p == 0) && (slice_index w.blacks p == 0) && (slice_index w.freed p == slice_index w.snapshot p)
+
+abbrev pub may_begin : ℕ → Words → Bool
+may_begin pages w = all_below pages (has_clean_page w) && (w.fresh == 0)
+
+-- `close`: no marker attends, every marked cell is black, no page is dirty, and the roots point well
+abbrev pub has_closed_page : Words → ℕ → Bool
+has_closed_page w p =
+    (without (bit_and (slice_index w.marks p) (cell_bits w p)) (slice_index w.blacks p) == 0) && (slice_index w.dirty p == 0)
+
+abbrev pub roots_point_well : ℕ → Words → Bool
+roots_point_well pages w = list_all (points_well pages w) w.registers && list_all (points_well pages w) w.globals
+
+abbrev pub may_close : Config → Moment → Bool
+may_close c m = none_attends m.seats.markers && all_below c.pages (has_closed_page m.words) && roots_point_well c.pages m.words
+
+-- `end`: no released cell is left, and each page with a header has a used cell, a run's at its head
+abbrev pub has_settled_page : Words → ℕ → Bool
+has_settled_page w p =
+    none_is_released w p && ((header_at w p == 0) || not (used_at w (head_page w p) == 0))
+
+abbrev pub may_end : ℕ → Words → Bool
+may_end pages w = all_below pages (has_settled_page w)
+
+-- `undirty`: in the stop, a page of which nothing is black
+abbrev pub may_undirty : Moment → ℕ → Bool
+may_undirty m page =
+    not (is_phase m.words 2)
+    || (none_attends m.seats.markers && (slice_index m.words.blacks page == 0)
+        && (slice_index m.words.blacks (head_page m.words page) == 0))
+
+abbrev pub may_unblack : Moment → Bool
+may_unblack m = not (is_phase m.words 2) || none_attends m.seats.markers
+
+-- `black`: a marked cell whose words point well or aren't scanned
+abbrev pub may_turn_black : ℕ → Words → Cell → Bool
+may_turn_black pages w cell =
+    nat_lt cell.index (cells_under (header_in w cell.page)) && is_marked w cell
+    && (has_no_pointers (header_in w cell.page) || words_point_well pages w cell)
+
+-- the value is one bit, that of the cell
+abbrev pub blackens : ℕ → Words → ℕ → ℕ → ℕ → Bool
+blackens pages w page value k = (value == 2 ^ k) && may_turn_black pages w (record { page = page; index = k })
+
+abbrev pub may_black : Config → Moment → ℕ → ℕ → Bool
+may_black c m page value =
+    none_attends m.seats.markers && not (all_below 32 (λ k. not (blackens c.pages m.words page value k)))

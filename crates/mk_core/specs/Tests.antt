@@ -1,0 +1,19 @@
+-- Tests over many numbers and over the bits of words.
+use Rattle.std.specs.Prelude.{ℕ, zero, suc, ◌-◌, ◌%◌, ◌^◌, Bool, true, false, ◌&&◌, ◌==◌, bit_and}
+use Rattle.std.specs.Int.{bit_at}
+
+-- the test holds of each number below n
+unfoldable pub all_below : ℕ → (ℕ → Bool) → Bool
+all_below zero test = true
+all_below (suc n) test = all_below n test && test n
+
+abbrev pub has_bit : ℕ → ℕ → Bool
+has_bit word k = bit_at word k == 1
+
+-- the bit that stands for a cell; a word has none for an index of 64 or more
+abbrev pub bit_for : ℕ → ℕ
+bit_for k = 2 ^ k % 2 ^ 64
+
+-- the bits of a word that another hasn't
+abbrev pub without : ℕ → ℕ → ℕ
+without word other = word - bit_and word other

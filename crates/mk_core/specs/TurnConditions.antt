@@ -1,0 +1,153 @@
+-- Condition 7 for the kinds of the turn's holder that change objects: each kind's own condition.
+use Rattle.std.specs.Prelude.{ℕ, ◌+◌, ◌-◌, ◌*◌, ◌/◌, ◌%◌, ◌^◌, Bool, true, false, ◌&&◌, ◌||◌, not, nat_lt, nat_le, ◌==◌, List, Option, Some, None, if◌then◌else◌, slice_index, sum_by, count_by, map, bit_and, is_none}
+use Rattle.mk_core.specs.declared.seats.Object.{Object}
+use Rattle.mk_geom.specs.declared.addresses.Cell.{Cell}
+use Rattle.mk_geom.specs.declared.pages.Place.{Place}
+use Rattle.mk_geom.specs.Classes.{class_words_of}
+use Rattle.mk_geom.specs.PageUses.{PageUse, Nothing, Cells, PartOfRun}
+use Rattle.mk_geom.specs.PageWords.{uses_of_pages}
+use Rattle.mk_core.specs.declared.config.Config.{Config}
+use Rattle.mk_core.specs.declared.events.Seat.{Seat}
+use Rattle.mk_core.specs.declared.seats.Flight.{Flight}
+use Rattle.mk_core.specs.declared.seats.Stage.{Stage}
+use Rattle.mk_core.specs.declared.seats.Stage.TheVariants as stage
+use Rattle.mk_core.specs.declared.seats.Placing.{Placing}
+use Rattle.mk_core.specs.declared.seats.Placing.TheVariants.{Unplaced, Chosen, Used, Granted}
+use Rattle.mk_core.specs.declared.seats.OwnCycle.{OwnCycle}
+use Rattle.mk_core.specs.declared.seats.OwnCycle.TheVariants.{NotBegun, Begun, Ended}
+use Rattle.mk_core.specs.declared.seats.Holding.{Holding}
+use Rattle.mk_core.specs.declared.seats.RunPages.{RunPages}
+use Rattle.mk_core.specs.Image.{address_of}
+use Rattle.mk_core.specs.Words.{Words, header_at, used_at, quarantine_word}
+use Rattle.mk_core.specs.Tests.{all_below, has_bit, without}
+use Rattle.mk_core.specs.Cells.{header_in, head_page, pointed_cell, is_freed, are_released, is_released_cell, words_are_zero, first_word, cell_words, is_in_run}
+use Rattle.mk_core.specs.NewPlaces.{object_made, first_fit, place_in, is_small_object, pages_made, header_made, bits_made, is_next_header, place_stands, unmapped_header, is_run_unmapped, is_run_gone, is_undecided_new, target}
+use Rattle.mk_core.specs.Moments.{Moment, Seats, is_phase}
+
+-- the place of an undecided New
+abbrev pub place_now : Config → Moment → Flight → Option Place
+place_now c m f =
+    if is_undecided_new f then place_in c.resident m.words (object_made c f.op) m.seats.holding.placing else None
+
+-- Where the phase is marking, the cells that a header makes are marked before it is stored.
+abbrev pub is_marked_first : Words → Object → Place → Bool
+is_marked_first w o place =
+    not (is_phase w 1) || (without (bits_made o) (slice_index w.marks place.page) == 0)
+
+-- `head` (a) and (b): a page of the place gets its header
+abbrev pub carves : Config → Moment → Flight → Option Place → ℕ → ℕ → Bool
+carves c m f None page value = false
+carves c m f (Some place) page value =
+    is_next_header m.words place.page (pages_made (object_made c f.op)) (header_made (object_made c f.op)) page value
+    && is_marked_first m.words (object_made c f.op) place
+
+-- `head` (c): a page of the run that the call freed is unmapped
+abbrev pub unmaps : Words → Option RunPages → ℕ → ℕ → Bool
+unmaps w None page value = false
+unmaps w (Some run) page value = is_next_header w run.page run.count (unmapped_header run.count) page value
+
+-- `head` (d): a page with nothing on it is free. A later page of a run is asked for its head's words.
+abbrev pub empties : Words → ℕ → ℕ → Bool
+empties w page value =
+    (value == 0) && (used_at w (head_page w page) == 0)
+    && (slice_index w.freed (head_page w page) == 0) && (slice_index w.snapshot (head_page w page) == 0)
+
+abbrev pub may_head : Config → Moment → Flight → ℕ → ℕ → Bool
+may_head c m f page value =
+    if is_phase m.words 4
+    then empties m.words page value
+    else carves c m f (place_now c m f) page value || unmaps m.words m.seats.holding.freed page value
+
+-- `used` (a): the cell of the place is taken, once, behind all its headers
+abbrev pub takes_cell : Config → Moment → Flight → Option Place → ℕ → ℕ → Bool
+takes_cell c m f None page value = false
+takes_cell c m f (Some place) page value =
+    (page == place.page) && place_stands m.words (object_made c f.op) place
+    && not (has_bit (used_at m.words page) place.index) && (value == used_at m.words page + 2 ^ place.index)
+
+abbrev pub is_used_once : Placing → Bool
+is_used_once (Used place) = true
+is_used_once _ = false
+
+-- the words of each of these cells of a page are 0
+abbrev pub are_wiped : Words → ℕ → ℕ → Bool
+are_wiped w page bits =
+    all_below 32 (λ k. not (has_bit bits k) || words_are_zero w (first_word w (record { page = page; index = k })) (cell_words w (record { page = page; index = k })))
+
+-- `used` (b): released cells whose words are 0 are given back
+abbrev pub gives_back : Words → ℕ → ℕ → Bool
+gives_back w page value =
+    (bit_and value (used_at w page) == value) && are_released w page (used_at w page - value)
+    && are_wiped w page (used_at w page - value)
+
+abbrev pub may_use : Config → Moment → Flight → ℕ → ℕ → Bool
+may_use c m f page value =
+    if is_phase m.words 4
+    then gives_back m.words page value
+    else not (is_used_once m.seats.holding.placing) && takes_cell c m f (place_now c m f) page value
+
+-- `quar` (a): the freed bit of the target, which wasn't set
+abbrev pub frees : Words → Option Cell → ℕ → ℕ → Bool
+frees w None page value = false
+frees w (Some cell) page value =
+    (page == cell.page) && not (is_freed w cell)
+    && (value == quarantine_word (slice_index w.freed page + 2 ^ cell.index) (slice_index w.snapshot page))
+
+-- the cell that a `quar` frees
+abbrev pub cell_freed : ℕ → Words → Flight → ℕ → ℕ → Option Cell
+cell_freed pages w f page value =
+    if not (is_phase w 4) && frees w (target pages w f) page value then target pages w f else None
+
+-- `quar` (b): the freed cells are the snapshot
+abbrev pub takes_snapshot : Words → ℕ → ℕ → Bool
+takes_snapshot w page value =
+    is_phase w 0 && (value == quarantine_word (slice_index w.freed page) (slice_index w.freed page))
+
+-- `quar` (c): released cells that aren't used lose both bits
+abbrev pub drops : Words → ℕ → ℕ → ℕ → Bool
+drops w page freed snapshot =
+    (bit_and snapshot (slice_index w.snapshot page) == snapshot)
+    && are_released w page (slice_index w.snapshot page - snapshot)
+    && (bit_and (used_at w page) (slice_index w.snapshot page - snapshot) == 0)
+    && (freed == without (slice_index w.freed page) (slice_index w.snapshot page - snapshot))
+
+abbrev pub may_quarantine : Config → Moment → Flight → ℕ → ℕ → Bool
+may_quarantine c m f page value =
+    if is_phase m.words 4
+    then drops m.words page (value % 2 ^ 32) (value / 2 ^ 32)
+    else frees m.words (target c.pages m.words f) page value || takes_snapshot m.words page value
+
+-- the words of the cells of a page that are taken, or of a page of a mapped run
+abbrev pub words_held_by : PageUse → ℕ
+words_held_by Nothing = 0
+words_held_by (Cells class leaf taken) = class_words_of class * count_by (λ cell. cell) taken
+words_held_by (PartOfRun mapped) = if mapped then 64 else 0
+
+abbrev pub words_held : Words → ℕ
+words_held w = sum_by words_held_by (uses_of_pages w.pages)
+
+-- no call of a caller's is undecided
+abbrev pub is_decided : Stage → Bool
+is_decided stage.Turn = false
+is_decided _ = true
+
+-- `give`
+abbrev pub may_give : Moment → Flight → Bool
+may_give m f =
+    is_decided f.stage && is_run_gone m.words m.seats.holding.freed
+    && (m.words.held == words_held m.words) && (m.words.fresh == m.fresh_words)
+
+-- `full`: a cycle was begun and ended in this call, and nothing fits
+abbrev pub is_full : Config → Words → Flight → Placing → OwnCycle → Bool
+is_full c w f Unplaced Ended = is_none (first_fit c.resident w (object_made c f.op))
+is_full c w f _ _ = false
+
+-- a word of the run whose pages this call unmapped
+abbrev pub is_in_gone_run : Words → Option RunPages → ℕ → Bool
+is_in_gone_run w None n = false
+is_in_gone_run w (Some run) n = is_in_run run n && is_run_unmapped w run
+
+-- `wipe`
+abbrev pub may_wipe : Config → Moment → ℕ → Bool
+may_wipe c m n =
+    is_released_cell m.words (pointed_cell c.pages m.words (address_of n)) || is_in_gone_run m.words m.seats.holding.freed n

@@ -1,0 +1,245 @@
+//! Cells and runs as the words show them.
+ghost use Rattle.std.specs.Prelude.{◌≡◌, ℕ, ◌+◌, ◌-◌, ◌*◌, ◌^◌, ◌<◌, ◌≤◌, IfSome, IfNone, slice_index};
+ghost use Rattle.mk_core.specs.Words.{header_at, used_at};
+ghost use Rattle.mk_geom.specs.Headers.{header_of};
+ghost use Rattle.mk_core.specs.Tests.{all_below, has_bit, without};
+ghost use Rattle.mk_core.specs.Cells.{cells_under, words_under, run_headed, heads_run, is_leaf_header, is_unmapped_header, has_no_pointers, head_page, head_behind, cell_bits, first_word, cell_words, pointed_cell, is_used, is_freed, is_marked, is_marked_cell, points_well, word_points_well, words_point_well, words_are_zero, is_released, is_released_cell, are_released, none_is_released, is_in_run};
+
+use crate::RunPages;
+use crate::table::Table;
+use mk_geom::{Cell, Header, cells, class_words, decode, lookup};
+
+/// The bit of a word that stands for a cell; none for a cell that no word has a bit for.
+pub(crate) fn bit(index: u64) -> Option<u64>
+    ensures some { IfSome result (λ bit. bit ≡ 2 ^ index) }
+    ensures none { IfNone result (64 ≤ index) }
+{
+    (index < 64).then(|| 1 << index)
+}
+
+/// Whether the word has the bit.
+#[tactic(auto, using(crate::proofs::Bits::has_bit_past))]
+pub(crate) fn has_bit(word: u64, index: u64) -> bool
+    ensures { result ≡ has_bit word index }
+{
+    index < 64 && (word >> index) & 1 == 1
+}
+
+/// The bits of a word that another hasn't.
+pub(crate) fn without(word: u64, other: u64) -> u64
+    ensures { result ≡ without word other }
+{
+    word - (word & other)
+}
+
+/// How many cells there are under a header word; a run is one, at its head page.
+pub(crate) fn cells_under(header: u64) -> u64
+    ensures exact { result ≡ cells_under (header_of header) }
+    ensures few { result ≤ 32 }
+{
+    match decode(header) {
+        Some(Header::Block(class) | Header::LeafBlock(class)) => cells(class),
+        Some(Header::Run { .. } | Header::LeafRun { .. }) => 1,
+        _ => 0,
+    }
+}
+
+/// The words of one of them.
+pub(crate) fn words_under(header: u64) -> u64
+    ensures exact { result ≡ words_under (header_of header) }
+    ensures few { result ≤ 4096 }
+{
+    match decode(header) {
+        Some(Header::Block(class) | Header::LeafBlock(class)) => class_words(class),
+        Some(Header::Run { pages, .. } | Header::LeafRun { pages }) => 64 * pages,
+        _ => 0,
+    }
+}
+
+/// The run that has its head at a page of this header word.
+pub(crate) fn run_headed(header: u64, page: u64) -> Option<RunPages>
+    ensures { result ≡ run_headed (header_of header) page }
+{
+    match decode(header) {
+        Some(Header::Run { pages, .. } | Header::LeafRun { pages }) => Some(RunPages {
+            page,
+            count: pages,
+        }),
+        _ => None,
+    }
+}
+
+pub(crate) fn heads_run(header: u64) -> bool
+    ensures { result ≡ heads_run (header_of header) }
+{
+    matches!(
+        decode(header),
+        Some(Header::Run { .. } | Header::LeafRun { .. })
+    )
+}
+
+/// Whether the page is one of an unmapped run.
+pub(crate) fn is_unmapped(header: u64) -> bool
+    ensures { result ≡ is_unmapped_header (header_of header) }
+{
+    matches!(
+        decode(header),
+        Some(Header::Run { mapped: false, .. } | Header::Later { mapped: false, .. })
+    )
+}
+
+/// Whether the words of a cell under the header aren't scanned: those of a leaf object, and of an
+/// unmapped run.
+pub(crate) fn has_no_pointers(header: u64) -> bool
+    ensures { result ≡ has_no_pointers (header_of header) }
+{
+    matches!(
+        decode(header),
+        Some(Header::LeafBlock(_) | Header::LeafRun { .. })
+    ) || is_unmapped(header)
+}
+
+impl RunPages {
+    /// Whether the heap word is one of the run's.
+    pub(crate) fn has_word(self, word: u64) -> bool
+        ensures { result ≡ is_in_run self word }
+    {
+        let page = word / 64;
+        self.page <= page && page - self.page < self.count
+    }
+}
+
+impl Table {
+    pub(crate) fn header(&self, page: u64) -> u64
+        ensures { result ≡ header_at self.now page }
+    {
+        self.page(page as u128).header
+    }
+
+    pub(crate) fn used(&self, page: u64) -> u64
+        ensures { result ≡ used_at self.now page }
+    {
+        self.page(page as u128).used
+    }
+
+    /// The head page of a page's run; another page is its own.
+    pub(crate) fn head_page(&self, page: u64) -> u64
+        ensures { result ≡ head_page self.now page }
+    {
+        match decode(self.header(page)) {
+            Some(Header::Later { distance, .. }) => page.saturating_sub(distance),
+            _ => page,
+        }
+    }
+
+    /// The bits of a page's cells.
+    pub(crate) fn cell_bits(&self, page: u64) -> u64
+        ensures { result ≡ cell_bits self.now page }
+    {
+        (1 << cells_under(self.header(page))) - 1
+    }
+
+    /// The first heap word of a cell.
+    pub(crate) fn first_word(&self, cell: Cell) -> u128
+        ensures { result ≡ first_word self.now cell }
+    {
+        let words = words_under(self.header(cell.page));
+        64 * cell.page as u128 + cell.index as u128 * words as u128
+    }
+
+    /// The words of a cell.
+    pub(crate) fn cell_words(&self, cell: Cell) -> u64
+        ensures exact { result ≡ cell_words self.now cell }
+        ensures few { result ≤ 4096 }
+    {
+        words_under(self.header(cell.page))
+    }
+
+    /// What a value points into, in a heap of so many pages.
+    pub(crate) fn pointed_cell(&self, pages: u64, value: u64) -> Option<Cell>
+        ensures { result ≡ pointed_cell pages self.now value }
+    {
+        let page = value.saturating_sub(65536) / 512;
+        lookup(pages, self.header(page), value)
+    }
+
+    pub(crate) fn is_used(&self, cell: Cell) -> bool
+        ensures { result ≡ is_used self.now cell }
+    {
+        has_bit(self.used(cell.page), cell.index)
+    }
+
+    pub(crate) fn is_freed(&self, cell: Cell) -> bool
+        ensures { result ≡ is_freed self.now cell }
+    {
+        has_bit(self.freed(cell.page) as u64, cell.index)
+    }
+
+    pub(crate) fn is_marked(&self, cell: Cell) -> bool
+        ensures { result ≡ is_marked self.now cell }
+    {
+        has_bit(self.mark(cell.page), cell.index)
+    }
+
+    /// Whether the value points into nothing, or into a marked cell.
+    pub(crate) fn points_well(&self, pages: u64, value: u64) -> bool
+        ensures { result ≡ points_well pages self.now value }
+    {
+        match self.pointed_cell(pages, value) {
+            Some(cell) => self.is_marked(cell),
+            None => true,
+        }
+    }
+
+    /// Whether each word of the cell points well.
+    #[tactic(auto, using(crate::proofs::AllBelow::all_below_zero_is, crate::proofs::AllBelow::all_below_more_is, crate::proofs::AllBelow::all_below_not_is))]
+    pub(crate) fn words_point_well(&self, pages: u64, cell: Cell) -> bool
+        ensures { result ≡ words_point_well pages self.now cell }
+    {
+        let first = self.first_word(cell);
+        for i in 0..self.cell_words(cell) {
+            if !self.points_well(pages, self.heap(first + i as u128)) {
+                return false;
+            }
+        }
+        true
+    }
+
+    /// Whether so many words from the first on are 0.
+    #[tactic(auto, using(crate::proofs::AllBelow::all_below_zero_is, crate::proofs::AllBelow::all_below_more_is, crate::proofs::AllBelow::all_below_not_is))]
+    pub(crate) fn words_are_zero(&self, first: u128, count: u64) -> bool
+        requires { first < 2 ^ 100 }
+        ensures { result ≡ words_are_zero self.now first count }
+    {
+        for i in 0..count {
+            if self.heap(first + i as u128) != 0 {
+                return false;
+            }
+        }
+        true
+    }
+
+    /// Whether the cell is released: the phase is releasing, and the cell is in the snapshot and not
+    /// marked.
+    pub(crate) fn is_released(&self, cell: Cell) -> bool
+        ensures { result ≡ is_released self.now cell }
+    {
+        self.phase() == 4
+            && has_bit(self.snapshot(cell.page) as u64, cell.index)
+            && !self.is_marked(cell)
+    }
+
+    /// Whether these cells of a page, as bits, are all in the snapshot and none is marked.
+    pub(crate) fn are_released(&self, page: u64, bits: u64) -> bool
+        ensures { result ≡ are_released self.now page bits }
+    {
+        without(bits, self.snapshot(page) as u64) == 0 && bits & self.mark(page) == 0
+    }
+
+    /// Whether no cell of the page is in the snapshot and unmarked.
+    pub(crate) fn none_is_released(&self, page: u64) -> bool
+        ensures { result ≡ none_is_released self.now page }
+    {
+        without(self.snapshot(page) as u64, self.mark(page)) == 0
+    }
+}
