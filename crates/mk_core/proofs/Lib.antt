@@ -1,2 +1,4 @@
 pub mod AllBelow
 pub mod Bits
+pub mod Histories
+pub mod Steps

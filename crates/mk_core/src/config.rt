@@ -1,5 +1,5 @@
 //! What a heap is started with.
-ghost use Rattle.std.specs.Prelude.{◌≡◌, ◌<◌, ◌≤◌, length, [], ◌∷◌, ◌++◌, OnOk, OnErr};
+ghost use Rattle.std.specs.Prelude.{◌≡◌, ◌<◌, ◌≤◌, length, [], ◌∷◌, ◌++◌, IfOk, OnOk, OnErr};
 
 use mk_never::{NoMemory, TypeTable};
 use std::alloc::Global;
@@ -40,6 +40,15 @@ impl GlobalTable {
         self.types.push(ty).map_err(|_| NoMemory)
     }
 
+    /// A copy.
+    pub fn try_clone(&self, alloc: Global) -> Result<GlobalTable, NoMemory>
+        ensures { IfOk result (λ globals. globals ≡ self.now) }
+    {
+        let mut types = Vec::new(alloc);
+        types.extend_from_slice(&self.types).map_err(|_| NoMemory)?;
+        Ok(GlobalTable { types })
+    }
+
     /// The types, in the order of the globals' numbers.
     pub fn types(&self) -> &[u64]
         ensures types { result.now ≡ self.now }
@@ -59,4 +68,20 @@ pub struct Config {
     pub markers: u64,
     pub types: TypeTable,
     pub globals: GlobalTable,
+}
+
+impl Config {
+    /// A copy.
+    pub fn try_clone(&self, alloc: Global) -> Result<Config, NoMemory>
+        ensures { IfOk result (λ config. config ≡ self.now) }
+    {
+        Ok(Config {
+            pages: self.pages,
+            resident: self.resident,
+            callers: self.callers,
+            markers: self.markers,
+            types: self.types.try_clone(alloc)?,
+            globals: self.globals.try_clone(alloc)?,
+        })
+    }
 }
