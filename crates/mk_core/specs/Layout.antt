@@ -6,6 +6,9 @@ use Rattle.mk_core.specs.declared.events.Word.{Word}
 use Rattle.mk_core.specs.declared.events.Word.TheVariants as word
 use Rattle.mk_core.specs.declared.accesses.TableWord.{TableWord}
 use Rattle.mk_core.specs.declared.accesses.TableWord.TheVariants.{Turn, Named}
+use Rattle.mk_core.specs.declared.config.Config.{Config}
+use Rattle.mk_core.specs.declared.events.Event.{Event}
+use Rattle.mk_core.specs.History.{left}
 use Rattle.mk_core.specs.Words.{Words, quarantine_word, word_in, with_word}
 
 -- the index of a word by its name, in a table of so many pages
@@ -62,15 +65,22 @@ quarantine_words [] snapshots = []
 quarantine_words (freed ∷ freeds) [] = []
 quarantine_words (freed ∷ freeds) (snapshot ∷ snapshots) = quarantine_word freed snapshot ∷ quarantine_words freeds snapshots
 
--- the words as one list
+-- the words region by region, and as one list
+abbrev pub regions : Words → List (List ℕ)
+regions w =
+    (w.phase ∷ w.turn ∷ w.held ∷ w.fresh ∷ w.cycles ∷ w.released ∷ w.full ∷ [])
+    ∷ w.gates ∷ w.registers ∷ w.globals
+    ∷ map (λ (page : Page). page.header) w.pages
+    ∷ map (λ (page : Page). page.used) w.pages
+    ∷ quarantine_words w.freed w.snapshot
+    ∷ w.marks ∷ w.blacks ∷ w.dirty ∷ w.heap ∷ []
+
+abbrev pub joined : List (List ℕ) → List ℕ
+joined [] = []
+joined (xs ∷ xss) = xs ++ joined xss
+
 abbrev pub in_order : Words → List ℕ
-in_order w =
-    w.phase ∷ w.turn ∷ w.held ∷ w.fresh ∷ w.cycles ∷ w.released ∷ w.full ∷ []
-    ++ w.gates ++ w.registers ++ w.globals
-    ++ map (λ (page : Page). page.header) w.pages
-    ++ map (λ (page : Page). page.used) w.pages
-    ++ quarantine_words w.freed w.snapshot
-    ++ w.marks ++ w.blacks ++ w.dirty ++ w.heap
+in_order w = joined (regions w)
 
 -- each region has its length
 pub record AreOfPages (count : ℕ) (w : Words) : Type 0 where
@@ -84,6 +94,10 @@ pub record AreOfPages (count : ℕ) (w : Words) : Type 0 where
   pub blacks : length w.blacks ≡ count
   pub dirty : length w.dirty ≡ count
   pub heap : length w.heap ≡ 64 * count
+
+-- Whatever happens, the regions keep their lengths.
+abbrev pub RegionsKeepTheirLengths : Type 0
+RegionsKeepTheirLengths = (c : Config) (events : List Event) → AreOfPages c.pages (left c events).now.words
 
 -- Two names never share an index, and each index is one of the table.
 abbrev pub NamesAreApart : Type 0

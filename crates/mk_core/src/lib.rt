@@ -5,6 +5,7 @@ mod accesses;
 mod cells;
 mod config;
 mod events;
+mod laws;
 mod machine;
 mod seats;
 mod table;
@@ -12,6 +13,7 @@ mod table;
 pub use accesses::{Access, TableWord};
 pub use config::{Config, GlobalTable};
 pub use events::{Answer, Event, NotEnabled, Seat, Step, Tally, Word};
+pub use laws::words_have_indexes_of_their_own;
 pub use machine::Core;
 pub use seats::{
     Flight, Hand, Holding, Marker, OwnCycle, Placing, Presence, RunPages, Scan, SeenHeader, Source,

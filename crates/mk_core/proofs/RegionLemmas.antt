@@ -1,0 +1,177 @@
+-- The table's words as one list: each stands at its index, and a change of one is a change there.
+use Rattle.std.proofs.Common.{◌≡◌, ℕ, zero, suc, ◌+◌, ◌-◌, ◌*◌, ◌/◌, ◌%◌, ◌^◌, ◌<◌, ◌≤◌, List, [], ◌∷◌, ◌++◌, length, map, slice_index, slice_index_or, slice_set, refl, sym, ◌∙◌, ap, subst, arith}
+use Rattle.std.proofs.lemmas.List.{get_or_append_left, get_or-append-add, set-append_left, set-append_right, map-set, length-map, get_or-map}
+use Rattle.std.proofs.Math.Seq.{map-set_same}
+use Rattle.std.proofs.Math.ListN.{get_or-map as get_or-map-default}
+use Rattle.std.proofs.Math.Nat.{mod-add-div}
+use Rattle.mk_geom.specs.declared.pages.Page.{Page}
+use Rattle.mk_geom.specs.Storages.{free_page}
+use Rattle.mk_core.specs.declared.events.Word.{Word}
+use Rattle.mk_core.specs.declared.events.Word.TheVariants as word
+use Rattle.mk_core.specs.declared.accesses.TableWord.{TableWord}
+use Rattle.mk_core.specs.declared.accesses.TableWord.TheVariants.{Turn, Named}
+use Rattle.mk_core.specs.Words.{Words, quarantine_word, word_in, with_word}
+use Rattle.mk_core.specs.Layout.{index_of, IsOfTable, quarantine_words, regions, joined, in_order, AreOfPages}
+
+-- how many words stand before a region
+abbrev before : List (List ℕ) → ℕ → ℕ
+before xss zero = 0
+before [] (suc j) = 0
+before (xs ∷ xss) (suc j) = length xs + before xss j
+
+abbrev region : List (List ℕ) → ℕ → List ℕ
+region xss j = slice_index_or xss j []
+
+joined_at : (xss : List (List ℕ)) (j k : ℕ) → k < length (region xss j) → slice_index (joined xss) (before xss j + k) ≡ slice_index (region xss j) k
+joined_at [] zero k lt = absurd (omega arith)
+joined_at [] (suc j) k lt = absurd (omega arith)
+joined_at (xs ∷ xss) zero k lt = ap (λ n. slice_index (xs ++ joined xss) n) (omega arith) ∙ get_or_append_left xs (joined xss) 0 k lt
+joined_at (xs ∷ xss) (suc j) k lt =
+    ap (λ n. slice_index (xs ++ joined xss) n) (omega arith) ∙ get_or-append-add xs (joined xss) (before xss j + k) 0 ∙ joined_at xss j k lt
+
+set_later : (xs ys : List ℕ) (n v : ℕ) → slice_set (xs ++ ys) (length xs + n) v ≡ xs ++ slice_set ys n v
+set_later xs ys n v = set-append_right xs ys (length xs) (length xs + n) v refl (omega arith) ∙ ap (λ k. xs ++ slice_set ys k v) (omega arith)
+
+joined_set : (xss : List (List ℕ)) (j k v : ℕ) → k < length (region xss j) → slice_set (joined xss) (before xss j + k) v ≡ joined (slice_set xss j (slice_set (region xss j) k v))
+joined_set [] zero k v lt = absurd (omega arith)
+joined_set [] (suc j) k v lt = absurd (omega arith)
+joined_set (xs ∷ xss) zero k v lt = ap (λ n. slice_set (xs ++ joined xss) n v) (omega arith) ∙ set-append_left xs (joined xss) k v lt
+joined_set (xs ∷ xss) (suc j) k v lt =
+    ap (λ n. slice_set (xs ++ joined xss) n v) (omega arith) ∙ set_later xs (joined xss) (before xss j + k) v ∙ ap (λ ys. xs ++ ys) (joined_set xss j k v lt)
+
+quarantine_length : (fs ss : List ℕ) → length fs ≡ length ss → length (quarantine_words fs ss) ≡ length fs
+quarantine_length [] ss e = refl
+quarantine_length (f ∷ fs) [] e = absurd (omega arith)
+quarantine_length (f ∷ fs) (s ∷ ss) e = ap suc (quarantine_length fs ss (omega arith))
+
+quarantine_at : (fs ss : List ℕ) (k : ℕ) → length fs ≡ length ss → k < length fs → slice_index (quarantine_words fs ss) k ≡ quarantine_word (slice_index fs k) (slice_index ss k)
+quarantine_at [] ss k e lt = absurd (omega arith)
+quarantine_at (f ∷ fs) [] k e lt = absurd (omega arith)
+quarantine_at (f ∷ fs) (s ∷ ss) zero e lt = refl
+quarantine_at (f ∷ fs) (s ∷ ss) (suc k) e lt = quarantine_at fs ss k (omega arith) (omega arith)
+
+quarantine_set : (fs ss : List ℕ) (k f s : ℕ) → length fs ≡ length ss → quarantine_words (slice_set fs k f) (slice_set ss k s) ≡ slice_set (quarantine_words fs ss) k (quarantine_word f s)
+quarantine_set [] [] k f s e = refl
+quarantine_set [] (x ∷ ss) k f s e = absurd (omega arith)
+quarantine_set (x ∷ fs) [] k f s e = absurd (omega arith)
+quarantine_set (x ∷ fs) (y ∷ ss) zero f s e = refl
+quarantine_set (x ∷ fs) (y ∷ ss) (suc k) f s e = ap (λ xs. quarantine_word x y ∷ xs) (quarantine_set fs ss k f s (omega arith))
+
+-- where each region begins
+record Begins (pages : ℕ) (w : Words) : Type 0 where
+  gates : before (regions w) 1 ≡ 7
+  registers : before (regions w) 2 ≡ 23
+  globals : before (regions w) 3 ≡ 151
+  headers : before (regions w) 4 ≡ 215
+  used : before (regions w) 5 ≡ 215 + pages
+  quarantine : before (regions w) 6 ≡ 215 + 2 * pages
+  marks : before (regions w) 7 ≡ 215 + 3 * pages
+  blacks : before (regions w) 8 ≡ 215 + 4 * pages
+  dirty : before (regions w) 9 ≡ 215 + 5 * pages
+  heap : before (regions w) 10 ≡ 215 + 6 * pages
+
+begins : (pages : ℕ) (w : Words) → AreOfPages pages w → Begins pages w
+begins pages w h =
+    let g = h.gates in let r = h.registers in let l = h.globals in
+    let p : length (map (λ (page : Page). page.header) w.pages) ≡ pages = length-map w.pages (λ (page : Page). page.header) ∙ h.pages in
+    let u : length (map (λ (page : Page). page.used) w.pages) ≡ pages = length-map w.pages (λ (page : Page). page.used) ∙ h.pages in
+    let q : length (quarantine_words w.freed w.snapshot) ≡ pages = quarantine_length w.freed w.snapshot (h.freed ∙ sym h.snapshot) ∙ h.freed in
+    let m = h.marks in let b = h.blacks in let d = h.dirty in
+    record {
+      gates = omega arith; registers = omega arith; globals = omega arith; headers = omega arith; used = omega arith;
+      quarantine = omega arith; marks = omega arith; blacks = omega arith; dirty = omega arith; heap = omega arith;
+    }
+
+-- the word at k of region j, whose index is i
+at : (w : Words) (j k i n : ℕ) → before (regions w) j ≡ n → i ≡ n + k → k < length (region (regions w) j) → slice_index (in_order w) i ≡ slice_index (region (regions w) j) k
+at w j k i n b e lt = ap (λ x. slice_index (in_order w) x) (e ∙ ap (λ x. x + k) (sym b)) ∙ joined_at (regions w) j k lt
+
+-- a change of it
+set_at : (w : Words) (j k i n v : ℕ) → before (regions w) j ≡ n → i ≡ n + k → k < length (region (regions w) j)
+    → joined (slice_set (regions w) j (slice_set (region (regions w) j) k v)) ≡ slice_set (in_order w) i v
+set_at w j k i n v b e lt = sym (ap (λ x. slice_set (in_order w) x v) (e ∙ ap (λ x. x + k) (sym b)) ∙ joined_set (regions w) j k v lt)
+
+named_stands : (pages : ℕ) (w : Words) (x : Word) → AreOfPages pages w → Begins pages w → IsOfTable pages (Named x) → slice_index (in_order w) (index_of pages (Named x)) ≡ word_in w (Named x)
+named_stands pages w word.Phase h b t = refl
+named_stands pages w word.Held h b t = refl
+named_stands pages w word.Fresh h b t = refl
+named_stands pages w word.Cycles h b t = refl
+named_stands pages w word.Released h b t = refl
+named_stands pages w word.Full h b t = refl
+named_stands pages w (word.Gate j) h b t = let l = h.gates in at w 1 j (7 + j) 7 b.gates refl (omega arith)
+named_stands pages w (word.Reg c r) h b t = let l = h.registers in let lc = t.0 in let lr = t.1 in at w 2 (8 * c + r) (23 + 8 * c + r) 23 b.registers (omega arith) (omega arith)
+named_stands pages w (word.Global g) h b t = let l = h.globals in at w 3 g (151 + g) 151 b.globals refl (omega arith)
+named_stands pages w (word.Head p) h b t =
+    let l = h.pages in let m = length-map w.pages (λ (page : Page). page.header) in
+    at w 4 p (215 + p) 215 b.headers refl (omega arith) ∙ get_or-map (λ (page : Page). page.header) w.pages p free_page 0 (omega arith)
+named_stands pages w (word.Used p) h b t =
+    let l = h.pages in let m = length-map w.pages (λ (page : Page). page.used) in
+    at w 5 p (215 + pages + p) (215 + pages) b.used refl (omega arith) ∙ get_or-map (λ (page : Page). page.used) w.pages p free_page 0 (omega arith)
+named_stands pages w (word.Quar p) h b t =
+    let l = h.freed in let s = h.snapshot in let q = quarantine_length w.freed w.snapshot (h.freed ∙ sym h.snapshot) in
+    at w 6 p (215 + 2 * pages + p) (215 + 2 * pages) b.quarantine refl (omega arith) ∙ quarantine_at w.freed w.snapshot p (h.freed ∙ sym h.snapshot) (omega arith)
+named_stands pages w (word.Mark p) h b t = let l = h.marks in at w 7 p (215 + 3 * pages + p) (215 + 3 * pages) b.marks refl (omega arith)
+named_stands pages w (word.Black p) h b t = let l = h.blacks in at w 8 p (215 + 4 * pages + p) (215 + 4 * pages) b.blacks refl (omega arith)
+named_stands pages w (word.Dirty p) h b t = let l = h.dirty in at w 9 p (215 + 5 * pages + p) (215 + 5 * pages) b.dirty refl (omega arith)
+named_stands pages w (word.Heap n) h b t = let l = h.heap in at w 10 n (215 + 6 * pages + n) (215 + 6 * pages) b.heap refl (omega arith)
+
+pub words_stand : (pages : ℕ) (w : Words) (x : TableWord) → AreOfPages pages w → IsOfTable pages x → slice_index (in_order w) (index_of pages x) ≡ word_in w x
+words_stand pages w Turn h t = refl
+words_stand pages w (Named x) h t = named_stands pages w x h (begins pages w h) t
+
+-- a page's other word stays
+headers_kept : (ps : List Page) (p v : ℕ) → map (λ (page : Page). page.header) (slice_set ps p (record { header = (slice_index_or ps p free_page).header; used = v })) ≡ map (λ (page : Page). page.header) ps
+headers_kept ps p v = map-set_same (λ (page : Page). page.header) ps p (record { header = (slice_index_or ps p free_page).header; used = v }) free_page refl
+
+used_kept : (ps : List Page) (p v : ℕ) → map (λ (page : Page). page.used) (slice_set ps p (record { header = v; used = (slice_index_or ps p free_page).used })) ≡ map (λ (page : Page). page.used) ps
+used_kept ps p v = map-set_same (λ (page : Page). page.used) ps p (record { header = v; used = (slice_index_or ps p free_page).used }) free_page refl
+
+-- the list, where these are the words of the pages
+with_pages : Words → List ℕ → List ℕ → List ℕ
+with_pages w headers used =
+    joined ((w.phase ∷ w.turn ∷ w.held ∷ w.fresh ∷ w.cycles ∷ w.released ∷ w.full ∷ []) ∷ w.gates ∷ w.registers ∷ w.globals
+      ∷ headers ∷ used ∷ quarantine_words w.freed w.snapshot ∷ w.marks ∷ w.blacks ∷ w.dirty ∷ w.heap ∷ [])
+
+with_quarantine : Words → List ℕ → List ℕ
+with_quarantine w quarantine =
+    joined ((w.phase ∷ w.turn ∷ w.held ∷ w.fresh ∷ w.cycles ∷ w.released ∷ w.full ∷ []) ∷ w.gates ∷ w.registers ∷ w.globals
+      ∷ map (λ (page : Page). page.header) w.pages ∷ map (λ (page : Page). page.used) w.pages ∷ quarantine ∷ w.marks ∷ w.blacks ∷ w.dirty ∷ w.heap ∷ [])
+
+quarantine_whole : (v : ℕ) → quarantine_word (v % 2 ^ 32) (v / 2 ^ 32) ≡ v
+quarantine_whole v = mod-add-div v (2 ^ 32)
+
+named_changes : (pages : ℕ) (w : Words) (x : Word) (v : ℕ) → AreOfPages pages w → Begins pages w → IsOfTable pages (Named x)
+    → in_order (with_word w (Named x) v) ≡ slice_set (in_order w) (index_of pages (Named x)) v
+unfolding with_pages with_quarantine
+named_changes pages w word.Phase v h b t = refl
+named_changes pages w word.Held v h b t = refl
+named_changes pages w word.Fresh v h b t = refl
+named_changes pages w word.Cycles v h b t = refl
+named_changes pages w word.Released v h b t = refl
+named_changes pages w word.Full v h b t = refl
+named_changes pages w (word.Gate j) v h b t = let l = h.gates in set_at w 1 j (7 + j) 7 v b.gates refl (omega arith)
+named_changes pages w (word.Reg c r) v h b t = let l = h.registers in let lc = t.0 in let lr = t.1 in set_at w 2 (8 * c + r) (23 + 8 * c + r) 23 v b.registers (omega arith) (omega arith)
+named_changes pages w (word.Global g) v h b t = let l = h.globals in set_at w 3 g (151 + g) 151 v b.globals refl (omega arith)
+named_changes pages w (word.Head p) v h b t =
+    let l = h.pages in let m = length-map w.pages (λ (page : Page). page.header) in
+    ap (λ u. with_pages w (map (λ (page : Page). page.header) (slice_set w.pages p (record { header = v; used = (slice_index_or w.pages p free_page).used }))) u) (used_kept w.pages p v)
+    ∙ ap (λ hs. with_pages w hs (map (λ (page : Page). page.used) w.pages)) (map-set (λ (page : Page). page.header) w.pages p (record { header = v; used = (slice_index_or w.pages p free_page).used }))
+    ∙ set_at w 4 p (215 + p) 215 v b.headers refl (omega arith)
+named_changes pages w (word.Used p) v h b t =
+    let l = h.pages in let m = length-map w.pages (λ (page : Page). page.used) in
+    ap (λ hs. with_pages w hs (map (λ (page : Page). page.used) (slice_set w.pages p (record { header = (slice_index_or w.pages p free_page).header; used = v })))) (headers_kept w.pages p v)
+    ∙ ap (λ u. with_pages w (map (λ (page : Page). page.header) w.pages) u) (map-set (λ (page : Page). page.used) w.pages p (record { header = (slice_index_or w.pages p free_page).header; used = v }))
+    ∙ set_at w 5 p (215 + pages + p) (215 + pages) v b.used refl (omega arith)
+named_changes pages w (word.Quar p) v h b t =
+    let l = h.freed in let s = h.snapshot in let q = quarantine_length w.freed w.snapshot (h.freed ∙ sym h.snapshot) in
+    ap (λ xs. with_quarantine w xs) (quarantine_set w.freed w.snapshot p (v % 2 ^ 32) (v / 2 ^ 32) (h.freed ∙ sym h.snapshot) ∙ ap (λ x. slice_set (quarantine_words w.freed w.snapshot) p x) (quarantine_whole v))
+    ∙ set_at w 6 p (215 + 2 * pages + p) (215 + 2 * pages) v b.quarantine refl (omega arith)
+named_changes pages w (word.Mark p) v h b t = let l = h.marks in set_at w 7 p (215 + 3 * pages + p) (215 + 3 * pages) v b.marks refl (omega arith)
+named_changes pages w (word.Black p) v h b t = let l = h.blacks in set_at w 8 p (215 + 4 * pages + p) (215 + 4 * pages) v b.blacks refl (omega arith)
+named_changes pages w (word.Dirty p) v h b t = let l = h.dirty in set_at w 9 p (215 + 5 * pages + p) (215 + 5 * pages) v b.dirty refl (omega arith)
+named_changes pages w (word.Heap n) v h b t = let l = h.heap in set_at w 10 n (215 + 6 * pages + n) (215 + 6 * pages) v b.heap refl (omega arith)
+
+pub words_change : (pages : ℕ) (w : Words) (x : TableWord) (v : ℕ) → AreOfPages pages w → IsOfTable pages x
+    → in_order (with_word w x v) ≡ slice_set (in_order w) (index_of pages x) v
+words_change pages w Turn v h t = refl
+words_change pages w (Named x) v h t = named_changes pages w x v h (begins pages w h) t
