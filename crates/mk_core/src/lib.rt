@@ -6,6 +6,8 @@ mod cells;
 mod config;
 mod events;
 mod machine;
+mod order;
+mod ranges;
 mod seats;
 mod table;
 
