@@ -7,6 +7,8 @@ mod config;
 mod events;
 mod laws;
 mod machine;
+mod order;
+mod ranges;
 mod seats;
 mod table;
 

@@ -1,0 +1,229 @@
+//! Conditions 4, 5 and 6 of an event: its arguments are in range, and the gates and the phase are as its
+//! kind asks.
+ghost use Rattle.std.specs.Prelude.{◌≡◌, ◌*◌, nat_lt};
+ghost use Rattle.mk_core.specs.Calls.{has_operands, word_met};
+ghost use Rattle.mk_core.specs.Moments.{is_number_of, is_held, others_are_held, none_is_held};
+ghost use Rattle.mk_core.specs.NewPlaces.{target};
+ghost use Rattle.mk_core.specs.Ranges.{is_word, is_other_caller, is_word_met, is_in_range, is_run_cell, has_gates, has_phase};
+
+use crate::cells::{heads_run, is_unmapped};
+use crate::machine::Core;
+use crate::table::Table;
+use crate::{Flight, Seat, Stage, Step, Word};
+use mk_geom::Cell;
+use mk_never::Op;
+
+impl Seat {
+    /// Whether it is the caller of this number.
+    fn is_caller(self, caller: u64) -> bool
+        ensures { result ≡ is_number_of self caller }
+    {
+        match self {
+            Seat::Caller(number) => number == caller,
+            Seat::Marker(_) | Seat::Host => false,
+        }
+    }
+}
+
+impl Table {
+    /// Whether the caller's gate is held.
+    fn is_held(&self, caller: u64) -> bool
+        ensures { result ≡ is_held self.now caller }
+    {
+        self.gate(caller) == 2
+    }
+
+    /// Whether the cell is a large object's.
+    fn is_run(&self, cell: Option<Cell>) -> bool
+        ensures { result ≡ is_run_cell self.now cell }
+    {
+        match cell {
+            Some(cell) => heads_run(self.header(cell.page)),
+            None => false,
+        }
+    }
+}
+
+/// Whether the phase is one that the kind of step asks for; where that goes by case, one that a case
+/// names.
+pub(crate) fn has_phase(phase: u64, step: Step) -> bool
+    ensures { result ≡ has_phase phase step }
+{
+    match step {
+        Step::Give => matches!(phase, 0 | 1 | 5),
+        Step::Head { .. } | Step::Used { .. } | Step::Quar { .. } => matches!(phase, 0 | 1 | 4),
+        Step::Grant => matches!(phase, 0 | 1),
+        Step::Open(_) => phase != 3,
+        Step::Clear(_) | Step::Full | Step::Begin => phase == 0,
+        Step::Mark { .. } => matches!(phase, 1 | 2),
+        Step::Close | Step::Black { .. } => phase == 2,
+        Step::Release => phase == 3,
+        Step::End => phase == 4,
+        Step::Want => phase == 1,
+        Step::Undirty(_) | Step::Unblack(_) => matches!(phase, 0 | 2),
+        _ => true,
+    }
+}
+
+impl Core {
+    /// Whether the table has a word of that name.
+    fn is_word(&self, word: Word) -> bool
+        ensures { result ≡ is_word self.now.config word }
+    {
+        match word {
+            Word::Gate(caller) => caller < self.config.callers,
+            Word::Reg { caller, register } => caller < self.config.callers && register < 8,
+            Word::Global(global) => global < 64,
+            Word::Head(page)
+            | Word::Used(page)
+            | Word::Quar(page)
+            | Word::Mark(page)
+            | Word::Black(page)
+            | Word::Dirty(page) => page < self.config.pages,
+            Word::Heap(word) => self.is_heap_word(word as u128),
+            _ => true,
+        }
+    }
+
+    fn is_heap_word(&self, word: u128) -> bool
+        ensures { result ≡ nat_lt word (64 * self.now.config.pages) }
+    {
+        word < 64 * self.config.pages as u128
+    }
+
+    fn is_other_caller(&self, seat: Seat, caller: u64) -> bool
+        ensures { result ≡ is_other_caller self.now.config seat caller }
+    {
+        caller < self.config.callers && !seat.is_caller(caller)
+    }
+
+    /// Whether the word that the call accesses is one of the heap.
+    fn is_word_met(&self, flight: Flight) -> bool
+        ensures { result ≡ is_word_met self.now.config flight }
+    {
+        flight.q >= 65536 && self.is_heap_word(word_met(flight))
+    }
+
+    /// Whether the arguments of a step are in range, for a seat that is in the middle of this call.
+    pub(crate) fn is_in_range(&self, seat: Seat, flight: Flight, step: Step) -> bool
+        ensures { result ≡ is_in_range self.now.config seat flight step }
+    {
+        match step {
+            Step::Enter(op) | Step::Take(Some(op)) => self.has_operands(op),
+            Step::Probe | Step::Read | Step::Write | Step::Cas | Step::Dirty => {
+                self.is_word_met(flight)
+            }
+            Step::Look(word) | Step::Mlook(word) => self.is_word(word),
+            Step::Head { page, .. }
+            | Step::Used { page, .. }
+            | Step::Quar { page, .. }
+            | Step::Clear(page)
+            | Step::Mark { page, .. }
+            | Step::Undirty(page)
+            | Step::Black { page, .. }
+            | Step::Unblack(page) => page < self.config.pages,
+            Step::Hold(caller) | Step::Open(caller) => self.is_other_caller(seat, caller),
+            Step::Wipe(word) => self.is_heap_word(word as u128),
+            Step::Claim { page, cell } => page < self.config.pages && cell < 32,
+            _ => true,
+        }
+    }
+
+    /// Whether all gates but the seat's own are held.
+    #[tactic(auto, using(crate::proofs::AllBelow::all_below_zero_is, crate::proofs::AllBelow::all_below_more_is))]
+    pub(crate) fn others_are_held(&self, seat: Seat) -> bool
+        ensures { result ≡ others_are_held self.now.config.callers self.now.now.words seat }
+    {
+        for caller in 0..self.config.callers {
+            if !seat.is_caller(caller) && !self.table.is_held(caller) {
+                return false;
+            }
+        }
+        true
+    }
+
+    /// Whether no gate is held.
+    #[tactic(auto, using(crate::proofs::AllBelow::all_below_zero_is, crate::proofs::AllBelow::all_below_more_is))]
+    pub(crate) fn none_is_held(&self) -> bool
+        ensures { result ≡ none_is_held self.now.config.callers self.now.now.words }
+    {
+        for caller in 0..self.config.callers {
+            if self.table.is_held(caller) {
+                return false;
+            }
+        }
+        true
+    }
+
+    /// Whether the gates are as a step of the seat asks, which is in the middle of this call.
+    pub(crate) fn has_gates(&self, seat: Seat, flight: Flight, step: Step) -> bool
+        ensures { result ≡ has_gates self.now.config self.now.now.words seat flight step }
+    {
+        match step {
+            Step::Give => self.none_is_held(),
+            Step::Look(Word::Reg { caller, .. }) => {
+                seat.is_caller(caller) || self.table.is_held(caller)
+            }
+            Step::Head { value, .. } => !is_unmapped(value) || self.others_are_held(seat),
+            Step::Quar { .. } => {
+                !self.table.is_run(self.target(flight)) || self.others_are_held(seat)
+            }
+            Step::Hold(caller) => !self.table.is_held(caller),
+            Step::Open(caller) => self.table.is_held(caller),
+            Step::Close | Step::Release | Step::Want | Step::Black { .. } => {
+                self.others_are_held(seat)
+            }
+            Step::Undirty(_) | Step::Unblack(_) => {
+                self.table.phase() != 2 || self.others_are_held(seat)
+            }
+            _ => true,
+        }
+    }
+}
+
+// STAND-IN
+
+/// The heap word that the call accesses.
+fn word_met(flight: Flight) -> u128
+    ensures { result ≡ word_met flight }
+{
+    let offset = match flight.op {
+        Op::GetNum { i, .. }
+        | Op::SetNum { i, .. }
+        | Op::GetPtr { i, .. }
+        | Op::SetPtr { i, .. }
+        | Op::CasPtr { i, .. }
+        | Op::Lea { i, .. } => i,
+        _ => 0,
+    };
+    flight.q.saturating_sub(65536) as u128 / 8 + offset as u128
+}
+
+impl Core {
+    /// Whether the registers, the global and the type of an operation are there.
+    fn has_operands(&self, op: Op) -> bool
+        ensures { result ≡ has_operands self.now.config op }
+    {
+        match op {
+            Op::New { d, ty, .. } => d < 8 && ty < self.config.types.count(),
+            Op::Free { p } | Op::IsNull { p } => p < 8,
+            Op::GetNum { q, .. } | Op::SetNum { q, .. } => q < 8,
+            Op::GetPtr { d, q, .. } | Op::Lea { d, q, .. } | Op::Move { d, q } => q < 8 && d < 8,
+            Op::SetPtr { q, p, .. } | Op::Same { p, q } => q < 8 && p < 8,
+            Op::CasPtr { q, p, r, .. } => q < 8 && p < 8 && r < 8,
+            Op::Clear { d } => d < 8,
+            Op::GetGlobal { d, g } => d < 8 && g < 64,
+            Op::SetGlobal { g, p } => p < 8 && g < 64,
+        }
+    }
+
+    /// The cell that a `Free` frees.
+    fn target(&self, flight: Flight) -> Option<Cell>
+        ensures { result ≡ target self.now.config.pages self.now.now.words flight }
+    {
+        match (flight.stage, flight.op) {
+            (Stage::Turn, Op::Free { .. }) => self.table.pointed_cell(self.config.pages, flight.p),
+            _ => None,
+        }
+    }
+}
