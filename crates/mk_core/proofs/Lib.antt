@@ -4,4 +4,5 @@ pub mod Histories
 pub mod LayoutLemmas
 pub mod Lengths
 pub mod RegionLemmas
+pub mod Schedules
 pub mod Steps
