@@ -7,6 +7,7 @@ mod cells;
 mod config;
 mod events;
 mod machine;
+mod reaching;
 mod seats;
 mod table;
 
