@@ -2,6 +2,7 @@
 #![tactic(auto)]
 
 mod accesses;
+mod calls;
 mod cells;
 mod config;
 mod events;
@@ -9,6 +10,7 @@ mod laws;
 mod machine;
 mod order;
 mod ranges;
+mod reaching;
 mod seats;
 mod table;
 

@@ -1,9 +1,9 @@
 //! Conditions 1, 2 and 3 of an event: its seat exists, its kind is open to the seat, and it comes next in
 //! the seat's order.
 ghost use Rattle.std.specs.Prelude.{◌≡◌};
-ghost use Rattle.mk_core.specs.Calls.{is_under_turn};
 ghost use Rattle.mk_core.specs.Order.{seat_exists, group_of, is_open_to, is_of_any_holder, may_decide, comes_next, comes_next_to_host, host_has_turn, is_in_order};
 
+use crate::calls::is_under_turn;
 use crate::events::Group;
 use crate::machine::Core;
 use crate::{Event, Seat, Stage, Step};
@@ -131,13 +131,4 @@ impl Core {
             Seat::Host => comes_next_to_host(self.host_has_turn(), event.step),
         }
     }
-}
-
-// STAND-IN
-
-/// Whether a call of the operation begins with `take`.
-fn is_under_turn(op: Op) -> bool
-    ensures { result ≡ is_under_turn op }
-{
-    matches!(op, Op::New { .. } | Op::Free { .. })
 }

@@ -1,11 +1,11 @@
 //! Conditions 4, 5 and 6 of an event: its arguments are in range, and the gates and the phase are as its
 //! kind asks.
 ghost use Rattle.std.specs.Prelude.{◌≡◌, ◌*◌, nat_lt};
-ghost use Rattle.mk_core.specs.Calls.{has_operands, word_met};
 ghost use Rattle.mk_core.specs.Moments.{is_number_of, is_held, others_are_held, none_is_held};
 ghost use Rattle.mk_core.specs.NewPlaces.{target};
 ghost use Rattle.mk_core.specs.Ranges.{is_word, is_other_caller, is_word_met, is_in_range, is_run_cell, has_gates, has_phase};
 
+use crate::calls::word_met;
 use crate::cells::{heads_run, is_unmapped};
 use crate::machine::Core;
 use crate::table::Table;
@@ -183,40 +183,7 @@ impl Core {
 
 // STAND-IN
 
-/// The heap word that the call accesses.
-fn word_met(flight: Flight) -> u128
-    ensures { result ≡ word_met flight }
-{
-    let offset = match flight.op {
-        Op::GetNum { i, .. }
-        | Op::SetNum { i, .. }
-        | Op::GetPtr { i, .. }
-        | Op::SetPtr { i, .. }
-        | Op::CasPtr { i, .. }
-        | Op::Lea { i, .. } => i,
-        _ => 0,
-    };
-    flight.q.saturating_sub(65536) as u128 / 8 + offset as u128
-}
-
 impl Core {
-    /// Whether the registers, the global and the type of an operation are there.
-    fn has_operands(&self, op: Op) -> bool
-        ensures { result ≡ has_operands self.now.config op }
-    {
-        match op {
-            Op::New { d, ty, .. } => d < 8 && ty < self.config.types.count(),
-            Op::Free { p } | Op::IsNull { p } => p < 8,
-            Op::GetNum { q, .. } | Op::SetNum { q, .. } => q < 8,
-            Op::GetPtr { d, q, .. } | Op::Lea { d, q, .. } | Op::Move { d, q } => q < 8 && d < 8,
-            Op::SetPtr { q, p, .. } | Op::Same { p, q } => q < 8 && p < 8,
-            Op::CasPtr { q, p, r, .. } => q < 8 && p < 8 && r < 8,
-            Op::Clear { d } => d < 8,
-            Op::GetGlobal { d, g } => d < 8 && g < 64,
-            Op::SetGlobal { g, p } => p < 8 && g < 64,
-        }
-    }
-
     /// The cell that a `Free` frees.
     fn target(&self, flight: Flight) -> Option<Cell>
         ensures { result ≡ target self.now.config.pages self.now.now.words flight }

@@ -1,0 +1,319 @@
+//! Which word each event reaches, and how.
+ghost use Rattle.std.specs.Prelude.{◌≡◌, ◌+◌, ◌*◌, ◌%◌, ◌^◌, ◌<◌, IsTrue, Option};
+ghost use Rattle.mk_geom.specs.declared.addresses.Cell.{Cell};
+ghost use Rattle.mk_core.specs.declared.events.Word.TheVariants as word;
+ghost use Rattle.mk_core.specs.Image.{address_of};
+ghost use Rattle.mk_core.specs.Tests.{bit_for};
+ghost use Rattle.mk_core.specs.Calls.{value_for, value_written, word_met};
+ghost use Rattle.mk_core.specs.Order.{seat_exists};
+ghost use Rattle.mk_core.specs.Ranges.{is_in_range, is_word_met};
+ghost use Rattle.mk_core.specs.NewPlaces.{is_number, is_leaf, object_of, object_made, base_made};
+ghost use Rattle.mk_core.specs.MarkerConditions.{cell_seen};
+ghost use Rattle.mk_core.specs.Moments.{flight_of, holder_number};
+ghost use Rattle.mk_core.specs.Accesses.{caller_number, register_met, reg_access, tally_word, granted_base, next_word, scan_page, scan_bit, seen_page, seen_bit, word_reached, access_by, marker_at, reached, access};
+
+use crate::calls::{
+    global_of, page_met, register_d, register_p, register_q, register_r, value_for, value_written,
+    word_met,
+};
+use crate::cells::bit;
+use crate::machine::OUTSIDE;
+use crate::seats::Object;
+use crate::{Access, Core, Event, Flight, Marker, Placing, Scan, Seat, Stage, Step, TableWord, Tally, Word};
+use mk_geom::{Cell, Place, class_of, class_words, lookup};
+use mk_never::{Kind, Op};
+
+fn caller_number(seat: Seat) -> u64
+    ensures { result ≡ caller_number seat }
+{
+    match seat {
+        Seat::Caller(caller) => caller,
+        Seat::Marker(_) | Seat::Host => 0,
+    }
+}
+
+/// The register of a `reg` step, by the stage of the call.
+fn register_met(flight: Flight) -> u8
+    ensures { result ≡ register_met flight flight.stage }
+{
+    match flight.stage {
+        Stage::LoadQ => register_q(flight.op),
+        Stage::LoadP => register_p(flight.op),
+        Stage::LoadR => register_r(flight.op),
+        _ => register_d(flight.op),
+    }
+}
+
+fn reg_access(flight: Flight) -> Access
+    ensures { result ≡ reg_access flight flight.stage }
+{
+    match flight.stage {
+        Stage::Store => Access::Store(value_for(flight)),
+        Stage::Put => Access::Store(flight.loaded),
+        _ => Access::Load,
+    }
+}
+
+fn tally_word(tally: Tally) -> Word
+    ensures { result ≡ tally_word tally }
+{
+    match tally {
+        Tally::Held => Word::Held,
+        Tally::Fresh => Word::Fresh,
+        Tally::Cycles => Word::Cycles,
+        Tally::Released => Word::Released,
+        Tally::Full => Word::Full,
+    }
+}
+
+fn next_word(scan: Option<Scan>) -> u64
+    ensures { result ≡ next_word scan }
+{
+    scan.map_or(0, |scan| scan.next)
+}
+
+fn scan_page(scan: Option<Scan>) -> u64
+    ensures { result ≡ scan_page scan }
+{
+    scan.map_or(0, |scan| scan.page)
+}
+
+/// The bit of the cell that is scanned.
+fn scan_bit(scan: Option<Scan>) -> u64
+    ensures { result ≡ scan_bit scan }
+{
+    scan.map_or(0, |scan| bit_for(scan.index))
+}
+
+fn seen_page(cell: Option<Cell>) -> u64
+    ensures { result ≡ seen_page cell }
+{
+    cell.map_or(0, |cell| cell.page)
+}
+
+fn seen_bit(cell: Option<Cell>) -> u64
+    ensures { result ≡ seen_bit cell }
+{
+    cell.map_or(0, |cell| bit_for(cell.index))
+}
+
+/// The bit that stands for a cell, or 0 where a word has none for it.
+fn bit_for(index: u64) -> u64
+    ensures { result ≡ bit_for index }
+{
+    bit(index).unwrap_or(0)
+}
+
+fn register_word(caller: u64, register: u8) -> Word
+    ensures { result ≡ word.Reg caller register }
+{
+    Word::Reg {
+        caller,
+        register: register as u64,
+    }
+}
+
+impl Core {
+    /// What a seat is at as a marker; another is outside.
+    fn marker_at(&self, seat: Seat) -> Marker
+        ensures { result ≡ marker_at self.now.now seat }
+    {
+        match seat {
+            Seat::Marker(marker) => self.marker(marker),
+            Seat::Caller(_) | Seat::Host => OUTSIDE,
+        }
+    }
+
+    /// What the turn is while the seat holds it.
+    fn turn_held(&self, seat: Seat) -> u64
+        requires { IsTrue (seat_exists self.now.config seat) }
+        ensures { result ≡ 1 + holder_number self.now.config seat }
+    {
+        self.is_within_limits();
+        match seat {
+            Seat::Caller(caller) => 1 + caller,
+            Seat::Marker(_) | Seat::Host => 1 + self.config.callers,
+        }
+    }
+
+    /// The heap word that a call's access meets.
+    fn heap_word(&self, flight: Flight) -> u64
+        requires { IsTrue (is_word_met self.now.config flight) }
+        ensures { result ≡ word_met flight }
+    {
+        self.is_within_limits();
+        word_met(flight) as u64
+    }
+
+    /// The first heap word of the object that is granted.
+    fn granted_base(&self, flight: Flight) -> u128
+        ensures { result ≡ granted_base self.now.config flight self.now.now.seats.holding.placing }
+    {
+        match self.holding.placing {
+            Placing::Used(place) => base_made(self.object_made(flight.op), place),
+            _ => 0,
+        }
+    }
+
+    /// Its address.
+    fn granted_address(&self, flight: Flight) -> u64
+        ensures { result ≡ address_of (granted_base self.now.config flight self.now.now.seats.holding.placing) % 2 ^ 64 }
+    {
+        let address = self.granted_base(flight).wrapping_mul(8).wrapping_add(65536);
+        (address % (1 << 64)) as u64
+    }
+
+    /// The word that an event reaches.
+    pub(crate) fn word_reached(&self, event: Event) -> TableWord
+        requires range { IsTrue (is_in_range self.now.config event.seat (flight_of self.now.now event.seat) event.step) }
+        ensures { result ≡ reached self.now.config self.now.now event }
+    {
+        let caller = caller_number(event.seat);
+        let flight = self.flight(event.seat);
+        let marker = self.marker_at(event.seat);
+        TableWord::Named(match event.step {
+            Step::Take(_) | Step::Give | Step::Full => return TableWord::Turn,
+            Step::Enter(_) | Step::Leave => Word::Gate(caller),
+            Step::Hold(other) | Step::Open(other) => Word::Gate(other),
+            Step::Reg => register_word(caller, register_met(flight)),
+            Step::Grant => register_word(caller, register_d(flight.op)),
+            Step::Getg | Step::Setg => Word::Global(global_of(flight.op) as u64),
+            Step::Look(word) | Step::Mlook(word) => word,
+            Step::Probe => Word::Head(page_met(flight)),
+            Step::Head { page, .. } => Word::Head(page),
+            Step::Used { page, .. } => Word::Used(page),
+            Step::Quar { page, .. } => Word::Quar(page),
+            Step::Clear(page) | Step::Mark { page, .. } | Step::Claim { page, .. } => Word::Mark(page),
+            Step::Mmark => Word::Mark(seen_page(self.cell_seen(marker))),
+            Step::Black { page, .. } | Step::Unblack(page) => Word::Black(page),
+            Step::Mblack => Word::Black(scan_page(marker.scan)),
+            Step::Dirty => Word::Dirty(page_met(flight)),
+            Step::Undirty(page) => Word::Dirty(page),
+            Step::Read | Step::Write | Step::Cas => Word::Heap(self.heap_word(flight)),
+            Step::Wipe(word) => Word::Heap(word),
+            Step::Mload => Word::Heap(next_word(marker.scan)),
+            Step::Tally { tally, .. } => tally_word(tally),
+            Step::Begin
+            | Step::Close
+            | Step::Release
+            | Step::End
+            | Step::Want
+            | Step::Attend
+            | Step::Quit
+            | Step::Over => Word::Phase,
+        })
+    }
+
+    /// How an event accesses it.
+    pub(crate) fn access(&self, event: Event) -> Access
+        requires seat { IsTrue (seat_exists self.now.config event.seat) }
+        ensures { result ≡ access self.now.config self.now.now event }
+    {
+        let flight = self.flight(event.seat);
+        let marker = self.marker_at(event.seat);
+        match event.step {
+            Step::Enter(_) => Access::Exchange { old: 0, new: 1 },
+            Step::Hold(_) => Access::Exchange { old: 0, new: 2 },
+            Step::Take(_) => Access::Exchange {
+                old: 0,
+                new: self.turn_held(event.seat),
+            },
+            Step::Cas => Access::Exchange {
+                old: flight.p,
+                new: flight.r,
+            },
+            Step::Reg => reg_access(flight),
+            Step::Write => Access::Store(value_written(flight)),
+            Step::Setg => Access::Store(flight.p),
+            Step::Grant => Access::Store(self.granted_address(flight)),
+            Step::Dirty => Access::Store(1),
+            Step::Leave
+            | Step::Give
+            | Step::Open(_)
+            | Step::Clear(_)
+            | Step::Wipe(_)
+            | Step::Undirty(_)
+            | Step::Unblack(_) => Access::Store(0),
+            Step::Head { value, .. }
+            | Step::Used { value, .. }
+            | Step::Quar { value, .. }
+            | Step::Tally { value, .. } => Access::Store(value),
+            Step::Mark { value, .. } | Step::Black { value, .. } => Access::Or(value),
+            Step::Mmark => Access::Or(seen_bit(self.cell_seen(marker))),
+            Step::Mblack => Access::Or(scan_bit(marker.scan)),
+            Step::Begin | Step::Close | Step::Release | Step::Want => Access::Add(1),
+            Step::Over => Access::Add(5),
+            Step::Attend => Access::Add(8),
+            Step::End => Access::Sub(4),
+            Step::Quit => Access::Sub(8),
+            Step::Probe
+            | Step::Read
+            | Step::Getg
+            | Step::Look(_)
+            | Step::Full
+            | Step::Mlook(_)
+            | Step::Claim { .. }
+            | Step::Mload => Access::Load,
+        }
+    }
+}
+
+// STAND-IN
+
+fn is_number(kind: &Kind) -> bool
+    ensures { result ≡ is_number kind.now }
+{
+    matches!(kind, Kind::Num)
+}
+
+fn is_leaf(kinds: &[Kind]) -> bool
+    ensures { result ≡ is_leaf kinds.now }
+{
+    kinds.iter().all(is_number)
+}
+
+fn object_of(kinds: &[Kind]) -> Object
+    ensures { result ≡ object_of kinds.now }
+{
+    Object {
+        words: kinds.len() as u64,
+        leaf: is_leaf(kinds),
+    }
+}
+
+fn base_made(object: Object, place: Place) -> u128
+    ensures { result ≡ base_made object place }
+{
+    let index = if object.words <= 32 {
+        place.index as u128 * class_words(class_of(object.words).unwrap_or(0)) as u128
+    } else {
+        0
+    };
+    64 * place.page as u128 + index
+}
+
+impl Core {
+    fn object_made(&self, op: Op) -> Object
+        ensures { result ≡ object_made self.now.config op }
+    {
+        match op {
+            Op::New { ty, .. } if ty < self.config.types.count() => object_of(self.config.types.kinds(ty)),
+            _ => Object {
+                words: 0,
+                leaf: true,
+            },
+        }
+    }
+
+    fn cell_seen(&self, marker: Marker) -> Option<Cell>
+        ensures { result ≡ cell_seen self.now.config marker.seen marker.hand }
+    {
+        let seen = marker.seen?;
+        let value = marker.hand?;
+        if seen.page == value.saturating_sub(65536) / 512 {
+            lookup(self.config.pages, seen.header, value)
+        } else {
+            None
+        }
+    }
+}
