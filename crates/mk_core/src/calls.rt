@@ -1,7 +1,7 @@
 //! The calls of callers: the operands and the steps of each operation, and what a step makes of the call
 //! in flight.
-ghost use Rattle.std.specs.Prelude.{◌≡◌, ◌==◌, ◌%◌, ◌^◌, ◌<◌, length, nat_lt};
-ghost use Rattle.mk_core.specs.Calls.{q_of, p_of, r_of, d_of, g_of, i_of, has_type, has_operands, is_under_turn, steps_of, number_of_stage, first_of, stage_behind, stage_refused, begun, word_met, page_met, value_for, value_written, onward, still, refused, one_if, progress_q, progress_p, progress_reg, progress_read, progress_cas, progress_getg};
+ghost use Rattle.std.specs.Prelude.{◌≡◌};
+ghost use Rattle.mk_core.specs.Calls.{q_of, p_of, r_of, d_of, g_of, i_of, has_type, has_operands, is_under_turn, steps_of, first_of, stage_behind, stage_refused, begun, word_met, page_met, value_for, value_written, onward, still, refused, progress_q, progress_p, progress_reg, progress_read, progress_cas, progress_getg};
 
 use crate::seats::Progress;
 use crate::{Answer, Core, Flight, Stage};
@@ -95,47 +95,24 @@ pub(crate) fn is_under_turn(op: Op) -> bool
 fn steps_of(op: Op) -> &'static [Stage]
     ensures { result.now ≡ steps_of op }
 {
+    use crate::Stage::{
+        Cas, Dirty, Getg, Give, Leave, LoadP, LoadQ, LoadR, Probe, Put, Read, Setg, Store, Turn,
+        Write,
+    };
     match op {
-        Op::GetNum { .. } => &[Stage::LoadQ, Stage::Probe, Stage::Read, Stage::Leave],
-        Op::GetPtr { .. } => &[
-            Stage::LoadQ,
-            Stage::Probe,
-            Stage::Read,
-            Stage::Put,
-            Stage::Leave,
-        ],
-        Op::SetNum { .. } => &[
-            Stage::LoadQ,
-            Stage::Probe,
-            Stage::Write,
-            Stage::Dirty,
-            Stage::Leave,
-        ],
-        Op::SetPtr { .. } => &[
-            Stage::LoadQ,
-            Stage::LoadP,
-            Stage::Probe,
-            Stage::Write,
-            Stage::Dirty,
-            Stage::Leave,
-        ],
-        Op::CasPtr { .. } => &[
-            Stage::LoadQ,
-            Stage::LoadP,
-            Stage::LoadR,
-            Stage::Probe,
-            Stage::Cas,
-            Stage::Dirty,
-            Stage::Leave,
-        ],
-        Op::Lea { .. } | Op::Move { .. } => &[Stage::LoadQ, Stage::Store, Stage::Leave],
-        Op::Clear { .. } => &[Stage::Store, Stage::Leave],
-        Op::GetGlobal { .. } => &[Stage::Getg, Stage::Put, Stage::Leave],
-        Op::SetGlobal { .. } => &[Stage::LoadP, Stage::Setg, Stage::Leave],
-        Op::Same { .. } => &[Stage::LoadP, Stage::LoadQ, Stage::Leave],
-        Op::IsNull { .. } => &[Stage::LoadP, Stage::Leave],
-        Op::New { .. } => &[Stage::Turn, Stage::Give],
-        Op::Free { .. } => &[Stage::LoadP, Stage::Turn, Stage::Give],
+        Op::GetNum { .. } => &[LoadQ, Probe, Read, Leave],
+        Op::GetPtr { .. } => &[LoadQ, Probe, Read, Put, Leave],
+        Op::SetNum { .. } => &[LoadQ, Probe, Write, Dirty, Leave],
+        Op::SetPtr { .. } => &[LoadQ, LoadP, Probe, Write, Dirty, Leave],
+        Op::CasPtr { .. } => &[LoadQ, LoadP, LoadR, Probe, Cas, Dirty, Leave],
+        Op::Lea { .. } | Op::Move { .. } => &[LoadQ, Store, Leave],
+        Op::Clear { .. } => &[Store, Leave],
+        Op::GetGlobal { .. } => &[Getg, Put, Leave],
+        Op::SetGlobal { .. } => &[LoadP, Setg, Leave],
+        Op::Same { .. } => &[LoadP, LoadQ, Leave],
+        Op::IsNull { .. } => &[LoadP, Leave],
+        Op::New { .. } => &[Turn, Give],
+        Op::Free { .. } => &[LoadP, Turn, Give],
     }
 }
 

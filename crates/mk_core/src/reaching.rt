@@ -1,16 +1,15 @@
 //! Which word each event reaches, and how.
-ghost use Rattle.std.specs.Prelude.{◌≡◌, ◌+◌, ◌*◌, ◌%◌, ◌^◌, ◌<◌, IsTrue, Option};
-ghost use Rattle.mk_geom.specs.declared.addresses.Cell.{Cell};
+ghost use Rattle.std.specs.Prelude.{◌≡◌, ◌+◌, ◌%◌, ◌^◌, IsTrue};
 ghost use Rattle.mk_core.specs.declared.events.Word.TheVariants as word;
 ghost use Rattle.mk_core.specs.Image.{address_of};
 ghost use Rattle.mk_core.specs.Tests.{bit_for};
-ghost use Rattle.mk_core.specs.Calls.{value_for, value_written, word_met};
+ghost use Rattle.mk_core.specs.Calls.{word_met};
 ghost use Rattle.mk_core.specs.Order.{seat_exists};
 ghost use Rattle.mk_core.specs.Ranges.{is_in_range, is_word_met};
 ghost use Rattle.mk_core.specs.NewPlaces.{is_number, is_leaf, object_of, object_made, base_made};
 ghost use Rattle.mk_core.specs.MarkerConditions.{cell_seen};
 ghost use Rattle.mk_core.specs.Moments.{flight_of, holder_number};
-ghost use Rattle.mk_core.specs.Accesses.{caller_number, register_met, reg_access, tally_word, granted_base, next_word, scan_page, scan_bit, seen_page, seen_bit, word_reached, access_by, marker_at, reached, access};
+ghost use Rattle.mk_core.specs.Accesses.{caller_number, register_met, reg_access, tally_word, granted_base, next_word, scan_page, scan_bit, seen_page, seen_bit, marker_at, reached, access};
 
 use crate::calls::{
     global_of, page_met, register_d, register_p, register_q, register_r, value_for, value_written,
@@ -19,7 +18,9 @@ use crate::calls::{
 use crate::cells::bit;
 use crate::machine::OUTSIDE;
 use crate::seats::Object;
-use crate::{Access, Core, Event, Flight, Marker, Placing, Scan, Seat, Stage, Step, TableWord, Tally, Word};
+use crate::{
+    Access, Core, Event, Flight, Marker, Placing, Scan, Seat, Stage, Step, TableWord, Tally, Word,
+};
 use mk_geom::{Cell, Place, class_of, class_words, lookup};
 use mk_never::{Kind, Op};
 
@@ -159,7 +160,10 @@ impl Core {
     fn granted_address(&self, flight: Flight) -> u64
         ensures { result ≡ address_of (granted_base self.now.config flight self.now.now.seats.holding.placing) % 2 ^ 64 }
     {
-        let address = self.granted_base(flight).wrapping_mul(8).wrapping_add(65536);
+        let address = self
+            .granted_base(flight)
+            .wrapping_mul(8)
+            .wrapping_add(65536);
         (address % (1 << 64)) as u64
     }
 
@@ -183,7 +187,8 @@ impl Core {
             Step::Head { page, .. } => Word::Head(page),
             Step::Used { page, .. } => Word::Used(page),
             Step::Quar { page, .. } => Word::Quar(page),
-            Step::Clear(page) | Step::Mark { page, .. } | Step::Claim { page, .. } => Word::Mark(page),
+            Step::Clear(page) | Step::Mark { page, .. } => Word::Mark(page),
+            Step::Claim { page, .. } => Word::Mark(page),
             Step::Mmark => Word::Mark(seen_page(self.cell_seen(marker))),
             Step::Black { page, .. } | Step::Unblack(page) => Word::Black(page),
             Step::Mblack => Word::Black(scan_page(marker.scan)),
@@ -193,14 +198,7 @@ impl Core {
             Step::Wipe(word) => Word::Heap(word),
             Step::Mload => Word::Heap(next_word(marker.scan)),
             Step::Tally { tally, .. } => tally_word(tally),
-            Step::Begin
-            | Step::Close
-            | Step::Release
-            | Step::End
-            | Step::Want
-            | Step::Attend
-            | Step::Quit
-            | Step::Over => Word::Phase,
+            _ => Word::Phase,
         })
     }
 
@@ -209,22 +207,17 @@ impl Core {
         requires seat { IsTrue (seat_exists self.now.config event.seat) }
         ensures { result ≡ access self.now.config self.now.now event }
     {
-        let flight = self.flight(event.seat);
+        let turn = self.turn_held(event.seat);
+        let flight @ Flight { p, r, .. } = self.flight(event.seat);
         let marker = self.marker_at(event.seat);
         match event.step {
             Step::Enter(_) => Access::Exchange { old: 0, new: 1 },
             Step::Hold(_) => Access::Exchange { old: 0, new: 2 },
-            Step::Take(_) => Access::Exchange {
-                old: 0,
-                new: self.turn_held(event.seat),
-            },
-            Step::Cas => Access::Exchange {
-                old: flight.p,
-                new: flight.r,
-            },
+            Step::Take(_) => Access::Exchange { old: 0, new: turn },
+            Step::Cas => Access::Exchange { old: p, new: r },
             Step::Reg => reg_access(flight),
             Step::Write => Access::Store(value_written(flight)),
-            Step::Setg => Access::Store(flight.p),
+            Step::Setg => Access::Store(p),
             Step::Grant => Access::Store(self.granted_address(flight)),
             Step::Dirty => Access::Store(1),
             Step::Leave
@@ -246,14 +239,7 @@ impl Core {
             Step::Attend => Access::Add(8),
             Step::End => Access::Sub(4),
             Step::Quit => Access::Sub(8),
-            Step::Probe
-            | Step::Read
-            | Step::Getg
-            | Step::Look(_)
-            | Step::Full
-            | Step::Mlook(_)
-            | Step::Claim { .. }
-            | Step::Mload => Access::Load,
+            _ => Access::Load,
         }
     }
 }
@@ -297,7 +283,9 @@ impl Core {
         ensures { result ≡ object_made self.now.config op }
     {
         match op {
-            Op::New { ty, .. } if ty < self.config.types.count() => object_of(self.config.types.kinds(ty)),
+            Op::New { ty, .. } if ty < self.config.types.count() => object_of(
+                self.config.types.kinds(ty),
+            ),
             _ => Object {
                 words: 0,
                 leaf: true,
