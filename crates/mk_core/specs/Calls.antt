@@ -184,7 +184,7 @@ progress_reg f LoadQ found = progress_q f f.op found
 progress_reg f LoadP found = progress_p f f.op found
 progress_reg f LoadR found = onward (record f { r = found }) None
 progress_reg f Store found = onward f (Some answer.Done)
-progress_reg f Put found = onward f None
+progress_reg f Put found = record { flight = record f { stage = Leave }; answer = None }
 progress_reg f _ found = still f
 
 -- `read`: a number is the answer, and a pointer is put into d besides

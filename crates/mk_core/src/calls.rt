@@ -278,7 +278,13 @@ pub(crate) fn progress_reg(flight: Flight, found: u64) -> Progress
         Stage::LoadP => progress_p(flight, found),
         Stage::LoadR => onward(Flight { r: found, ..flight }, None),
         Stage::Store => onward(flight, Some(Answer::Done)),
-        Stage::Put => onward(flight, None),
+        Stage::Put => Progress {
+            flight: Flight {
+                stage: Stage::Leave,
+                ..flight
+            },
+            answer: None,
+        },
         _ => still(flight),
     }
 }
