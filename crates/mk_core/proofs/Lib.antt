@@ -1,2 +1,5 @@
 pub mod AllBelow
 pub mod Bits
+pub mod FirstWhere
+pub mod UsedBits
+pub mod PlacesFrom

@@ -5,6 +5,7 @@ mod accesses;
 mod cells;
 mod config;
 mod events;
+mod fitting;
 mod machine;
 mod seats;
 mod table;
