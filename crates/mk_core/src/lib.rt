@@ -6,6 +6,7 @@ mod calls;
 mod cells;
 mod config;
 mod events;
+mod fitting;
 mod laws;
 mod machine;
 mod order;

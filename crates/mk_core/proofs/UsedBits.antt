@@ -1,0 +1,93 @@
+-- The low bits of a used word: the lowest that is 0, and how many are 1.
+use Rattle.std.proofs.Common.{◌≡◌, ℕ, zero, suc, ◌+◌, ◌-◌, ◌^◌, ◌<◌, ◌≤◌, min, Bool, false, not, cond, nat_eq, nat_lt, length, get_or, count_by, count_ones, refl, bit_and, w64, ap, sym, ◌∙◌, inl, inr, arith}
+use Rattle.std.specs.Bool.{then_some}
+use Rattle.std.specs.Int.{bit_at, bit_not, trailing_zeros, trailing_ones}
+use Rattle.std.specs.List.{position_or_len}
+use Rattle.std.proofs.lemmas.Bool.{cases_lt, lt-ltb, le-ltb}
+use Rattle.std.proofs.lemmas.List.{map-id, get_or_past}
+use Rattle.std.proofs.lemmas.List.FromFn.{length-map-range_with_len, get_or-map-range_with_len}
+use Rattle.std.proofs.lemmas.List.Sums.{position_or_len_is}
+use Rattle.std.proofs.lemmas.Nat.Bits.{bit_at-trailing_ones, bit_at_ones, bit_at_ones_above, bit_at_and, bit_at-lt, same_from_bits}
+use Rattle.std.proofs.lemmas.Simd.{bit_mask_l, ones-mask_l}
+use lib.Lanes.{mask_l}
+use lib.Count.{trailing_of_zero}
+use Rattle.mk_geom.specs.PageUses.{first_where}
+use Rattle.mk_geom.specs.PageWords.{bits_of}
+use Rattle.mk_core.proofs.FirstWhere.{position_is}
+
+pub length-bits_of : (count word : ℕ) → length (bits_of count word) ≡ count
+length-bits_of count word = length-map-range_with_len (λ k. nat_eq (bit_at word k) 1) 0 count
+
+get_or-bits_of : (count word k : ℕ) (d : Bool) → k < count → get_or (bits_of count word) k d ≡ nat_eq (bit_at word k) 1
+get_or-bits_of count word k d within = get_or-map-range_with_len (λ k. nat_eq (bit_at word k) 1) 0 count k k d within (omega arith)
+
+-- `trailing_ones` is the place of the lowest 0, if there is one
+record LowestZero (word place : ℕ) : Type 0 where
+  below : (k : ℕ) → k < place → k < 64 → bit_at word k ≡ 1
+  here : place < 64 → bit_at word place ≡ 0
+
+trailing_ones_is : (word : ℕ) → word < 2 ^ 64 → LowestZero word (trailing_ones w64 word)
+trailing_ones_is word fits = elim (cases_lt (word + 1) (2 ^ 64)) as (λ _. LowestZero word (trailing_ones w64 word)) [
+  | inl less ↦
+      let place = bit_at-trailing_ones w64 word less in
+      record { below = λ k lower within. place.2 k lower; here = λ within. place.1 }
+  | inr most ↦
+      let all : word ≡ 2 ^ 64 - 1 = omega arith in
+      let none : bit_not w64 word ≡ 0 = omega arith in
+      let end : trailing_ones w64 word ≡ 64 = ap (trailing_zeros w64) none ∙ trailing_of_zero 64 in
+      record { below = λ k lower within. rw all (bit_at_ones 64 k within); here = λ within. absurd (omega (arith, end)) }
+]
+
+-- the place of the lowest 0, or the count where there is none
+lowest_or_count : (count word : ℕ) → count ≤ 64 → word < 2 ^ 64
+    → position_or_len not (bits_of count word) ≡ min (trailing_ones w64 word) count
+lowest_or_count count word short fits =
+    let bits = bits_of count word in
+    let long = length-bits_of count word in
+    let lowest = trailing_ones_is word fits in
+    position_or_len_is not bits (min (trailing_ones w64 word) count) false (omega (arith, long))
+    (λ k below. rw (get_or-bits_of count word k false (omega arith), lowest.below k (omega arith) (omega arith)) refl)
+    (λ within.
+    let here : min (trailing_ones w64 word) count ≡ trailing_ones w64 word = omega (arith, long) in
+    rw (here, get_or-bits_of count word (trailing_ones w64 word) false (omega (arith, long)), lowest.here (omega (arith, long))) refl)
+
+pub first_where-bits_of : (count word : ℕ) → count ≤ 64 → word < 2 ^ 64
+    → first_where not (bits_of count word) ≡ then_some (nat_lt (trailing_ones w64 word) count) (trailing_ones w64 word)
+first_where-bits_of count word short fits =
+    let place = trailing_ones w64 word in
+    sym (position_is not (bits_of count word))
+    ∙ rw (lowest_or_count count word short fits, length-bits_of count word)
+    (elim (cases_lt place count) [
+      | inl within ↦
+          let here : min place count ≡ place = omega arith in
+          rw (here, lt-ltb place count within) refl
+      | inr past ↦
+          let end : min place count ≡ count = omega arith in
+          rw (end, le-ltb place count past, le-ltb count count (omega arith)) refl
+    ])
+
+bit_is : (b : ℕ) → b < 2 → min b 1 ≡ cond (nat_eq b 1) 1 0
+bit_is zero bit = λ i. 0
+bit_is (suc n) bit = let none : n ≡ 0 = omega arith in rw none
+
+-- the bits of the word, as a mask has them
+masked : (count word k : ℕ) → bit_at (bit_and word (2 ^ count - 1)) k ≡ cond (get_or (bits_of count word) k false) 1 0
+masked count word k =
+    bit_at_and word (2 ^ count - 1) k
+    ∙ elim (cases_lt k count) [
+      | inl within ↦
+          ap (min (bit_at word k)) (bit_at_ones count k within)
+          ∙ bit_is (bit_at word k) (bit_at-lt word k)
+          ∙ ap (λ b. cond b 1 0) (sym (get_or-bits_of count word k false within))
+      | inr past ↦
+          ap (min (bit_at word k)) (bit_at_ones_above count k past)
+          ∙ (let none : min (bit_at word k) 0 ≡ 0 = omega arith in none)
+          ∙ ap (λ b. cond b 1 0) (sym (get_or_past (bits_of count word) k false (omega (arith, length-bits_of count word))))
+    ]
+
+pub count_ones-masked : (count word : ℕ) → count_ones (bit_and word (2 ^ count - 1)) ≡ count_by (λ bit. bit) (bits_of count word)
+count_ones-masked count word =
+    ap count_ones (same_from_bits (bit_and word (2 ^ count - 1)) (mask_l (bits_of count word))
+    (λ k. masked count word k ∙ sym (bit_mask_l (bits_of count word) k)))
+    ∙ ap (λ bits. count_ones (mask_l bits)) (sym (map-id (bits_of count word)))
+    ∙ ones-mask_l (λ bit. bit) (bits_of count word)

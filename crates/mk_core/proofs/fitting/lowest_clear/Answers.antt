@@ -1,0 +1,10 @@
+use Rattle.std.proofs.Common.{nat_lt, ap, sym, ◌∙◌}
+use Rattle.std.specs.Bool.{then_some}
+use Rattle.mk_core.proofs.UsedBits.{first_where-bits_of}
+use Rattle.mk_core.proofs.fitting.lowest_clear.Goals as goal
+
+pub returns : goal.returns
+returns c =
+    c.then_some.ensures
+    ∙ ap (λ place. then_some (nat_lt place c.args.bits) place) (c.from-place.ensures ∙ c.trailing_ones.ensures)
+    ∙ sym (first_where-bits_of c.args.bits c.args.word c.requires c.ranges.word.fits)
