@@ -1,2 +1,4 @@
 pub mod AllBelow
+pub mod AllBelowParts
 pub mod Bits
+pub mod Wiped

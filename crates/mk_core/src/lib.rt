@@ -6,8 +6,10 @@ mod cells;
 mod config;
 mod events;
 mod machine;
+mod placing;
 mod seats;
 mod table;
+mod turn_conditions;
 
 pub use accesses::{Access, TableWord};
 pub use config::{Config, GlobalTable};
