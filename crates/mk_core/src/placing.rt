@@ -62,7 +62,7 @@ fn object_of(kinds: &[Kind]) -> Object
     }
 }
 
-fn is_small(object: Object) -> bool
+pub(crate) fn is_small(object: Object) -> bool
     ensures { result ≡ is_small_object object }
 {
     object.words <= SMALL_WORDS
@@ -90,14 +90,12 @@ pub(crate) fn pages_made(object: Object) -> u64
 fn run_word(count: u64, mapped: bool, leaf: bool, distance: u64) -> u128
     ensures { result ≡ word_of (run_header count mapped leaf distance) }
 {
-    let (parameter, kind) = match (distance, mapped) {
-        (0, true) if leaf => (count, 14),
-        (0, true) => (count, 9),
-        (0, false) => (count, 11),
-        (_, true) => (distance, 10),
-        (_, false) => (distance, 12),
+    let (parameter, shortest) = match distance {
+        0 if leaf && mapped => (count, Header::LeafRun { pages: 1 }),
+        0 => (count, Header::Run { pages: 1, mapped }),
+        _ => (distance, Header::Later { distance: 1, mapped }),
     };
-    16 * parameter as u128 + kind
+    16 * parameter as u128 + encode(shortest) as u128 % 16
 }
 
 /// The header word that the page so far behind the first of them gets.
@@ -216,7 +214,7 @@ impl Table {
     }
 
     /// Whether all words of the run are 0.
-    #[tactic(auto, using(crate::proofs::AllBelow::all_below_zero_is, crate::proofs::Wiped::run_wiped_more_is, crate::proofs::WipedRuns::wiped_not_is))]
+    #[tactic(auto, using(crate::proofs::AllBelow::all_below_zero_is, crate::proofs::Wiped::run_wiped_more_is, crate::proofs::Wiped::run_wiped_not_is))]
     fn is_run_wiped(&self, run: RunPages) -> bool
         ensures { result ≡ words_are_zero self.now (64 * run.page) (64 * run.count) }
     {
@@ -285,7 +283,7 @@ impl Core {
         }
     }
 
-    /// The cell that a step frees which stores the page's quarantine word.
+    /// The cell that a store of this quarantine word frees.
     pub(crate) fn cell_freed(&self, flight: Flight, page: u64, value: u64) -> Option<Cell>
         ensures { result ≡ cell_freed self.now.config.pages self.now.now.words flight page value }
     {

@@ -13,7 +13,10 @@ use crate::table::Table;
 use crate::{Core, Flight, OwnCycle, Placing, Stage};
 use mk_geom::{Cell, Page, Place};
 
-/// No call of a caller's is undecided.
+/// The address of the heap's first word.
+const HEAP_START: u64 = 65536;
+
+/// Whether no call of a caller's is undecided.
 fn is_decided(stage: Stage) -> bool
     ensures { result ≡ is_decided stage }
 {
@@ -208,7 +211,7 @@ impl Core {
         self.is_within_limits();
         let pages = self.config.pages;
         if word < 64 * pages {
-            self.table.pointed_cell(pages, 65536 + 8 * word)
+            self.table.pointed_cell(pages, HEAP_START + 8 * word)
         } else {
             None
         }
