@@ -1,5 +1,5 @@
 -- Tests of each number below a sum.
-use Rattle.std.proofs.Common.{◌≡◌, ℕ, zero, suc, ◌+◌, ◌-◌, ◌≤◌, Bool, true, false, ◌&&◌, refl, sym, ◌∙◌, ap, arith, add-suc}
+use Rattle.std.proofs.Common.{◌≡◌, ℕ, zero, suc, ◌+◌, ◌-◌, ◌≤◌, Bool, false, ◌&&◌, refl, sym, ◌∙◌, ap, arith, add-suc}
 use Rattle.std.proofs.Math.Bool.{and_assoc, and-false, and-true}
 use Rattle.mk_core.specs.Tests.{all_below}
 

@@ -1,10 +1,10 @@
 //! The place of a `New` and what its pages become, and what a `Free` frees.
-ghost use Rattle.std.specs.Prelude.{◌≡◌, ◌+◌, ◌*◌, ◌^◌, ◌<◌, ◌≤◌, ◌==◌, length};
+ghost use Rattle.std.specs.Prelude.{◌≡◌, ◌+◌, ◌*◌, ◌^◌, ◌<◌, ◌==◌};
 ghost use Rattle.mk_geom.specs.Headers.{word_of};
 ghost use Rattle.mk_geom.specs.Storages.{block_header, run_header};
 ghost use Rattle.mk_core.specs.Tests.{all_below};
 ghost use Rattle.mk_core.specs.Cells.{words_are_zero};
-ghost use Rattle.mk_core.specs.NewPlaces.{is_number, is_leaf, object_of, object_made, first_fit, place_in, class_made, is_small_object, pages_made, header_made, bits_made, base_made, stands, is_next_header, place_stands, unmapped_header, is_run_unmapped, is_run_gone, is_undecided_new, is_undecided_free, target};
+ghost use Rattle.mk_core.specs.NewPlaces.{is_number, is_leaf, object_of, object_made, first_fit, class_made, is_small_object, pages_made, header_made, bits_made, base_made, stands, is_next_header, place_stands, unmapped_header, is_run_unmapped, is_run_gone, is_undecided_new, is_undecided_free, target};
 ghost use Rattle.mk_core.specs.PageHeaders.{header_wanted};
 ghost use Rattle.mk_core.specs.TurnConditions.{place_now, frees, cell_freed};
 ghost use Rattle.mk_geom.specs.PageUses.{place_among};
@@ -93,7 +93,13 @@ fn run_word(count: u64, mapped: bool, leaf: bool, distance: u64) -> u128
     let (parameter, shortest) = match distance {
         0 if leaf && mapped => (count, Header::LeafRun { pages: 1 }),
         0 => (count, Header::Run { pages: 1, mapped }),
-        _ => (distance, Header::Later { distance: 1, mapped }),
+        _ => (
+            distance,
+            Header::Later {
+                distance: 1,
+                mapped,
+            },
+        ),
     };
     16 * parameter as u128 + encode(shortest) as u128 % 16
 }
@@ -164,10 +170,8 @@ pub(crate) fn is_undecided_free(flight: Flight) -> bool
 pub(crate) fn adds_bit(word: u64, index: u64, value: u64) -> bool
     ensures { result ≡ (value == word + 2 ^ index) }
 {
-    match bit(index) {
-        Some(bit) => value as u128 == word as u128 + bit as u128,
-        None => false,
-    }
+    // A bit that no word has makes the sum too great for a value.
+    bit(index).is_some_and(|bit| value as u128 == word as u128 + bit as u128)
 }
 
 impl Table {
@@ -187,7 +191,14 @@ impl Table {
 
     /// Whether the page is the first of so many that hasn't the header word that is wanted there, and the
     /// value is that word.
-    pub(crate) fn is_next_header(&self, first: u64, wanted: PageHeaders, count: u64, page: u64, value: u64) -> bool
+    pub(crate) fn is_next_header(
+        &self,
+        first: u64,
+        wanted: PageHeaders,
+        count: u64,
+        page: u64,
+        value: u64,
+    ) -> bool
         ensures { result ≡ is_next_header self.now first count (header_wanted wanted) page value }
     {
         let Some(distance) = page.checked_sub(first) else {
@@ -250,8 +261,22 @@ impl Core {
             Op::New { ty, .. } if ty < self.config.types.count() => {
                 object_of(self.config.types.kinds(ty))
             }
-            _ => Object { words: 0, leaf: true },
+            _ => Object {
+                words: 0,
+                leaf: true,
+            },
         }
+    }
+
+    /// Where the object of a `New` goes by first fit.
+    pub(crate) fn first_fit(&self, op: Op) -> Option<Place>
+        ensures { result ≡ first_fit self.now.config.resident self.now.now.words (object_made self.now.config op) }
+    {
+        first_fit(
+            self.table.pages(),
+            self.config.resident,
+            self.object_made(op),
+        )
     }
 
     /// The place of an undecided `New`.
@@ -262,11 +287,7 @@ impl Core {
             return None;
         }
         match self.holding.placing {
-            Placing::Unplaced => first_fit(
-                self.table.pages(),
-                self.config.resident,
-                self.object_made(flight.op),
-            ),
+            Placing::Unplaced => self.first_fit(flight.op),
             Placing::Chosen(place) | Placing::Used(place) => Some(place),
             Placing::Granted => None,
         }
@@ -307,7 +328,7 @@ impl Core {
 }
 
 // STAND-IN
-pub(crate) fn first_fit(_pages: &[Page], _resident: u64, _object: Object) -> Option<Place>
+fn first_fit(_pages: &[Page], _resident: u64, _object: Object) -> Option<Place>
     ensures { result ≡ place_among _resident _object.words _object.leaf (uses_of_pages _pages.now) }
 {
     None

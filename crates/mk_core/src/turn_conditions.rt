@@ -1,13 +1,13 @@
 //! What the turn's holder may do to objects: the own condition of each kind of step that changes them.
-ghost use Rattle.std.specs.Prelude.{◌≡◌, ◌&&◌, ◌+◌, ◌^◌, ◌<◌, ◌≤◌, sum_by};
+ghost use Rattle.std.specs.Prelude.{◌≡◌, ◌&&◌, ◌<◌, sum_by};
 ghost use Rattle.mk_geom.specs.PageWords.{uses_of_pages};
 ghost use Rattle.mk_core.specs.Image.{address_of};
-ghost use Rattle.mk_core.specs.Cells.{pointed_cell, is_released_cell, first_word, cell_words, words_are_zero};
-ghost use Rattle.mk_core.specs.NewPlaces.{object_made, pages_made, header_made, is_next_header};
+ghost use Rattle.mk_core.specs.Cells.{pointed_cell, first_word, cell_words, words_are_zero};
+ghost use Rattle.mk_core.specs.NewPlaces.{pages_made, header_made, is_next_header};
 ghost use Rattle.mk_core.specs.TurnConditions.{is_marked_first, carves, unmaps, empties, may_head, takes_cell, is_used_once, are_wiped, gives_back, may_use, takes_snapshot, drops, may_quarantine, words_held_by, is_decided, may_give, is_full, is_in_gone_run, may_wipe, place_now};
 
 use crate::cells::{has_bit, without};
-use crate::placing::{PageHeaders, adds_bit, bits_made, first_fit, pages_made};
+use crate::placing::{PageHeaders, adds_bit, bits_made, pages_made};
 use crate::seats::Object;
 use crate::table::Table;
 use crate::{Core, Flight, OwnCycle, Placing, Stage};
@@ -127,7 +127,8 @@ impl Core {
         match self.holding.freed {
             Some(run) => {
                 let wanted = PageHeaders::Unmapped(run.count);
-                self.table.is_next_header(run.page, wanted, run.count, page, value)
+                self.table
+                    .is_next_header(run.page, wanted, run.count, page, value)
             }
             None => false,
         }
@@ -194,12 +195,7 @@ impl Core {
         ensures { result ≡ is_full self.now.config self.now.now.words flight self.now.now.seats.holding.placing self.now.now.seats.holding.cycle }
     {
         match (self.holding.placing, self.holding.cycle) {
-            (Placing::Unplaced, OwnCycle::Ended) => first_fit(
-                self.table.pages(),
-                self.config.resident,
-                self.object_made(flight.op),
-            )
-            .is_none(),
+            (Placing::Unplaced, OwnCycle::Ended) => self.first_fit(flight.op).is_none(),
             _ => false,
         }
     }
@@ -230,7 +226,8 @@ impl Core {
     pub(crate) fn may_wipe(&self, word: u64) -> bool
         ensures { result ≡ may_wipe self.now.config self.now.now word }
     {
-        self.cell_with(word).is_some_and(|cell| self.table.is_released(cell))
+        self.cell_with(word)
+            .is_some_and(|cell| self.table.is_released(cell))
             || self.is_in_gone_run(word)
     }
 }

@@ -1,4 +1,4 @@
-use Rattle.std.proofs.Common.{◌≡◌, Bool, true, ◌||◌, not}
+use Rattle.std.proofs.Common.{◌≡◌, true, ◌||◌, not}
 use Rattle.mk_core.specs.Tests.{all_below, has_bit}
 use Rattle.mk_core.specs.Cells.{first_word, cell_words, words_are_zero}
 use Rattle.mk_core.proofs.table.Table.are_wiped.Given as goal
