@@ -1,4 +1,5 @@
 pub mod AllBelow
+pub mod AllBelowParts
 pub mod Bits
 pub mod Histories
 pub mod LayoutLemmas
@@ -9,3 +10,4 @@ pub mod Steps
 pub mod FirstWhere
 pub mod UsedBits
 pub mod PlacesFrom
+pub mod Wiped

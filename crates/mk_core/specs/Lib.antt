@@ -12,6 +12,7 @@ pub mod MarkerConditions
 pub mod Moments
 pub mod NewPlaces
 pub mod Order
+pub mod PageHeaders
 pub mod Ranges
 pub mod Standing
 pub mod StopConditions

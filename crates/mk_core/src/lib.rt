@@ -10,10 +10,12 @@ mod fitting;
 mod laws;
 mod machine;
 mod order;
+mod placing;
 mod ranges;
 mod reaching;
 mod seats;
 mod table;
+mod turn_conditions;
 
 pub use accesses::{Access, TableWord};
 pub use config::{Config, GlobalTable};

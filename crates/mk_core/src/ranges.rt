@@ -9,9 +9,8 @@ use crate::calls::word_met;
 use crate::cells::{heads_run, is_unmapped};
 use crate::machine::Core;
 use crate::table::Table;
-use crate::{Flight, Seat, Stage, Step, Word};
+use crate::{Flight, Seat, Step, Word};
 use mk_geom::Cell;
-use mk_never::Op;
 
 impl Seat {
     /// Whether it is the caller of this number.
@@ -177,20 +176,6 @@ impl Core {
                 self.table.phase() != 2 || self.others_are_held(seat)
             }
             _ => true,
-        }
-    }
-}
-
-// STAND-IN
-
-impl Core {
-    /// The cell that a `Free` frees.
-    fn target(&self, flight: Flight) -> Option<Cell>
-        ensures { result ≡ target self.now.config.pages self.now.now.words flight }
-    {
-        match (flight.stage, flight.op) {
-            (Stage::Turn, Op::Free { .. }) => self.table.pointed_cell(self.config.pages, flight.p),
-            _ => None,
         }
     }
 }

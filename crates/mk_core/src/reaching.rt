@@ -6,7 +6,7 @@ ghost use Rattle.mk_core.specs.Tests.{bit_for};
 ghost use Rattle.mk_core.specs.Calls.{word_met};
 ghost use Rattle.mk_core.specs.Order.{seat_exists};
 ghost use Rattle.mk_core.specs.Ranges.{is_in_range, is_word_met};
-ghost use Rattle.mk_core.specs.NewPlaces.{is_number, is_leaf, object_of, object_made, base_made};
+ghost use Rattle.mk_core.specs.NewPlaces.{object_made, base_made};
 ghost use Rattle.mk_core.specs.MarkerConditions.{cell_seen};
 ghost use Rattle.mk_core.specs.Moments.{flight_of, holder_number};
 ghost use Rattle.mk_core.specs.Accesses.{caller_number, register_met, reg_access, tally_word, granted_base, next_word, scan_page, scan_bit, seen_page, seen_bit, marker_at, reached, access};
@@ -17,12 +17,11 @@ use crate::calls::{
 };
 use crate::cells::bit;
 use crate::machine::OUTSIDE;
-use crate::seats::Object;
+use crate::placing::base_made;
 use crate::{
     Access, Core, Event, Flight, Marker, Placing, Scan, Seat, Stage, Step, TableWord, Tally, Word,
 };
-use mk_geom::{Cell, Place, class_of, class_words, lookup};
-use mk_never::{Kind, Op};
+use mk_geom::{Cell, lookup};
 
 fn caller_number(seat: Seat) -> u64
     ensures { result ≡ caller_number seat }
@@ -246,53 +245,7 @@ impl Core {
 
 // STAND-IN
 
-fn is_number(kind: &Kind) -> bool
-    ensures { result ≡ is_number kind.now }
-{
-    matches!(kind, Kind::Num)
-}
-
-fn is_leaf(kinds: &[Kind]) -> bool
-    ensures { result ≡ is_leaf kinds.now }
-{
-    kinds.iter().all(is_number)
-}
-
-fn object_of(kinds: &[Kind]) -> Object
-    ensures { result ≡ object_of kinds.now }
-{
-    Object {
-        words: kinds.len() as u64,
-        leaf: is_leaf(kinds),
-    }
-}
-
-fn base_made(object: Object, place: Place) -> u128
-    ensures { result ≡ base_made object place }
-{
-    let index = if object.words <= 32 {
-        place.index as u128 * class_words(class_of(object.words).unwrap_or(0)) as u128
-    } else {
-        0
-    };
-    64 * place.page as u128 + index
-}
-
 impl Core {
-    fn object_made(&self, op: Op) -> Object
-        ensures { result ≡ object_made self.now.config op }
-    {
-        match op {
-            Op::New { ty, .. } if ty < self.config.types.count() => object_of(
-                self.config.types.kinds(ty),
-            ),
-            _ => Object {
-                words: 0,
-                leaf: true,
-            },
-        }
-    }
-
     fn cell_seen(&self, marker: Marker) -> Option<Cell>
         ensures { result ≡ cell_seen self.now.config marker.seen marker.hand }
     {

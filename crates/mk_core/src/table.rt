@@ -207,7 +207,7 @@ impl Table {
     }
 
     /// A page's quarantine word.
-    fn quarantine(&self, page: u64) -> u64
+    pub(crate) fn quarantine(&self, page: u64) -> u64
         ensures { result ≡ quarantine_word (slice_index self.now.freed page) (slice_index self.now.snapshot page) }
     {
         self.freed(page) as u64 + ((self.snapshot(page) as u64) << 32)

@@ -1,0 +1,8 @@
+use Rattle.std.proofs.Common.{◌≡◌, true}
+use Rattle.mk_core.specs.Tests.{all_below}
+use Rattle.mk_core.specs.NewPlaces.{stands}
+use Rattle.mk_core.specs.PageHeaders.{header_wanted}
+use Rattle.mk_core.proofs.table.Table.headers_stand.Given as goal
+
+abbrev pub invariant-loop-distance : goal.invariant-loop-distance
+invariant-loop-distance l = all_below l.distance (stands l.self l.first (header_wanted l.wanted)) ≡ true

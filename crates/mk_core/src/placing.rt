@@ -1,0 +1,327 @@
+//! The place of a `New` and what its pages become, and what a `Free` frees.
+ghost use Rattle.std.specs.Prelude.{◌≡◌, ◌+◌, ◌*◌, ◌^◌, ◌<◌, ◌==◌};
+ghost use Rattle.mk_geom.specs.Headers.{word_of};
+ghost use Rattle.mk_geom.specs.Storages.{block_header, run_header};
+ghost use Rattle.mk_core.specs.Tests.{all_below};
+ghost use Rattle.mk_core.specs.Cells.{words_are_zero};
+ghost use Rattle.mk_core.specs.NewPlaces.{is_number, is_leaf, object_of, object_made, first_fit, class_made, is_small_object, pages_made, header_made, bits_made, base_made, stands, is_next_header, place_stands, unmapped_header, is_run_unmapped, is_run_gone, is_undecided_new, is_undecided_free, target};
+ghost use Rattle.mk_core.specs.PageHeaders.{header_wanted};
+ghost use Rattle.mk_core.specs.TurnConditions.{place_now, frees, cell_freed};
+
+use crate::cells::bit;
+use crate::fitting::first_fit;
+use crate::seats::Object;
+use crate::table::Table;
+use crate::{Core, Flight, Placing, RunPages, Stage};
+use mk_geom::{Cell, Header, Place, cells, class_of, class_words, encode, run_pages};
+use mk_never::{Kind, Op};
+
+/// The largest object that takes a cell, in words.
+const SMALL_WORDS: u64 = 32;
+
+/// The header words that neighbouring pages are to get: those of a new object, or those of an unmapped run
+/// of so many pages.
+#[derive(Clone, Copy)]
+pub(crate) enum PageHeaders {
+    Made(Object),
+    Unmapped(u64),
+}
+
+impl PageHeaders {
+    /// That of the page so far behind the first.
+    fn word(self, distance: u64) -> u128
+        ensures { result ≡ header_wanted self distance }
+    {
+        match self {
+            PageHeaders::Made(object) => header_made(object, distance),
+            PageHeaders::Unmapped(count) => unmapped_header(count, distance),
+        }
+    }
+}
+
+fn is_number(kind: &Kind) -> bool
+    ensures { result ≡ is_number kind.now }
+{
+    matches!(kind, Kind::Num)
+}
+
+/// Whether none of the words is a pointer.
+fn is_leaf(kinds: &[Kind]) -> bool
+    ensures { result ≡ is_leaf kinds.now }
+{
+    kinds.iter().all(is_number)
+}
+
+fn object_of(kinds: &[Kind]) -> Object
+    ensures { result ≡ object_of kinds.now }
+{
+    Object {
+        words: kinds.len() as u64,
+        leaf: is_leaf(kinds),
+    }
+}
+
+pub(crate) fn is_small(object: Object) -> bool
+    ensures { result ≡ is_small_object object }
+{
+    object.words <= SMALL_WORDS
+}
+
+pub(crate) fn class_made(object: Object) -> u64
+    ensures exact { result ≡ class_made object }
+    ensures known { result < 8 }
+{
+    class_of(object.words).unwrap_or(0)
+}
+
+/// How many pages an object's cell or run has from its place's page on.
+pub(crate) fn pages_made(object: Object) -> u64
+    ensures { result ≡ pages_made object }
+{
+    if is_small(object) {
+        1
+    } else {
+        run_pages(object.words)
+    }
+}
+
+/// The header word of a page of a run, which may have more pages than a header can say.
+fn run_word(count: u64, mapped: bool, leaf: bool, distance: u64) -> u128
+    ensures { result ≡ word_of (run_header count mapped leaf distance) }
+{
+    let (parameter, shortest) = match distance {
+        0 if leaf && mapped => (count, Header::LeafRun { pages: 1 }),
+        0 => (count, Header::Run { pages: 1, mapped }),
+        _ => (
+            distance,
+            Header::Later {
+                distance: 1,
+                mapped,
+            },
+        ),
+    };
+    16 * parameter as u128 + encode(shortest) as u128 % 16
+}
+
+/// The header word that the page so far behind the first of them gets.
+pub(crate) fn header_made(object: Object, distance: u64) -> u128
+    ensures { result ≡ header_made object distance }
+{
+    if is_small(object) {
+        let class = class_made(object);
+        let header = if object.leaf {
+            Header::LeafBlock(class)
+        } else {
+            Header::Block(class)
+        };
+        encode(header) as u128
+    } else {
+        run_word(run_pages(object.words), true, object.leaf, distance)
+    }
+}
+
+/// The bits of the cells that these headers make.
+pub(crate) fn bits_made(object: Object) -> u64
+    ensures { result ≡ bits_made object }
+{
+    if is_small(object) {
+        (1 << cells(class_made(object))) - 1
+    } else {
+        1
+    }
+}
+
+/// The first heap word of the object.
+pub(crate) fn base_made(object: Object, place: Place) -> u128
+    ensures { result ≡ base_made object place }
+{
+    let index = if is_small(object) {
+        place.index as u128 * class_words(class_made(object)) as u128
+    } else {
+        0
+    };
+    64 * place.page as u128 + index
+}
+
+/// The header word of an unmapped run's page.
+pub(crate) fn unmapped_header(count: u64, distance: u64) -> u128
+    ensures { result ≡ unmapped_header count distance }
+{
+    run_word(count, false, false, distance)
+}
+
+/// Before the step that decides a `New`.
+pub(crate) fn is_undecided_new(flight: Flight) -> bool
+    ensures { result ≡ is_undecided_new flight }
+{
+    matches!((flight.stage, flight.op), (Stage::Turn, Op::New { .. }))
+}
+
+/// Before the step that decides a `Free` whose register is loaded.
+pub(crate) fn is_undecided_free(flight: Flight) -> bool
+    ensures { result ≡ is_undecided_free flight }
+{
+    matches!((flight.stage, flight.op), (Stage::Turn, Op::Free { .. }))
+}
+
+/// Whether the value is the word and the bit of the index besides.
+#[tactic(auto, using(crate::proofs::Bits::sum_past))]
+pub(crate) fn adds_bit(word: u64, index: u64, value: u64) -> bool
+    ensures { result ≡ (value == word + 2 ^ index) }
+{
+    // A bit that no word has makes the sum too great for a value.
+    bit(index).is_some_and(|bit| value as u128 == word as u128 + bit as u128)
+}
+
+impl Table {
+    /// Whether so many pages from the first on have the header words that are wanted.
+    #[tactic(auto, using(crate::proofs::AllBelow::all_below_zero_is, crate::proofs::AllBelow::all_below_more_is, crate::proofs::AllBelow::all_below_not_is))]
+    fn headers_stand(&self, first: u64, wanted: PageHeaders, count: u64) -> bool
+        ensures { result ≡ all_below count (stands self.now first (header_wanted wanted)) }
+    {
+        for distance in 0..count {
+            let header = self.page(first as u128 + distance as u128).header;
+            if header as u128 != wanted.word(distance) {
+                return false;
+            }
+        }
+        true
+    }
+
+    /// Whether the page is the first of so many that hasn't the header word that is wanted there, and the
+    /// value is that word.
+    pub(crate) fn is_next_header(
+        &self,
+        first: u64,
+        wanted: PageHeaders,
+        count: u64,
+        page: u64,
+        value: u64,
+    ) -> bool
+        ensures { result ≡ is_next_header self.now first count (header_wanted wanted) page value }
+    {
+        let Some(distance) = page.checked_sub(first) else {
+            return false;
+        };
+        let header = wanted.word(distance);
+        distance < count
+            && self.header(page) as u128 != header
+            && self.headers_stand(first, wanted, distance)
+            && value as u128 == header
+    }
+
+    /// Whether the pages of the place have the header words of the object.
+    pub(crate) fn place_stands(&self, object: Object, place: Place) -> bool
+        ensures { result ≡ place_stands self.now object place }
+    {
+        self.headers_stand(place.page, PageHeaders::Made(object), pages_made(object))
+    }
+
+    pub(crate) fn is_run_unmapped(&self, run: RunPages) -> bool
+        ensures { result ≡ is_run_unmapped self.now run }
+    {
+        self.headers_stand(run.page, PageHeaders::Unmapped(run.count), run.count)
+    }
+
+    /// Whether all words of the run are 0.
+    #[tactic(auto, using(crate::proofs::AllBelow::all_below_zero_is, crate::proofs::Wiped::run_wiped_more_is, crate::proofs::Wiped::run_wiped_not_is))]
+    fn is_run_wiped(&self, run: RunPages) -> bool
+        ensures { result ≡ words_are_zero self.now (64 * run.page) (64 * run.count) }
+    {
+        for page in 0..run.count {
+            if !self.words_are_zero(64 * (run.page as u128 + page as u128), 64) {
+                return false;
+            }
+        }
+        true
+    }
+
+    /// Whether the value is the page's quarantine word with the freed bit of the cell, which wasn't set.
+    pub(crate) fn frees(&self, cell: Option<Cell>, page: u64, value: u64) -> bool
+        ensures { result ≡ frees self.now cell page value }
+    {
+        match cell {
+            Some(cell) => {
+                page == cell.page
+                    && !self.is_freed(cell)
+                    && adds_bit(self.quarantine(page), cell.index, value)
+            }
+            None => false,
+        }
+    }
+}
+
+impl Core {
+    /// The object that a `New` makes.
+    pub(crate) fn object_made(&self, op: Op) -> Object
+        ensures { result ≡ object_made self.now.config op }
+    {
+        match op {
+            Op::New { ty, .. } if ty < self.config.types.count() => {
+                object_of(self.config.types.kinds(ty))
+            }
+            _ => Object {
+                words: 0,
+                leaf: true,
+            },
+        }
+    }
+
+    /// Where the object of a `New` goes by first fit.
+    pub(crate) fn first_fit(&self, op: Op) -> Option<Place>
+        ensures { result ≡ first_fit self.now.config.resident self.now.now.words (object_made self.now.config op) }
+    {
+        first_fit(
+            self.table.pages(),
+            self.config.resident,
+            self.object_made(op),
+        )
+    }
+
+    /// The place of an undecided `New`.
+    pub(crate) fn place_now(&self, flight: Flight) -> Option<Place>
+        ensures { result ≡ place_now self.now.config self.now.now flight }
+    {
+        if !is_undecided_new(flight) {
+            return None;
+        }
+        match self.holding.placing {
+            Placing::Unplaced => self.first_fit(flight.op),
+            Placing::Chosen(place) | Placing::Used(place) => Some(place),
+            Placing::Granted => None,
+        }
+    }
+
+    /// The cell that an undecided `Free` frees: what its register points into.
+    pub(crate) fn target(&self, flight: Flight) -> Option<Cell>
+        ensures { result ≡ target self.now.config.pages self.now.now.words flight }
+    {
+        if is_undecided_free(flight) {
+            self.table.pointed_cell(self.config.pages, flight.p)
+        } else {
+            None
+        }
+    }
+
+    /// The cell that a store of this quarantine word frees.
+    pub(crate) fn cell_freed(&self, flight: Flight, page: u64, value: u64) -> Option<Cell>
+        ensures { result ≡ cell_freed self.now.config.pages self.now.now.words flight page value }
+    {
+        let target = self.target(flight);
+        if self.table.phase() != 4 && self.table.frees(target, page, value) {
+            target
+        } else {
+            None
+        }
+    }
+
+    /// Whether the run that the call freed, if it freed one, is unmapped and wiped.
+    pub(crate) fn is_run_gone(&self) -> bool
+        ensures { result ≡ is_run_gone self.now.now.words self.now.now.seats.holding.freed }
+    {
+        match self.holding.freed {
+            Some(run) => self.table.is_run_unmapped(run) && self.table.is_run_wiped(run),
+            None => true,
+        }
+    }
+}

@@ -1,0 +1,234 @@
+//! What the turn's holder may do to objects: the own condition of each kind of step that changes them.
+ghost use Rattle.std.specs.Prelude.{◌≡◌, ◌&&◌, ◌<◌, sum_by};
+ghost use Rattle.mk_geom.specs.PageWords.{uses_of_pages};
+ghost use Rattle.mk_core.specs.Image.{address_of};
+ghost use Rattle.mk_core.specs.Cells.{pointed_cell, first_word, cell_words, words_are_zero};
+ghost use Rattle.mk_core.specs.NewPlaces.{pages_made, header_made, is_next_header};
+ghost use Rattle.mk_core.specs.TurnConditions.{is_marked_first, carves, unmaps, empties, may_head, takes_cell, is_used_once, are_wiped, gives_back, may_use, takes_snapshot, drops, may_quarantine, words_held_by, is_decided, may_give, is_full, is_in_gone_run, may_wipe, place_now};
+
+use crate::cells::{has_bit, without};
+use crate::fitting::words_held;
+use crate::placing::{PageHeaders, adds_bit, bits_made, pages_made};
+use crate::seats::Object;
+use crate::table::Table;
+use crate::{Core, Flight, OwnCycle, Placing, Stage};
+use mk_geom::{Cell, Place};
+
+/// The address of the heap's first word.
+const HEAP_START: u64 = 65536;
+
+/// Whether no call of a caller's is undecided.
+fn is_decided(stage: Stage) -> bool
+    ensures { result ≡ is_decided stage }
+{
+    stage != Stage::Turn
+}
+
+fn is_used_once(placing: Placing) -> bool
+    ensures { result ≡ is_used_once placing }
+{
+    matches!(placing, Placing::Used(_))
+}
+
+impl Table {
+    /// Whether the cells that a header makes are marked, where the phase is marking.
+    fn is_marked_first(&self, object: Object, place: Place) -> bool
+        ensures { result ≡ is_marked_first self.now object place }
+    {
+        self.phase() != 1 || without(bits_made(object), self.mark(place.page)) == 0
+    }
+
+    /// Whether the page is the next of the place to get its header.
+    fn carves(&self, object: Object, place: Place, page: u64, value: u64) -> bool
+        ensures { result ≡ (is_next_header self.now place.page (pages_made object) (header_made object) page value && is_marked_first self.now object place) }
+    {
+        let wanted = PageHeaders::Made(object);
+        self.is_next_header(place.page, wanted, pages_made(object), page, value)
+            && self.is_marked_first(object, place)
+    }
+
+    /// Whether nothing is on the page, and the value says so. A later page of a run is asked for its
+    /// head's words.
+    fn empties(&self, page: u64, value: u64) -> bool
+        ensures { result ≡ empties self.now page value }
+    {
+        let head = self.head_page(page);
+        value == 0 && self.used(head) == 0 && self.freed(head) == 0 && self.snapshot(head) == 0
+    }
+
+    /// Whether all words of the cell are 0.
+    fn is_wiped(&self, cell: Cell) -> bool
+        requires { cell.index < 32 }
+        ensures { result ≡ words_are_zero self.now (first_word self.now cell) (cell_words self.now cell) }
+    {
+        self.words_are_zero(self.first_word(cell), self.cell_words(cell))
+    }
+
+    /// Whether the words of each of these cells of a page are 0.
+    #[tactic(auto, using(crate::proofs::AllBelow::all_below_zero_is, crate::proofs::AllBelow::all_below_more_is, crate::proofs::Wiped::cells_wiped_not_is))]
+    fn are_wiped(&self, page: u64, bits: u64) -> bool
+        ensures { result ≡ are_wiped self.now page bits }
+    {
+        for index in 0..32 {
+            if has_bit(bits, index) && !self.is_wiped(Cell { page, index }) {
+                return false;
+            }
+        }
+        true
+    }
+
+    /// Whether these used bits are the page's without those of released cells whose words are 0.
+    fn gives_back(&self, page: u64, value: u64) -> bool
+        ensures { result ≡ gives_back self.now page value }
+    {
+        let used = self.used(page);
+        let gone = used.saturating_sub(value);
+        value & used == value && self.are_released(page, gone) && self.are_wiped(page, gone)
+    }
+
+    /// Whether the freed cells become the snapshot.
+    fn takes_snapshot(&self, page: u64, value: u64) -> bool
+        ensures { result ≡ takes_snapshot self.now page value }
+    {
+        let freed = self.freed(page) as u64;
+        self.phase() == 0 && value == freed + (freed << 32)
+    }
+
+    /// Whether released cells that aren't used lose both bits.
+    fn drops(&self, page: u64, freed: u64, snapshot: u64) -> bool
+        ensures { result ≡ drops self.now page freed snapshot }
+    {
+        let before = self.snapshot(page) as u64;
+        let gone = before.saturating_sub(snapshot);
+        snapshot & before == snapshot
+            && self.are_released(page, gone)
+            && self.used(page) & gone == 0
+            && freed == without(self.freed(page) as u64, gone)
+    }
+}
+
+impl Core {
+    /// Whether a page of the place gets its header.
+    fn carves(&self, flight: Flight, page: u64, value: u64) -> bool
+        ensures { result ≡ carves self.now.config self.now.now flight (place_now self.now.config self.now.now flight) page value }
+    {
+        match self.place_now(flight) {
+            Some(place) => {
+                let object = self.object_made(flight.op);
+                self.table.carves(object, place, page, value)
+            }
+            None => false,
+        }
+    }
+
+    /// Whether a page of the run that the call freed is unmapped.
+    fn unmaps(&self, page: u64, value: u64) -> bool
+        ensures { result ≡ unmaps self.now.now.words self.now.now.seats.holding.freed page value }
+    {
+        match self.holding.freed {
+            Some(run) => {
+                let wanted = PageHeaders::Unmapped(run.count);
+                self.table
+                    .is_next_header(run.page, wanted, run.count, page, value)
+            }
+            None => false,
+        }
+    }
+
+    pub(crate) fn may_head(&self, flight: Flight, page: u64, value: u64) -> bool
+        ensures { result ≡ may_head self.now.config self.now.now flight page value }
+    {
+        if self.table.phase() == 4 {
+            self.table.empties(page, value)
+        } else {
+            self.carves(flight, page, value) || self.unmaps(page, value)
+        }
+    }
+
+    /// Whether the cell of the place is taken, behind all its headers.
+    fn takes_cell(&self, flight: Flight, page: u64, value: u64) -> bool
+        ensures { result ≡ takes_cell self.now.config self.now.now flight (place_now self.now.config self.now.now flight) page value }
+    {
+        match self.place_now(flight) {
+            Some(place) => {
+                let used = self.table.used(page);
+                page == place.page
+                    && self.table.place_stands(self.object_made(flight.op), place)
+                    && !has_bit(used, place.index)
+                    && adds_bit(used, place.index, value)
+            }
+            None => false,
+        }
+    }
+
+    pub(crate) fn may_use(&self, flight: Flight, page: u64, value: u64) -> bool
+        ensures { result ≡ may_use self.now.config self.now.now flight page value }
+    {
+        if self.table.phase() == 4 {
+            self.table.gives_back(page, value)
+        } else {
+            !is_used_once(self.holding.placing) && self.takes_cell(flight, page, value)
+        }
+    }
+
+    pub(crate) fn may_quarantine(&self, flight: Flight, page: u64, value: u64) -> bool
+        ensures { result ≡ may_quarantine self.now.config self.now.now flight page value }
+    {
+        if self.table.phase() == 4 {
+            self.table.drops(page, value % (1 << 32), value >> 32)
+        } else {
+            self.table.frees(self.target(flight), page, value)
+                || self.table.takes_snapshot(page, value)
+        }
+    }
+
+    pub(crate) fn may_give(&self, flight: Flight) -> bool
+        ensures { result ≡ may_give self.now.now flight }
+    {
+        is_decided(flight.stage)
+            && self.is_run_gone()
+            && self.table.held() as u128 == words_held(self.table.pages())
+            && self.table.fresh() == self.fresh_words
+    }
+
+    /// Whether a cycle was begun and ended in this call, and nothing fits.
+    pub(crate) fn is_full(&self, flight: Flight) -> bool
+        ensures { result ≡ is_full self.now.config self.now.now.words flight self.now.now.seats.holding.placing self.now.now.seats.holding.cycle }
+    {
+        match (self.holding.placing, self.holding.cycle) {
+            (Placing::Unplaced, OwnCycle::Ended) => self.first_fit(flight.op).is_none(),
+            _ => false,
+        }
+    }
+
+    /// The cell that has a heap word.
+    fn cell_with(&self, word: u64) -> Option<Cell>
+        ensures { result ≡ pointed_cell self.now.config.pages self.now.now.words (address_of word) }
+    {
+        self.is_within_limits();
+        let pages = self.config.pages;
+        if word < 64 * pages {
+            self.table.pointed_cell(pages, HEAP_START + 8 * word)
+        } else {
+            None
+        }
+    }
+
+    /// Whether the word is one of the run whose pages this call unmapped.
+    fn is_in_gone_run(&self, word: u64) -> bool
+        ensures { result ≡ is_in_gone_run self.now.now.words self.now.now.seats.holding.freed word }
+    {
+        match self.holding.freed {
+            Some(run) => run.has_word(word) && self.table.is_run_unmapped(run),
+            None => false,
+        }
+    }
+
+    pub(crate) fn may_wipe(&self, word: u64) -> bool
+        ensures { result ≡ may_wipe self.now.config self.now.now word }
+    {
+        self.cell_with(word)
+            .is_some_and(|cell| self.table.is_released(cell))
+            || self.is_in_gone_run(word)
+    }
+}
