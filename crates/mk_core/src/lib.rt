@@ -4,6 +4,7 @@
 mod accesses;
 mod cells;
 mod config;
+mod effects;
 mod events;
 mod machine;
 mod seats;
