@@ -1,18 +1,15 @@
 //! What a step makes of the call in flight, of what the turn's holder has done, of a marker, and of the
 //! count of fresh words.
 ghost use Rattle.std.specs.Prelude.{◌≡◌, ◌<◌, ◌%◌, ◌==◌, if◌then◌else◌, IsTrue};
-ghost use Rattle.mk_never.specs.declared.operations.Op.{Op};
-ghost use Rattle.mk_geom.specs.Headers.{header_of};
-ghost use Rattle.mk_geom.specs.Addresses.{is_heap_address, page_at_address};
-ghost use Rattle.mk_core.specs.declared.events.Seat.TheVariants as seat;
+ghost use Rattle.mk_geom.specs.Addresses.{page_at_address};
 ghost use Rattle.mk_core.specs.Image.{address_of};
-ghost use Rattle.mk_core.specs.Calls.{at_rest, begun, onward, still, refused, progress_reg, progress_read, progress_cas, progress_getg};
+ghost use Rattle.mk_core.specs.Calls.{at_rest};
 ghost use Rattle.mk_core.specs.Cells.{pointed_cell};
 ghost use Rattle.mk_core.specs.Ranges.{is_in_range};
 ghost use Rattle.mk_core.specs.NewPlaces.{target};
 ghost use Rattle.mk_core.specs.TurnConditions.{place_now, cell_freed};
 ghost use Rattle.mk_core.specs.StopConditions.{marks_place};
-ghost use Rattle.mk_core.specs.Moments.{marker_of, others_are_held, is_phase};
+ghost use Rattle.mk_core.specs.Moments.{marker_of, is_phase};
 ghost use Rattle.mk_core.specs.MarkerConditions.{has_next_word};
 ghost use Rattle.mk_core.specs.Enabled.{marker_may};
 ghost use Rattle.mk_core.specs.Effects.{decided, begins_where_free, progress_probe, sees_double, progress_look, progress_freed, progress, is_ungranted, is_mapped_cell, hand_of_cell, is_in_stop, hand_given, chosen, taken, run_of_cell, cycle_ended, holding_behind, open_hand, hand_behind_look, behind_mlook, scan_begun, scan_claimed, scan_onward, marker_behind, words_freed, fresh_behind};
@@ -26,6 +23,15 @@ use crate::{
 };
 use mk_geom::{Cell, Place, lookup};
 use mk_never::Op;
+
+/// The address of the heap's first word.
+const HEAP_START: u64 = 65536;
+
+const WORD_BYTES: u64 = 8;
+
+const PAGE_WORDS: u64 = 64;
+
+const PAGE_BYTES: u64 = WORD_BYTES * PAGE_WORDS;
 
 /// A decided answer, behind which `give` comes.
 fn decided(flight: Flight, answer: Answer) -> Progress
@@ -107,7 +113,7 @@ fn cycle_ended(cycle: OwnCycle) -> OwnCycle
 fn page_at(address: u64) -> u64
     ensures { result ≡ page_at_address address }
 {
-    address.saturating_sub(65536) / 512
+    address.saturating_sub(HEAP_START) / PAGE_BYTES
 }
 
 /// The scan of a cell under the header word that was seen: no word of it, where it isn't scanned.
@@ -117,7 +123,7 @@ fn scan_begun(page: u64, index: u64, header: u64) -> Scan
     ensures { result ≡ scan_begun page index header }
 {
     let words = words_under(header);
-    let next = 64 * page + index * words;
+    let next = PAGE_WORDS * page + index * words;
     Scan {
         page,
         index,
@@ -227,57 +233,41 @@ impl Core {
     ) -> Holding
         ensures { result ≡ holding_behind self.now.config self.now.now seat flight found step self.now.now.seats.holding }
     {
-        let holding = self.holding;
+        let mut holding = self.holding;
         match step {
-            Step::Take(_) if found == 0 => NOTHING_DONE,
-            Step::Give => NOTHING_DONE,
-            Step::Look(word) => Holding {
-                hand: self.hand_given(seat, word, found).or(holding.hand),
-                ..holding
-            },
-            Step::Head { .. } => Holding {
-                placing: self.placing_headed(flight),
-                ..holding
-            },
-            Step::Used { .. } => Holding {
-                placing: self.placing_used(flight),
-                ..holding
-            },
-            Step::Quar { page, value } => Holding {
-                freed: self.run_freed(flight, page, value).or(holding.freed),
-                ..holding
-            },
-            Step::Grant => Holding {
-                placing: Placing::Granted,
-                ..holding
-            },
-            Step::Mark { page, value } => Holding {
-                placing: self.placing_marked(flight, page, value),
-                ..holding
-            },
-            Step::Begin => Holding {
-                hand: None,
-                cycle: OwnCycle::Begun,
-                ..holding
-            },
-            Step::End => Holding {
-                cycle: cycle_ended(holding.cycle),
-                ..holding
-            },
-            _ => holding,
+            Step::Take(_) if found == 0 => return NOTHING_DONE,
+            Step::Give => return NOTHING_DONE,
+            Step::Look(word) => holding.hand = self.hand_given(seat, word, found).or(holding.hand),
+            Step::Head { .. } => holding.placing = self.placing_headed(flight),
+            Step::Used { .. } => holding.placing = self.placing_used(flight),
+            Step::Quar { page, value } => {
+                holding.freed = self.run_freed(flight, page, value).or(holding.freed);
+            }
+            Step::Grant => holding.placing = Placing::Granted,
+            Step::Mark { page, value } => {
+                holding.placing = self.placing_marked(flight, page, value);
+            }
+            Step::Begin => {
+                holding.hand = None;
+                holding.cycle = OwnCycle::Begun;
+            }
+            Step::End => holding.cycle = cycle_ended(holding.cycle),
+            _ => {}
         }
+        holding
     }
 
-    /// What the cell or run that has a heap word is.
+    /// The cell or run that has a heap word.
     fn cell_of_word(&self, word: u64) -> Option<Cell>
         ensures { result ≡ pointed_cell self.now.config.pages self.now.now.words (address_of word) }
     {
         self.is_within_limits();
         let pages = self.config.pages;
-        if word >= 64 * pages {
+        if word >= PAGE_WORDS * pages {
             return None;
         }
-        self.table.pointed_cell(pages, 65536 + 8 * word)
+        self.table
+            .pointed_cell(pages, HEAP_START + WORD_BYTES * word)
     }
 
     /// Whether the cell belongs to a mapped allocation.
@@ -380,8 +370,8 @@ impl Core {
         ensures { result ≡ open_hand self.now.config value }
     {
         self.is_within_limits();
-        let end = 65536 + 512 * self.config.pages;
-        (65536 <= value && value < end).then_some(value)
+        let end = HEAP_START + PAGE_BYTES * self.config.pages;
+        (HEAP_START..end).contains(&value).then_some(value)
     }
 
     /// An open hand behind a look at the header of a page: closed, where that shows nothing there.
@@ -417,7 +407,7 @@ impl Core {
 
     /// What the marker of this number is at behind its step.
     pub(crate) fn marker_behind(&self, number: u64, found: u64, step: Step) -> Marker
-        requires range { IsTrue (is_in_range self.now.config (seat.Marker number) at_rest step) }
+        requires range { IsTrue (is_in_range self.now.config (Seat.Marker number) at_rest step) }
         requires own { IsTrue (marker_may self.now.config (marker_of self.now.now number) step) }
         ensures { result ≡ marker_behind self.now.config found step (marker_of self.now.now number) }
     {
@@ -479,21 +469,22 @@ impl Core {
     }
 }
 
-// STAND-IN
+// STAND-IN: what follows is that of calls.rt, ranges.rt, placing.rt and stop_conditions.rt.
+ghost use Rattle.mk_core.specs.Calls.{begun, onward, still, refused, progress_reg, progress_read, progress_cas, progress_getg};
+ghost use Rattle.mk_core.specs.Moments.{others_are_held};
+
 fn begun(op: Op) -> Flight
     ensures { result ≡ begun op }
 {
     Flight { op, ..AT_REST }
 }
 
-// STAND-IN
 fn onward(flight: Flight, answer: Option<Answer>) -> Progress
     ensures { result ≡ onward flight answer }
 {
     Progress { flight, answer }
 }
 
-// STAND-IN
 fn still(flight: Flight) -> Progress
     ensures { result ≡ still flight }
 {
@@ -503,7 +494,6 @@ fn still(flight: Flight) -> Progress
     }
 }
 
-// STAND-IN
 fn refused(flight: Flight, answer: Answer) -> Progress
     ensures { result ≡ refused flight answer }
 {
@@ -513,35 +503,30 @@ fn refused(flight: Flight, answer: Answer) -> Progress
     }
 }
 
-// STAND-IN
 fn progress_reg(flight: Flight, found: u64) -> Progress
     ensures { result ≡ progress_reg flight flight.stage found }
 {
     still(flight)
 }
 
-// STAND-IN
 fn progress_read(flight: Flight, found: u64) -> Progress
     ensures { result ≡ progress_read flight flight.op found }
 {
     still(flight)
 }
 
-// STAND-IN
 fn progress_cas(flight: Flight, found: u64) -> Progress
     ensures { result ≡ progress_cas flight found }
 {
     still(flight)
 }
 
-// STAND-IN
 fn progress_getg(flight: Flight, found: u64) -> Progress
     ensures { result ≡ progress_getg flight found }
 {
     still(flight)
 }
 
-// STAND-IN
 impl Core {
     fn others_are_held(&self, seat: Seat) -> bool
         ensures { result ≡ others_are_held self.now.config.callers self.now.now.words seat }
