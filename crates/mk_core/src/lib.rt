@@ -5,6 +5,7 @@ mod accesses;
 mod calls;
 mod cells;
 mod config;
+mod effects;
 mod events;
 mod fitting;
 mod laws;

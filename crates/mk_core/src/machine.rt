@@ -4,7 +4,7 @@ ghost use Rattle.mk_core.specs.Config.{IsWithinLimits};
 ghost use Rattle.mk_core.specs.Moments.{flight_of, marker_of};
 
 use crate::table::Table;
-use crate::{Config, Flight, Holding, Marker, Presence, Seat, Stage};
+use crate::{Config, Flight, Holding, Marker, OwnCycle, Placing, Presence, Seat, Stage};
 use mk_never::Op;
 use std::marker::Model;
 
@@ -49,6 +49,14 @@ pub(crate) const OUTSIDE: Marker = Marker {
     seen: None,
 };
 
+/// What a seat that has just taken the turn has done.
+pub(crate) const NOTHING_DONE: Holding = Holding {
+    hand: None,
+    placing: Placing::Unplaced,
+    freed: None,
+    cycle: OwnCycle::NotBegun,
+};
+
 impl Core {
     /// The configuration is within the limits.
     pub(crate) fn is_within_limits(&self)
@@ -63,7 +71,10 @@ impl Core {
     {
         match seat {
             Seat::Caller(caller) => {
-                self.flights.get(caller as usize).copied().unwrap_or(AT_REST)
+                self.flights
+                    .get(caller as usize)
+                    .copied()
+                    .unwrap_or(AT_REST)
             }
             Seat::Marker(_) | Seat::Host => AT_REST,
         }
@@ -73,6 +84,9 @@ impl Core {
     pub(crate) fn marker(&self, marker: u64) -> Marker
         ensures { result ≡ marker_of self.now.now marker }
     {
-        self.markers.get(marker as usize).copied().unwrap_or(OUTSIDE)
+        self.markers
+            .get(marker as usize)
+            .copied()
+            .unwrap_or(OUTSIDE)
     }
 }

@@ -1,0 +1,560 @@
+//! What a step makes of the call in flight, of what the turn's holder has done, of a marker, and of the
+//! count of fresh words.
+ghost use Rattle.std.specs.Prelude.{◌≡◌, ◌<◌, ◌%◌, ◌==◌, if◌then◌else◌, IsTrue};
+ghost use Rattle.mk_geom.specs.Addresses.{page_at_address};
+ghost use Rattle.mk_core.specs.Image.{address_of};
+ghost use Rattle.mk_core.specs.Calls.{at_rest};
+ghost use Rattle.mk_core.specs.Cells.{pointed_cell};
+ghost use Rattle.mk_core.specs.Ranges.{is_in_range};
+ghost use Rattle.mk_core.specs.NewPlaces.{target};
+ghost use Rattle.mk_core.specs.TurnConditions.{place_now, cell_freed};
+ghost use Rattle.mk_core.specs.StopConditions.{marks_place};
+ghost use Rattle.mk_core.specs.Moments.{marker_of, is_phase};
+ghost use Rattle.mk_core.specs.MarkerConditions.{has_next_word};
+ghost use Rattle.mk_core.specs.Enabled.{marker_may};
+ghost use Rattle.mk_core.specs.Effects.{decided, begins_where_free, progress_probe, sees_double, progress_look, progress_freed, progress, is_ungranted, is_mapped_cell, hand_of_cell, is_in_stop, hand_given, chosen, taken, run_of_cell, cycle_ended, holding_behind, open_hand, hand_behind_look, behind_mlook, scan_begun, scan_claimed, scan_onward, marker_behind, words_freed, fresh_behind};
+
+use crate::cells::{has_bit, has_no_pointers, heads_run, is_unmapped, run_headed, words_under};
+use crate::machine::{AT_REST, Core, NOTHING_DONE, OUTSIDE};
+use crate::seats::Progress;
+use crate::{
+    Answer, Flight, Hand, Holding, Marker, OwnCycle, Placing, Presence, RunPages, Scan, Seat,
+    SeenHeader, Source, Stage, Step, Word,
+};
+use mk_geom::{Cell, Place, lookup};
+use mk_never::Op;
+
+/// The address of the heap's first word.
+const HEAP_START: u64 = 65536;
+
+const WORD_BYTES: u64 = 8;
+
+const PAGE_WORDS: u64 = 64;
+
+const PAGE_BYTES: u64 = WORD_BYTES * PAGE_WORDS;
+
+/// A decided answer, behind which `give` comes.
+fn decided(flight: Flight, answer: Answer) -> Progress
+    ensures { result ≡ decided flight answer }
+{
+    Progress {
+        flight: Flight {
+            stage: Stage::Give,
+            ..flight
+        },
+        answer: Some(answer),
+    }
+}
+
+/// A call begins where its gate or the turn is found 0.
+fn begun_where_free(flight: Flight, op: Op, found: u64) -> Progress
+    ensures { result ≡ begins_where_free flight op found }
+{
+    if found == 0 {
+        Progress {
+            flight: begun(op),
+            answer: None,
+        }
+    } else {
+        still(flight)
+    }
+}
+
+/// `probe`: an access to an unmapped run is refused.
+fn progress_probe(flight: Flight, header: u64) -> Progress
+    ensures { result ≡ progress_probe flight header }
+{
+    if is_unmapped(header) {
+        refused(flight, Answer::Fault)
+    } else {
+        onward(flight, None)
+    }
+}
+
+/// The first step that serves the new object fixes its place.
+fn chosen(placing: Placing, place: Option<Place>) -> Placing
+    ensures { result ≡ chosen placing place }
+{
+    match (placing, place) {
+        (Placing::Unplaced, Some(place)) => Placing::Chosen(place),
+        _ => placing,
+    }
+}
+
+fn taken(placing: Placing, place: Option<Place>) -> Placing
+    ensures { result ≡ taken placing place }
+{
+    match place {
+        Some(place) => Placing::Used(place),
+        None => placing,
+    }
+}
+
+/// Whether a `New` has taken the cell and isn't granted yet.
+fn is_ungranted(placing: Placing, cell: Cell) -> bool
+    ensures { result ≡ is_ungranted placing cell }
+{
+    match placing {
+        Placing::Used(place) => place.page == cell.page && place.index == cell.index,
+        _ => false,
+    }
+}
+
+fn cycle_ended(cycle: OwnCycle) -> OwnCycle
+    ensures { result ≡ cycle_ended cycle }
+{
+    match cycle {
+        OwnCycle::Begun => OwnCycle::Ended,
+        _ => cycle,
+    }
+}
+
+/// The page that an address is in, counted from the heap's first.
+fn page_at(address: u64) -> u64
+    ensures { result ≡ page_at_address address }
+{
+    address.saturating_sub(HEAP_START) / PAGE_BYTES
+}
+
+/// The scan of a cell under the header word that was seen: no word of it, where it isn't scanned.
+fn scan_begun(page: u64, index: u64, header: u64) -> Scan
+    requires page { page < 4096 }
+    requires index { index < 32 }
+    ensures { result ≡ scan_begun page index header }
+{
+    let words = words_under(header);
+    let next = PAGE_WORDS * page + index * words;
+    Scan {
+        page,
+        index,
+        next,
+        end: next + if has_no_pointers(header) { 0 } else { words },
+    }
+}
+
+/// The scan that a claim begins, where it finds these marks: of a marked cell, under the header that the
+/// last look showed.
+fn scan_claimed(page: u64, index: u64, marks: u64, seen: Option<SeenHeader>) -> Option<Scan>
+    requires page { page < 4096 }
+    requires index { index < 32 }
+    ensures { result ≡ scan_claimed page index marks seen }
+{
+    match seen {
+        Some(seen) if has_bit(marks, index) => Some(scan_begun(page, index, seen.header)),
+        _ => None,
+    }
+}
+
+/// The scan behind the load of its next word.
+fn scan_onward(scan: Option<Scan>) -> Option<Scan>
+    requires { IsTrue (has_next_word scan) }
+    ensures { result ≡ scan_onward scan }
+{
+    scan.map(|scan| Scan {
+        next: scan.next + 1,
+        ..scan
+    })
+}
+
+/// A marker that finds the phase marking attends, and another visits.
+fn presence_behind_attend(found: u64) -> Presence
+    ensures { result ≡ (if found % 8 == 1 then Presence.Attending else Presence.Visiting) }
+{
+    if found % 8 == 1 {
+        Presence::Attending
+    } else {
+        Presence::Visiting
+    }
+}
+
+impl Core {
+    /// What a step makes of a caller's call, where its access finds this word.
+    pub(crate) fn progress(&self, flight: Flight, found: u64, step: Step) -> Progress
+        ensures { result ≡ progress self.now.config self.now.now flight found step }
+    {
+        match step {
+            Step::Enter(op) | Step::Take(Some(op)) => begun_where_free(flight, op, found),
+            Step::Leave | Step::Give => Progress {
+                flight: AT_REST,
+                answer: None,
+            },
+            Step::Reg => progress_reg(flight, found),
+            Step::Probe => progress_probe(flight, found),
+            Step::Read => progress_read(flight, found),
+            Step::Write | Step::Setg => onward(flight, Some(Answer::Done)),
+            Step::Cas => progress_cas(flight, found),
+            Step::Getg => progress_getg(flight, found),
+            Step::Dirty => onward(flight, None),
+            Step::Look(word) => self.progress_look(flight, word),
+            Step::Quar { page, value } => self.progress_quarantine(flight, page, value),
+            Step::Grant => decided(flight, Answer::Done),
+            Step::Full => decided(flight, Answer::Full),
+            _ => still(flight),
+        }
+    }
+
+    /// Whether a look is at the quarantine word of an undecided `Free`'s target, which is freed already.
+    fn sees_double(&self, flight: Flight, word: Word) -> bool
+        ensures { result ≡ sees_double self.now.now.words (target self.now.config.pages self.now.now.words flight) word }
+    {
+        match (self.target(flight), word) {
+            (Some(cell), Word::Quar(page)) => page == cell.page && self.table.is_freed(cell),
+            _ => false,
+        }
+    }
+
+    fn progress_look(&self, flight: Flight, word: Word) -> Progress
+        ensures { result ≡ progress_look self.now.config self.now.now.words flight word }
+    {
+        if self.sees_double(flight, word) {
+            decided(flight, Answer::Double)
+        } else {
+            still(flight)
+        }
+    }
+
+    /// `quar`, which decides a `Free` where it frees its target.
+    fn progress_quarantine(&self, flight: Flight, page: u64, value: u64) -> Progress
+        ensures { result ≡ progress_freed flight (cell_freed self.now.config.pages self.now.now.words flight page value) }
+    {
+        match self.cell_freed(flight, page, value) {
+            Some(_) => decided(flight, Answer::Done),
+            None => still(flight),
+        }
+    }
+
+    /// What the turn's holder has done behind its step.
+    pub(crate) fn holding_behind(
+        &self,
+        seat: Seat,
+        flight: Flight,
+        found: u64,
+        step: Step,
+    ) -> Holding
+        ensures { result ≡ holding_behind self.now.config self.now.now seat flight found step self.now.now.seats.holding }
+    {
+        let mut holding = self.holding;
+        match step {
+            Step::Take(_) if found == 0 => return NOTHING_DONE,
+            Step::Give => return NOTHING_DONE,
+            Step::Look(word) => holding.hand = self.hand_given(seat, word, found).or(holding.hand),
+            Step::Head { .. } => holding.placing = self.placing_headed(flight),
+            Step::Used { .. } => holding.placing = self.placing_used(flight),
+            Step::Quar { page, value } => {
+                holding.freed = self.run_freed(flight, page, value).or(holding.freed);
+            }
+            Step::Grant => holding.placing = Placing::Granted,
+            Step::Mark { page, value } => {
+                holding.placing = self.placing_marked(flight, page, value);
+            }
+            Step::Begin => {
+                holding.hand = None;
+                holding.cycle = OwnCycle::Begun;
+            }
+            Step::End => holding.cycle = cycle_ended(holding.cycle),
+            _ => {}
+        }
+        holding
+    }
+
+    /// The cell or run that has a heap word.
+    fn cell_of_word(&self, word: u64) -> Option<Cell>
+        ensures { result ≡ pointed_cell self.now.config.pages self.now.now.words (address_of word) }
+    {
+        self.is_within_limits();
+        let pages = self.config.pages;
+        if word >= PAGE_WORDS * pages {
+            return None;
+        }
+        self.table
+            .pointed_cell(pages, HEAP_START + WORD_BYTES * word)
+    }
+
+    /// Whether the cell belongs to a mapped allocation.
+    fn is_mapped_cell(&self, cell: Cell) -> bool
+        ensures { result ≡ is_mapped_cell self.now.now.words self.now.now.seats.holding.placing cell }
+    {
+        self.table.is_used(cell)
+            && !(heads_run(self.table.header(cell.page)) && self.table.is_freed(cell))
+            && !is_ungranted(self.holding.placing, cell)
+    }
+
+    fn is_in_stop(&self, seat: Seat) -> bool
+        ensures { result ≡ is_in_stop self.now.config.callers self.now.now.words seat }
+    {
+        self.table.phase() == 2 && self.others_are_held(seat)
+    }
+
+    /// The hand that a heap word of a scanned cell gives: where the cell is marked, or belongs to a mapped
+    /// allocation in the stop.
+    fn hand_of_cell(&self, in_stop: bool, cell: Cell, value: u64) -> Option<Hand>
+        ensures { result ≡ hand_of_cell self.now.now.words in_stop self.now.now.seats.holding.placing cell value }
+    {
+        if has_no_pointers(self.table.header(cell.page)) {
+            None
+        } else if self.table.is_marked(cell) {
+            Some(Hand {
+                value,
+                source: Source::Marked,
+            })
+        } else if in_stop && self.is_mapped_cell(cell) {
+            Some(Hand {
+                value,
+                source: Source::Unmarked,
+            })
+        } else {
+            None
+        }
+    }
+
+    /// The hand that a look gives, if it gives one.
+    fn hand_given(&self, seat: Seat, word: Word, value: u64) -> Option<Hand>
+        ensures { result ≡ hand_given self.now.config self.now.now seat word value }
+    {
+        match word {
+            Word::Reg { .. } | Word::Global(_) => Some(Hand {
+                value,
+                source: Source::Root,
+            }),
+            Word::Heap(word) => match self.cell_of_word(word) {
+                Some(cell) => self.hand_of_cell(self.is_in_stop(seat), cell, value),
+                None => None,
+            },
+            _ => None,
+        }
+    }
+
+    /// The place of the object that a `head` serves. In a cycle's release it serves none.
+    fn placing_headed(&self, flight: Flight) -> Placing
+        ensures { result ≡ (if is_phase self.now.now.words 4 then self.now.now.seats.holding.placing else chosen self.now.now.seats.holding.placing (place_now self.now.config self.now.now flight)) }
+    {
+        if self.table.phase() == 4 {
+            self.holding.placing
+        } else {
+            chosen(self.holding.placing, self.place_now(flight))
+        }
+    }
+
+    /// The place of the object whose cell a `used` takes. In a cycle's release it takes none.
+    fn placing_used(&self, flight: Flight) -> Placing
+        ensures { result ≡ (if is_phase self.now.now.words 4 then self.now.now.seats.holding.placing else taken self.now.now.seats.holding.placing (place_now self.now.config self.now.now flight)) }
+    {
+        if self.table.phase() == 4 {
+            self.holding.placing
+        } else {
+            taken(self.holding.placing, self.place_now(flight))
+        }
+    }
+
+    /// The place of the object that a `mark` may serve.
+    fn placing_marked(&self, flight: Flight, page: u64, value: u64) -> Placing
+        ensures { result ≡ (if marks_place self.now.config self.now.now flight (place_now self.now.config self.now.now flight) page value then chosen self.now.now.seats.holding.placing (place_now self.now.config self.now.now flight) else self.now.now.seats.holding.placing) }
+    {
+        if self.marks_place(flight, page, value) {
+            chosen(self.holding.placing, self.place_now(flight))
+        } else {
+            self.holding.placing
+        }
+    }
+
+    /// The run whose object a `quar` frees.
+    fn run_freed(&self, flight: Flight, page: u64, value: u64) -> Option<RunPages>
+        ensures { result ≡ run_of_cell self.now.now.words (cell_freed self.now.config.pages self.now.now.words flight page value) }
+    {
+        let cell = self.cell_freed(flight, page, value)?;
+        run_headed(self.table.header(cell.page), cell.page)
+    }
+
+    /// A value outside the heap isn't an open hand.
+    fn open_hand(&self, value: u64) -> Option<u64>
+        ensures { result ≡ open_hand self.now.config value }
+    {
+        self.is_within_limits();
+        let end = HEAP_START + PAGE_BYTES * self.config.pages;
+        (HEAP_START..end).contains(&value).then_some(value)
+    }
+
+    /// An open hand behind a look at the header of a page: closed, where that shows nothing there.
+    fn hand_behind_look(&self, page: u64, header: u64, hand: Option<u64>) -> Option<u64>
+        ensures { result ≡ hand_behind_look self.now.config page header hand }
+    {
+        let value = hand?;
+        if page == page_at(value) && lookup(self.config.pages, header, value).is_none() {
+            None
+        } else {
+            Some(value)
+        }
+    }
+
+    fn behind_mlook(&self, found: u64, word: Word, marker: Marker) -> Marker
+        ensures { result ≡ behind_mlook self.now.config found word marker }
+    {
+        match word {
+            Word::Head(page) => Marker {
+                hand: self.hand_behind_look(page, found, marker.hand),
+                seen: Some(SeenHeader {
+                    page,
+                    header: found,
+                }),
+                ..marker
+            },
+            _ => Marker {
+                seen: None,
+                ..marker
+            },
+        }
+    }
+
+    /// What the marker of this number is at behind its step.
+    pub(crate) fn marker_behind(&self, number: u64, found: u64, step: Step) -> Marker
+        requires range { IsTrue (is_in_range self.now.config (Seat.Marker number) at_rest step) }
+        requires own { IsTrue (marker_may self.now.config (marker_of self.now.now number) step) }
+        ensures { result ≡ marker_behind self.now.config found step (marker_of self.now.now number) }
+    {
+        self.is_within_limits();
+        let marker = self.marker(number);
+        match step {
+            Step::Attend => Marker {
+                presence: presence_behind_attend(found),
+                ..OUTSIDE
+            },
+            Step::Quit => OUTSIDE,
+            Step::Mlook(word) => self.behind_mlook(found, word, marker),
+            Step::Claim { page, cell } => Marker {
+                scan: scan_claimed(page, cell, found, marker.seen),
+                ..marker
+            },
+            Step::Mload => Marker {
+                scan: scan_onward(marker.scan),
+                hand: self.open_hand(found),
+                ..marker
+            },
+            Step::Mmark => Marker {
+                hand: None,
+                ..marker
+            },
+            Step::Mblack => Marker {
+                scan: None,
+                ..marker
+            },
+            _ => marker,
+        }
+    }
+
+    /// The storage that an object freed by a `quar` leaves: that of a small one, since a run is no longer
+    /// mapped.
+    fn words_freed(&self, cell: Option<Cell>) -> u64
+        ensures { result ≡ words_freed self.now.now.words cell }
+    {
+        match cell {
+            Some(cell) if !heads_run(self.table.header(cell.page)) => {
+                words_under(self.table.header(cell.page))
+            }
+            _ => 0,
+        }
+    }
+
+    /// The count of fresh words behind a step. It stands still at the greatest number.
+    pub(crate) fn fresh_behind(&self, flight: Flight, step: Step) -> u64
+        ensures { result ≡ fresh_behind self.now.config self.now.now flight step }
+    {
+        match step {
+            Step::Quar { page, value } => {
+                let words = self.words_freed(self.cell_freed(flight, page, value));
+                self.fresh_words.saturating_add(words)
+            }
+            Step::Begin => 0,
+            _ => self.fresh_words,
+        }
+    }
+}
+
+// STAND-IN: what follows is that of calls.rt, ranges.rt, placing.rt and stop_conditions.rt.
+ghost use Rattle.mk_core.specs.Calls.{begun, onward, still, refused, progress_reg, progress_read, progress_cas, progress_getg};
+ghost use Rattle.mk_core.specs.Moments.{others_are_held};
+
+fn begun(op: Op) -> Flight
+    ensures { result ≡ begun op }
+{
+    Flight { op, ..AT_REST }
+}
+
+fn onward(flight: Flight, answer: Option<Answer>) -> Progress
+    ensures { result ≡ onward flight answer }
+{
+    Progress { flight, answer }
+}
+
+fn still(flight: Flight) -> Progress
+    ensures { result ≡ still flight }
+{
+    Progress {
+        flight,
+        answer: None,
+    }
+}
+
+fn refused(flight: Flight, answer: Answer) -> Progress
+    ensures { result ≡ refused flight answer }
+{
+    Progress {
+        flight,
+        answer: Some(answer),
+    }
+}
+
+fn progress_reg(flight: Flight, found: u64) -> Progress
+    ensures { result ≡ progress_reg flight flight.stage found }
+{
+    still(flight)
+}
+
+fn progress_read(flight: Flight, found: u64) -> Progress
+    ensures { result ≡ progress_read flight flight.op found }
+{
+    still(flight)
+}
+
+fn progress_cas(flight: Flight, found: u64) -> Progress
+    ensures { result ≡ progress_cas flight found }
+{
+    still(flight)
+}
+
+fn progress_getg(flight: Flight, found: u64) -> Progress
+    ensures { result ≡ progress_getg flight found }
+{
+    still(flight)
+}
+
+impl Core {
+    fn others_are_held(&self, seat: Seat) -> bool
+        ensures { result ≡ others_are_held self.now.config.callers self.now.now.words seat }
+    {
+        false
+    }
+
+    fn place_now(&self, flight: Flight) -> Option<Place>
+        ensures { result ≡ place_now self.now.config self.now.now flight }
+    {
+        None
+    }
+
+    fn target(&self, flight: Flight) -> Option<Cell>
+        ensures { result ≡ target self.now.config.pages self.now.now.words flight }
+    {
+        None
+    }
+
+    fn cell_freed(&self, flight: Flight, page: u64, value: u64) -> Option<Cell>
+        ensures { result ≡ cell_freed self.now.config.pages self.now.now.words flight page value }
+    {
+        None
+    }
+
+    fn marks_place(&self, flight: Flight, page: u64, value: u64) -> bool
+        ensures { result ≡ marks_place self.now.config self.now.now flight (place_now self.now.config self.now.now flight) page value }
+    {
+        false
+    }
+}
