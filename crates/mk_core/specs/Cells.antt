@@ -73,7 +73,7 @@ abbrev pub cell_words : Words → Cell → ℕ
 cell_words w cell = words_under (header_in w cell.page)
 
 -- What a value points into, by lookup, in a heap of so many pages.
-abbrev pub pointed_cell : ℕ → Words → ℕ → Option Cell
+unfoldable pub pointed_cell : ℕ → Words → ℕ → Option Cell
 pointed_cell pages w value = cell_at pages (header_at w (page_at_address value)) value
 
 abbrev pub is_used : Words → Cell → Bool

@@ -81,7 +81,7 @@ abbrev pub may_unblack : Moment → Bool
 may_unblack m = not (is_phase m.words 2) || none_attends m.seats.markers
 
 -- `black`: a marked cell whose words point well or aren't scanned
-abbrev pub may_turn_black : ℕ → Words → Cell → Bool
+unfoldable pub may_turn_black : ℕ → Words → Cell → Bool
 may_turn_black pages w cell =
     nat_lt cell.index (cells_under (header_in w cell.page)) && is_marked w cell
     && (has_no_pointers (header_in w cell.page) || words_point_well pages w cell)

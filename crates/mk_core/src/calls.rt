@@ -3,6 +3,7 @@
 ghost use Rattle.std.specs.Prelude.{◌≡◌};
 ghost use Rattle.mk_core.specs.Calls.{q_of, p_of, r_of, d_of, g_of, i_of, has_type, has_operands, is_under_turn, steps_of, first_of, stage_behind, stage_refused, begun, word_met, page_met, value_for, value_written, onward, still, refused, progress_q, progress_p, progress_reg, progress_read, progress_cas, progress_getg};
 
+use crate::geometry::{HEAP_START, PAGE_WORDS, WORD_BYTES};
 use crate::seats::Progress;
 use crate::{Answer, Core, Flight, Stage};
 use mk_never::Op;
@@ -174,13 +175,13 @@ pub(crate) fn begun(op: Op) -> Flight
 pub(crate) fn word_met(flight: Flight) -> u128
     ensures { result ≡ word_met flight }
 {
-    flight.q.saturating_sub(65536) as u128 / 8 + offset_of(flight.op) as u128
+    flight.q.saturating_sub(HEAP_START) as u128 / WORD_BYTES as u128 + offset_of(flight.op) as u128
 }
 
 pub(crate) fn page_met(flight: Flight) -> u64
     ensures { result ≡ page_met flight }
 {
-    (word_met(flight) / 64) as u64
+    (word_met(flight) / PAGE_WORDS as u128) as u64
 }
 
 /// What the deciding store puts into d.

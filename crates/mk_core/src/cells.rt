@@ -1,11 +1,13 @@
 //! Cells and runs as the words show them.
-ghost use Rattle.std.specs.Prelude.{◌≡◌, ℕ, ◌+◌, ◌-◌, ◌*◌, ◌^◌, ◌<◌, ◌≤◌, IfSome, IfNone, slice_index};
+ghost use Rattle.std.specs.Prelude.{◌≡◌, ℕ, ◌+◌, ◌-◌, ◌*◌, ◌^◌, ◌<◌, ◌≤◌, ◌==◌, IfSome, IfNone, slice_index};
 ghost use Rattle.mk_core.specs.Words.{header_at, used_at};
 ghost use Rattle.mk_geom.specs.Headers.{header_of};
+ghost use Rattle.mk_core.specs.Image.{address_of};
 ghost use Rattle.mk_core.specs.Tests.{all_below, has_bit, without};
 ghost use Rattle.mk_core.specs.Cells.{cells_under, words_under, run_headed, heads_run, is_leaf_header, is_unmapped_header, has_no_pointers, head_page, head_behind, cell_bits, first_word, cell_words, pointed_cell, is_used, is_freed, is_marked, is_marked_cell, points_well, word_points_well, words_point_well, words_are_zero, is_released, is_released_cell, are_released, none_is_released, is_in_run};
 
-use crate::RunPages;
+use crate::geometry::{HEAP_START, PAGE_WORDS, WORD_BYTES, page_at};
+use crate::{Core, RunPages};
 use crate::table::Table;
 use mk_geom::{Cell, Header, cells, class_words, decode, lookup};
 
@@ -15,6 +17,17 @@ pub(crate) fn bit(index: u64) -> Option<u64>
     ensures none { IfNone result (64 ≤ index) }
 {
     (index < 64).then(|| 1 << index)
+}
+
+/// Whether the value is the one bit that stands for a cell.
+#[tactic(auto, using(crate::proofs::Bits::bit_above))]
+pub(crate) fn is_bit(index: u64, value: u64) -> bool
+    ensures { result ≡ (value == 2 ^ index) }
+{
+    match bit(index) {
+        Some(bit) => value == bit,
+        None => false,
+    }
 }
 
 /// Whether the word has the bit.
@@ -51,7 +64,7 @@ pub(crate) fn words_under(header: u64) -> u64
 {
     match decode(header) {
         Some(Header::Block(class) | Header::LeafBlock(class)) => class_words(class),
-        Some(Header::Run { pages, .. } | Header::LeafRun { pages }) => 64 * pages,
+        Some(Header::Run { pages, .. } | Header::LeafRun { pages }) => PAGE_WORDS * pages,
         _ => 0,
     }
 }
@@ -104,7 +117,7 @@ impl RunPages {
     pub(crate) fn has_word(self, word: u64) -> bool
         ensures { result ≡ is_in_run self word }
     {
-        let page = word / 64;
+        let page = word / PAGE_WORDS;
         self.page <= page && page - self.page < self.count
     }
 }
@@ -144,7 +157,7 @@ impl Table {
         ensures { result ≡ first_word self.now cell }
     {
         let words = words_under(self.header(cell.page));
-        64 * cell.page as u128 + cell.index as u128 * words as u128
+        PAGE_WORDS as u128 * cell.page as u128 + cell.index as u128 * words as u128
     }
 
     /// The words of a cell.
@@ -156,11 +169,11 @@ impl Table {
     }
 
     /// What a value points into, in a heap of so many pages.
+    #[tactic(auto, unfolding(crate::specs::Cells::pointed_cell))]
     pub(crate) fn pointed_cell(&self, pages: u64, value: u64) -> Option<Cell>
         ensures { result ≡ pointed_cell pages self.now value }
     {
-        let page = value.saturating_sub(65536) / 512;
-        lookup(pages, self.header(page), value)
+        lookup(pages, self.header(page_at(value)), value)
     }
 
     pub(crate) fn is_used(&self, cell: Cell) -> bool
@@ -191,6 +204,13 @@ impl Table {
         }
     }
 
+    /// Whether the value of a heap word points well.
+    fn word_points_well(&self, pages: u64, word: u128) -> bool
+        ensures { result ≡ word_points_well pages self.now word }
+    {
+        self.points_well(pages, self.heap(word))
+    }
+
     /// Whether each word of the cell points well.
     #[tactic(auto, using(crate::proofs::AllBelow::all_below_zero_is, crate::proofs::AllBelow::all_below_more_is, crate::proofs::AllBelow::all_below_not_is))]
     pub(crate) fn words_point_well(&self, pages: u64, cell: Cell) -> bool
@@ -198,7 +218,7 @@ impl Table {
     {
         let first = self.first_word(cell);
         for i in 0..self.cell_words(cell) {
-            if !self.points_well(pages, self.heap(first + i as u128)) {
+            if !self.word_points_well(pages, first + i as u128) {
                 return false;
             }
         }
@@ -241,5 +261,21 @@ impl Table {
         ensures { result ≡ none_is_released self.now page }
     {
         without(self.snapshot(page) as u64, self.mark(page)) == 0
+    }
+}
+
+impl Core {
+    /// The cell or run that has a heap word.
+    #[tactic(auto, unfolding(crate::specs::Cells::pointed_cell))]
+    pub(crate) fn cell_of_word(&self, word: u64) -> Option<Cell>
+        ensures { result ≡ pointed_cell self.now.config.pages self.now.now.words (address_of word) }
+    {
+        self.is_within_limits();
+        let pages = self.config.pages;
+        if word >= PAGE_WORDS * pages {
+            return None;
+        }
+        self.table
+            .pointed_cell(pages, HEAP_START + WORD_BYTES * word)
     }
 }

@@ -14,7 +14,11 @@ ghost use Rattle.mk_core.specs.MarkerConditions.{has_next_word};
 ghost use Rattle.mk_core.specs.Enabled.{marker_may};
 ghost use Rattle.mk_core.specs.Effects.{decided, begins_where_free, progress_probe, sees_double, progress_look, progress_freed, progress, is_ungranted, is_mapped_cell, hand_of_cell, is_in_stop, hand_given, chosen, taken, run_of_cell, cycle_ended, holding_behind, open_hand, hand_behind_look, behind_mlook, scan_begun, scan_claimed, scan_onward, marker_behind, words_freed, fresh_behind};
 
+use crate::calls::{
+    begun, onward, progress_cas, progress_getg, progress_read, progress_reg, refused, still,
+};
 use crate::cells::{has_bit, has_no_pointers, heads_run, is_unmapped, run_headed, words_under};
+use crate::geometry::{HEAP_START, PAGE_BYTES, PAGE_WORDS, page_at};
 use crate::machine::{AT_REST, Core, NOTHING_DONE, OUTSIDE};
 use crate::seats::Progress;
 use crate::{
@@ -23,15 +27,6 @@ use crate::{
 };
 use mk_geom::{Cell, Place, lookup};
 use mk_never::Op;
-
-/// The address of the heap's first word.
-const HEAP_START: u64 = 65536;
-
-const WORD_BYTES: u64 = 8;
-
-const PAGE_WORDS: u64 = 64;
-
-const PAGE_BYTES: u64 = WORD_BYTES * PAGE_WORDS;
 
 /// A decided answer, behind which `give` comes.
 fn decided(flight: Flight, answer: Answer) -> Progress
@@ -107,13 +102,6 @@ fn cycle_ended(cycle: OwnCycle) -> OwnCycle
         OwnCycle::Begun => OwnCycle::Ended,
         _ => cycle,
     }
-}
-
-/// The page that an address is in, counted from the heap's first.
-fn page_at(address: u64) -> u64
-    ensures { result ≡ page_at_address address }
-{
-    address.saturating_sub(HEAP_START) / PAGE_BYTES
 }
 
 /// The scan of a cell under the header word that was seen: no word of it, where it isn't scanned.
@@ -255,19 +243,6 @@ impl Core {
             _ => {}
         }
         holding
-    }
-
-    /// The cell or run that has a heap word.
-    fn cell_of_word(&self, word: u64) -> Option<Cell>
-        ensures { result ≡ pointed_cell self.now.config.pages self.now.now.words (address_of word) }
-    {
-        self.is_within_limits();
-        let pages = self.config.pages;
-        if word >= PAGE_WORDS * pages {
-            return None;
-        }
-        self.table
-            .pointed_cell(pages, HEAP_START + WORD_BYTES * word)
     }
 
     /// Whether the cell belongs to a mapped allocation.
@@ -466,95 +441,5 @@ impl Core {
             Step::Begin => 0,
             _ => self.fresh_words,
         }
-    }
-}
-
-// STAND-IN: what follows is that of calls.rt, ranges.rt, placing.rt and stop_conditions.rt.
-ghost use Rattle.mk_core.specs.Calls.{begun, onward, still, refused, progress_reg, progress_read, progress_cas, progress_getg};
-ghost use Rattle.mk_core.specs.Moments.{others_are_held};
-
-fn begun(op: Op) -> Flight
-    ensures { result ≡ begun op }
-{
-    Flight { op, ..AT_REST }
-}
-
-fn onward(flight: Flight, answer: Option<Answer>) -> Progress
-    ensures { result ≡ onward flight answer }
-{
-    Progress { flight, answer }
-}
-
-fn still(flight: Flight) -> Progress
-    ensures { result ≡ still flight }
-{
-    Progress {
-        flight,
-        answer: None,
-    }
-}
-
-fn refused(flight: Flight, answer: Answer) -> Progress
-    ensures { result ≡ refused flight answer }
-{
-    Progress {
-        flight,
-        answer: Some(answer),
-    }
-}
-
-fn progress_reg(flight: Flight, found: u64) -> Progress
-    ensures { result ≡ progress_reg flight flight.stage found }
-{
-    still(flight)
-}
-
-fn progress_read(flight: Flight, found: u64) -> Progress
-    ensures { result ≡ progress_read flight flight.op found }
-{
-    still(flight)
-}
-
-fn progress_cas(flight: Flight, found: u64) -> Progress
-    ensures { result ≡ progress_cas flight found }
-{
-    still(flight)
-}
-
-fn progress_getg(flight: Flight, found: u64) -> Progress
-    ensures { result ≡ progress_getg flight found }
-{
-    still(flight)
-}
-
-impl Core {
-    fn others_are_held(&self, seat: Seat) -> bool
-        ensures { result ≡ others_are_held self.now.config.callers self.now.now.words seat }
-    {
-        false
-    }
-
-    fn place_now(&self, flight: Flight) -> Option<Place>
-        ensures { result ≡ place_now self.now.config self.now.now flight }
-    {
-        None
-    }
-
-    fn target(&self, flight: Flight) -> Option<Cell>
-        ensures { result ≡ target self.now.config.pages self.now.now.words flight }
-    {
-        None
-    }
-
-    fn cell_freed(&self, flight: Flight, page: u64, value: u64) -> Option<Cell>
-        ensures { result ≡ cell_freed self.now.config.pages self.now.now.words flight page value }
-    {
-        None
-    }
-
-    fn marks_place(&self, flight: Flight, page: u64, value: u64) -> bool
-        ensures { result ≡ marks_place self.now.config self.now.now flight (place_now self.now.config self.now.now flight) page value }
-    {
-        false
     }
 }

@@ -5,11 +5,9 @@ ghost use Rattle.mk_geom.specs.PageUses.{is_free_page, is_resident_page, residen
 ghost use Rattle.mk_geom.specs.PageWords.{bits_of, use_of_page, uses_of_pages};
 ghost use Rattle.mk_core.specs.TurnConditions.{words_held_by};
 
+use crate::geometry::SMALL_WORDS;
 use crate::seats::Object;
 use mk_geom::{Header, Page, Place, cells, class_of, class_words, decode, run_pages};
-
-/// The largest object that takes a cell, in words.
-const SMALL_WORDS: u64 = 32;
 
 /// Where the object goes, where no more pages may be resident with it than this. None where there is no
 /// such place, and for an object of no words.

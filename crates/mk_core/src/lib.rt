@@ -8,13 +8,17 @@ mod config;
 mod effects;
 mod events;
 mod fitting;
+mod geometry;
 mod laws;
 mod machine;
+mod marker_conditions;
 mod order;
 mod placing;
 mod ranges;
 mod reaching;
 mod seats;
+mod stepping;
+mod stop_conditions;
 mod table;
 mod turn_conditions;
 

@@ -10,14 +10,12 @@ ghost use Rattle.mk_core.specs.TurnConditions.{place_now, frees, cell_freed};
 
 use crate::cells::bit;
 use crate::fitting::first_fit;
+use crate::geometry::{PAGE_WORDS, SMALL_WORDS};
 use crate::seats::Object;
 use crate::table::Table;
 use crate::{Core, Flight, Placing, RunPages, Stage};
 use mk_geom::{Cell, Header, Place, cells, class_of, class_words, encode, run_pages};
 use mk_never::{Kind, Op};
-
-/// The largest object that takes a cell, in words.
-const SMALL_WORDS: u64 = 32;
 
 /// The header words that neighbouring pages are to get: those of a new object, or those of an unmapped run
 /// of so many pages.
@@ -140,7 +138,7 @@ pub(crate) fn base_made(object: Object, place: Place) -> u128
     } else {
         0
     };
-    64 * place.page as u128 + index
+    PAGE_WORDS as u128 * place.page as u128 + index
 }
 
 /// The header word of an unmapped run's page.
@@ -229,7 +227,7 @@ impl Table {
         ensures { result ≡ words_are_zero self.now (64 * run.page) (64 * run.count) }
     {
         for page in 0..run.count {
-            if !self.words_are_zero(64 * (run.page as u128 + page as u128), 64) {
+            if !self.words_are_zero(PAGE_WORDS as u128 * (run.page as u128 + page as u128), PAGE_WORDS) {
                 return false;
             }
         }

@@ -7,6 +7,7 @@ ghost use Rattle.mk_core.specs.Ranges.{is_word, is_other_caller, is_word_met, is
 
 use crate::calls::word_met;
 use crate::cells::{heads_run, is_unmapped};
+use crate::geometry::{HEAP_START, PAGE_WORDS};
 use crate::machine::Core;
 use crate::table::Table;
 use crate::{Flight, Seat, Step, Word};
@@ -87,7 +88,7 @@ impl Core {
     fn is_heap_word(&self, word: u128) -> bool
         ensures { result ≡ nat_lt word (64 * self.now.config.pages) }
     {
-        word < 64 * self.config.pages as u128
+        word < PAGE_WORDS as u128 * self.config.pages as u128
     }
 
     fn is_other_caller(&self, seat: Seat, caller: u64) -> bool
@@ -100,7 +101,7 @@ impl Core {
     fn is_word_met(&self, flight: Flight) -> bool
         ensures { result ≡ is_word_met self.now.config flight }
     {
-        flight.q >= 65536 && self.is_heap_word(word_met(flight))
+        flight.q >= HEAP_START && self.is_heap_word(word_met(flight))
     }
 
     /// Whether the arguments of a step are in range, for a seat that is in the middle of this call.

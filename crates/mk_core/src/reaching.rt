@@ -16,12 +16,13 @@ use crate::calls::{
     word_met,
 };
 use crate::cells::bit;
+use crate::geometry::{HEAP_START, WORD_BYTES};
 use crate::machine::OUTSIDE;
 use crate::placing::base_made;
 use crate::{
     Access, Core, Event, Flight, Marker, Placing, Scan, Seat, Stage, Step, TableWord, Tally, Word,
 };
-use mk_geom::{Cell, lookup};
+use mk_geom::Cell;
 
 fn caller_number(seat: Seat) -> u64
     ensures { result ≡ caller_number seat }
@@ -161,8 +162,8 @@ impl Core {
     {
         let address = self
             .granted_base(flight)
-            .wrapping_mul(8)
-            .wrapping_add(65536);
+            .wrapping_mul(WORD_BYTES as u128)
+            .wrapping_add(HEAP_START as u128);
         (address % (1 << 64)) as u64
     }
 
@@ -239,22 +240,6 @@ impl Core {
             Step::End => Access::Sub(4),
             Step::Quit => Access::Sub(8),
             _ => Access::Load,
-        }
-    }
-}
-
-// STAND-IN
-
-impl Core {
-    fn cell_seen(&self, marker: Marker) -> Option<Cell>
-        ensures { result ≡ cell_seen self.now.config marker.seen marker.hand }
-    {
-        let seen = marker.seen?;
-        let value = marker.hand?;
-        if seen.page == value.saturating_sub(65536) / 512 {
-            lookup(self.config.pages, seen.header, value)
-        } else {
-            None
         }
     }
 }

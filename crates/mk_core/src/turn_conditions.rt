@@ -14,9 +14,6 @@ use crate::table::Table;
 use crate::{Core, Flight, OwnCycle, Placing, Stage};
 use mk_geom::{Cell, Place};
 
-/// The address of the heap's first word.
-const HEAP_START: u64 = 65536;
-
 /// Whether no call of a caller's is undecided.
 fn is_decided(stage: Stage) -> bool
     ensures { result ≡ is_decided stage }
@@ -201,19 +198,6 @@ impl Core {
         }
     }
 
-    /// The cell that has a heap word.
-    fn cell_with(&self, word: u64) -> Option<Cell>
-        ensures { result ≡ pointed_cell self.now.config.pages self.now.now.words (address_of word) }
-    {
-        self.is_within_limits();
-        let pages = self.config.pages;
-        if word < 64 * pages {
-            self.table.pointed_cell(pages, HEAP_START + 8 * word)
-        } else {
-            None
-        }
-    }
-
     /// Whether the word is one of the run whose pages this call unmapped.
     fn is_in_gone_run(&self, word: u64) -> bool
         ensures { result ≡ is_in_gone_run self.now.now.words self.now.now.seats.holding.freed word }
@@ -227,7 +211,7 @@ impl Core {
     pub(crate) fn may_wipe(&self, word: u64) -> bool
         ensures { result ≡ may_wipe self.now.config self.now.now word }
     {
-        self.cell_with(word)
+        self.cell_of_word(word)
             .is_some_and(|cell| self.table.is_released(cell))
             || self.is_in_gone_run(word)
     }

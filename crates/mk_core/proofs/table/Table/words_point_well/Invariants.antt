@@ -1,8 +1,7 @@
 use Rattle.std.proofs.Common.{◌≡◌, ◌+◌, true}
 use Rattle.mk_core.specs.Tests.{all_below}
-use Rattle.mk_core.specs.Cells.{first_word, word_points_well}
+use Rattle.mk_core.specs.Cells.{word_points_well}
 use Rattle.mk_core.proofs.table.Table.words_point_well.Given as goal
 
 abbrev pub invariant-loop-i : goal.invariant-loop-i
-invariant-loop-i l =
-    all_below l.i (λ i. word_points_well l.pages l.self (first_word l.self l.fn.cell + i)) ≡ true
+invariant-loop-i l = all_below l.i (λ i. word_points_well l.pages l.self (l.first + i)) ≡ true

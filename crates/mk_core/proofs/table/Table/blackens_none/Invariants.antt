@@ -1,0 +1,8 @@
+use Rattle.std.proofs.Common.{◌≡◌, true}
+use Rattle.std.specs.Prelude.{not}
+use Rattle.mk_core.specs.Tests.{all_below}
+use Rattle.mk_core.specs.StopConditions.{blackens}
+use Rattle.mk_core.proofs.table.Table.blackens_none.Given as goal
+
+abbrev pub invariant-loop-index : goal.invariant-loop-index
+invariant-loop-index l = all_below l.index (λ k. not (blackens l.pages l.self l.page l.value k)) ≡ true

@@ -1,0 +1,7 @@
+use Rattle.std.proofs.Common.{◌≡◌, true}
+use Rattle.mk_core.specs.Tests.{all_below}
+use Rattle.mk_core.specs.StopConditions.{has_clean_page}
+use Rattle.mk_core.proofs.table.Table.has_clean_pages.Given as goal
+
+abbrev pub invariant-loop-page : goal.invariant-loop-page
+invariant-loop-page l = all_below l.page (has_clean_page l.self) ≡ true

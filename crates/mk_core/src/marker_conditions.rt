@@ -1,0 +1,107 @@
+//! What a marker may do, and when the host may end all: the own conditions of the markers' kinds of step
+//! and of `over`.
+ghost use Rattle.std.specs.Prelude.{◌≡◌};
+ghost use Rattle.mk_core.specs.MarkerConditions.{is_out, is_markers_word, has_seen_cell, cell_seen, has_next_word, is_scanned, may_mlook, may_claim, may_mload, may_mmark, may_mblack, may_end_all};
+ghost use Rattle.mk_core.specs.Enabled.{marker_may};
+
+use crate::cells::cells_under;
+use crate::geometry::page_at;
+use crate::stop_conditions::is_attending;
+use crate::{Core, Marker, Presence, Scan, SeenHeader, Step, Word};
+use mk_geom::{Cell, lookup};
+
+fn is_out(presence: Presence) -> bool
+    ensures { result ≡ is_out presence }
+{
+    matches!(presence, Presence::Out)
+}
+
+/// Whether a marker looks at the word.
+fn is_markers_word(word: Word) -> bool
+    ensures { result ≡ is_markers_word word }
+{
+    matches!(
+        word,
+        Word::Phase | Word::Mark(_) | Word::Black(_) | Word::Head(_)
+    )
+}
+
+/// Whether the last look was at the page's header, and showed a cell of this index.
+fn has_seen_cell(seen: Option<SeenHeader>, page: u64, index: u64) -> bool
+    ensures { result ≡ has_seen_cell seen page index }
+{
+    match seen {
+        Some(seen) => seen.page == page && index < cells_under(seen.header),
+        None => false,
+    }
+}
+
+fn has_next_word(scan: Option<Scan>) -> bool
+    ensures { result ≡ has_next_word scan }
+{
+    match scan {
+        Some(scan) => scan.next < scan.end,
+        None => false,
+    }
+}
+
+fn is_scanned(scan: Option<Scan>) -> bool
+    ensures { result ≡ is_scanned scan }
+{
+    match scan {
+        Some(scan) => scan.next >= scan.end,
+        None => false,
+    }
+}
+
+fn may_mlook(marker: Marker, word: Word) -> bool
+    ensures { result ≡ may_mlook marker word }
+{
+    is_attending(marker.presence) && is_markers_word(word)
+}
+
+fn may_claim(marker: Marker, page: u64, cell: u64) -> bool
+    ensures { result ≡ may_claim marker page cell }
+{
+    is_attending(marker.presence)
+        && marker.scan.is_none()
+        && has_seen_cell(marker.seen, page, cell)
+}
+
+impl Core {
+    /// The cell into which a marker's open hand points, by the header that it has seen of its page.
+    pub(crate) fn cell_seen(&self, marker: Marker) -> Option<Cell>
+        ensures { result ≡ cell_seen self.now.config marker.seen marker.hand }
+    {
+        let seen = marker.seen?;
+        let value = marker.hand?;
+        if seen.page == page_at(value) {
+            lookup(self.config.pages, seen.header, value)
+        } else {
+            None
+        }
+    }
+
+    /// Whether the marker's step meets its kind's own condition.
+    pub(crate) fn marker_may(&self, marker: Marker, step: Step) -> bool
+        ensures { result ≡ marker_may self.now.config marker step }
+    {
+        match step {
+            Step::Attend => is_out(marker.presence),
+            Step::Quit => !is_out(marker.presence),
+            Step::Mlook(word) => may_mlook(marker, word),
+            Step::Claim { page, cell } => may_claim(marker, page, cell),
+            Step::Mload => has_next_word(marker.scan) && marker.hand.is_none(),
+            Step::Mmark => self.cell_seen(marker).is_some(),
+            Step::Mblack => is_scanned(marker.scan) && marker.hand.is_none(),
+            _ => true,
+        }
+    }
+
+    /// Whether the host has the turn while nothing is marked.
+    pub(crate) fn may_end_all(&self) -> bool
+        ensures { result ≡ may_end_all self.now.config self.now.now }
+    {
+        self.host_has_turn() && self.table.phase() == 0
+    }
+}

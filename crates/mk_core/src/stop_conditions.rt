@@ -1,0 +1,229 @@
+//! What the turn's holder may do to marks and phases: the own condition of each kind of step that marks,
+//! begins, closes or ends a cycle.
+ghost use Rattle.std.specs.Prelude.{◌≡◌, ◌<◌, not};
+ghost use Rattle.std.specs.List.{list_all};
+ghost use Rattle.mk_core.specs.Tests.{all_below};
+ghost use Rattle.mk_core.specs.Cells.{points_well};
+ghost use Rattle.mk_core.specs.StopConditions.{is_attending, none_attends, is_bit_of, marks_by_hand, marks_place, may_mark, has_clean_page, may_begin, has_closed_page, roots_point_well, may_close, has_settled_page, may_end, may_undirty, may_unblack, may_turn_black, blackens, may_black};
+ghost use Rattle.mk_core.specs.TurnConditions.{place_now};
+
+use crate::cells::{cells_under, has_no_pointers, is_bit, without};
+use crate::placing::{bits_made, is_small};
+use crate::table::Table;
+use crate::{Core, Flight, Marker, Presence};
+use mk_geom::Cell;
+
+pub(crate) fn is_attending(presence: Presence) -> bool
+    ensures { result ≡ is_attending presence }
+{
+    matches!(presence, Presence::Attending)
+}
+
+/// Whether no marker attends.
+fn none_attends(markers: &[Marker]) -> bool
+    ensures { result ≡ none_attends markers.now }
+{
+    markers
+        .iter()
+        .all(|marker| !is_attending(marker.presence))
+}
+
+/// Whether the value is the one bit of the cell, at its page.
+fn is_bit_of(cell: Option<Cell>, page: u64, value: u64) -> bool
+    ensures { result ≡ is_bit_of cell page value }
+{
+    match cell {
+        Some(cell) => page == cell.page && is_bit(cell.index, value),
+        None => false,
+    }
+}
+
+impl Table {
+    /// Whether no mark of the page is left, and its freed cells are the snapshot.
+    fn has_clean_page(&self, page: u64) -> bool
+        ensures { result ≡ has_clean_page self.now page }
+    {
+        self.mark(page) == 0 && self.black(page) == 0 && self.freed(page) == self.snapshot(page)
+    }
+
+    /// Whether each marked cell of the page is black, and the page isn't dirty.
+    fn has_closed_page(&self, page: u64) -> bool
+        ensures { result ≡ has_closed_page self.now page }
+    {
+        without(self.mark(page) & self.cell_bits(page), self.black(page)) == 0
+            && self.dirty(page) == 0
+    }
+
+    /// Whether no cell of the page is released, and the page has a used cell where it has a header.
+    fn has_settled_page(&self, page: u64) -> bool
+        ensures { result ≡ has_settled_page self.now page }
+    {
+        self.none_is_released(page)
+            && (self.header(page) == 0 || self.used(self.head_page(page)) != 0)
+    }
+
+    /// Whether each of the first so many pages is clean.
+    #[tactic(auto, using(crate::proofs::AllBelow::all_below_zero_is, crate::proofs::AllBelow::all_below_more_is))]
+    fn has_clean_pages(&self, pages: u64) -> bool
+        ensures { result ≡ all_below pages (has_clean_page self.now) }
+    {
+        for page in 0..pages {
+            if !self.has_clean_page(page) {
+                return false;
+            }
+        }
+        true
+    }
+
+    /// Whether each of the first so many pages is closed.
+    #[tactic(auto, using(crate::proofs::AllBelow::all_below_zero_is, crate::proofs::AllBelow::all_below_more_is))]
+    fn has_closed_pages(&self, pages: u64) -> bool
+        ensures { result ≡ all_below pages (has_closed_page self.now) }
+    {
+        for page in 0..pages {
+            if !self.has_closed_page(page) {
+                return false;
+            }
+        }
+        true
+    }
+
+    /// Whether each of the first so many pages is settled.
+    #[tactic(auto, using(crate::proofs::AllBelow::all_below_zero_is, crate::proofs::AllBelow::all_below_more_is))]
+    fn has_settled_pages(&self, pages: u64) -> bool
+        ensures { result ≡ all_below pages (has_settled_page self.now) }
+    {
+        for page in 0..pages {
+            if !self.has_settled_page(page) {
+                return false;
+            }
+        }
+        true
+    }
+
+    /// Whether each of the values points well.
+    fn all_point_well(&self, pages: u64, values: &[u64]) -> bool
+        ensures { result ≡ list_all (points_well pages self.now) values.now }
+    {
+        values.iter().all(|value| self.points_well(pages, *value))
+    }
+
+    fn roots_point_well(&self, pages: u64) -> bool
+        ensures { result ≡ roots_point_well pages self.now }
+    {
+        self.all_point_well(pages, self.registers()) && self.all_point_well(pages, self.globals())
+    }
+
+    /// Whether the cell is there and marked, and its words point well or aren't scanned.
+    #[tactic(auto, unfolding(crate::specs::StopConditions::may_turn_black))]
+    fn may_turn_black(&self, pages: u64, cell: Cell) -> bool
+        ensures { result ≡ may_turn_black pages self.now cell }
+    {
+        let header = self.header(cell.page);
+        cell.index < cells_under(header)
+            && self.is_marked(cell)
+            && (has_no_pointers(header) || self.words_point_well(pages, cell))
+    }
+
+    fn blackens(&self, pages: u64, page: u64, value: u64, index: u64) -> bool
+        ensures { result ≡ blackens pages self.now page value index }
+    {
+        is_bit(index, value) && self.may_turn_black(pages, Cell { page, index })
+    }
+
+    /// Whether the value isn't the bit of a cell of the page that may turn black.
+    #[tactic(auto, using(crate::proofs::AllBelow::all_below_zero_is, crate::proofs::AllBelow::all_below_more_is))]
+    fn blackens_none(&self, pages: u64, page: u64, value: u64) -> bool
+        ensures { result ≡ all_below 32 (λ k. not (blackens pages self.now page value k)) }
+    {
+        for index in 0..32 {
+            if self.blackens(pages, page, value, index) {
+                return false;
+            }
+        }
+        true
+    }
+}
+
+impl Core {
+    pub(crate) fn none_attends(&self) -> bool
+        ensures { result ≡ none_attends self.now.now.seats.markers }
+    {
+        none_attends(&self.markers)
+    }
+
+    /// Whether the value is the bit of the cell into which the hand points.
+    fn marks_by_hand(&self, page: u64, value: u64) -> bool
+        ensures { result ≡ marks_by_hand self.now.config.pages self.now.now.words self.now.now.seats.holding.hand page value }
+    {
+        match self.holding.hand {
+            Some(hand) => {
+                let cell = self.table.pointed_cell(self.config.pages, hand.value);
+                is_bit_of(cell, page, value)
+            }
+            None => false,
+        }
+    }
+
+    /// Whether the value is the bits of the cells that the page of the place of a `New` gets.
+    pub(crate) fn marks_place(&self, flight: Flight, page: u64, value: u64) -> bool
+        ensures { result ≡ marks_place self.now.config self.now.now flight (place_now self.now.config self.now.now flight) page value }
+    {
+        let Some(place) = self.place_now(flight) else {
+            return false;
+        };
+        let object = self.object_made(flight.op);
+        self.table.phase() == 1
+            && page == place.page
+            && value == bits_made(object)
+            && (!is_small(object) || self.table.header(page) == 0)
+    }
+
+    pub(crate) fn may_mark(&self, flight: Flight, page: u64, value: u64) -> bool
+        ensures { result ≡ may_mark self.now.config self.now.now flight page value }
+    {
+        self.marks_by_hand(page, value) || self.marks_place(flight, page, value)
+    }
+
+    pub(crate) fn may_begin(&self) -> bool
+        ensures { result ≡ may_begin self.now.config.pages self.now.now.words }
+    {
+        self.table.has_clean_pages(self.config.pages) && self.table.fresh() == 0
+    }
+
+    pub(crate) fn may_close(&self) -> bool
+        ensures { result ≡ may_close self.now.config self.now.now }
+    {
+        let pages = self.config.pages;
+        self.none_attends()
+            && self.table.has_closed_pages(pages)
+            && self.table.roots_point_well(pages)
+    }
+
+    pub(crate) fn may_end(&self) -> bool
+        ensures { result ≡ may_end self.now.config.pages self.now.now.words }
+    {
+        self.table.has_settled_pages(self.config.pages)
+    }
+
+    pub(crate) fn may_undirty(&self, page: u64) -> bool
+        ensures { result ≡ may_undirty self.now.now page }
+    {
+        self.table.phase() != 2
+            || self.none_attends()
+                && self.table.black(page) == 0
+                && self.table.black(self.table.head_page(page)) == 0
+    }
+
+    pub(crate) fn may_unblack(&self) -> bool
+        ensures { result ≡ may_unblack self.now.now }
+    {
+        self.table.phase() != 2 || self.none_attends()
+    }
+
+    pub(crate) fn may_black(&self, page: u64, value: u64) -> bool
+        ensures { result ≡ may_black self.now.config self.now.now page value }
+    {
+        self.none_attends() && !self.table.blackens_none(self.config.pages, page, value)
+    }
+}
