@@ -1,6 +1,7 @@
 pub mod AllBelow
 pub mod AllBelowParts
 pub mod Bits
+pub mod Conditions
 pub mod Histories
 pub mod LayoutLemmas
 pub mod Lengths

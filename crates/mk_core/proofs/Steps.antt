@@ -1,14 +1,15 @@
 -- What a step says of the histories for which the core stood.
 use Rattle.std.proofs.Common.{◌≡◌, ◌↔◌, ℕ, ◌<◌, ◌≤◌, List, [], ◌∷◌, ◌++◌, Option, Some, None, Result, Ok, Err, MatchResult, IsOk, IfOk, IfErr, OnOk, refl, sym, ◌∙◌, ap, subst, arith}
+use Rattle.mk_never.specs.declared.never_heap.NoMemory.{NoMemory}
 use Rattle.mk_core.specs.declared.config.Config.{Config}
 use Rattle.mk_core.specs.declared.events.Answer.{Answer}
 use Rattle.mk_core.specs.declared.events.Event.{Event}
 use Rattle.mk_core.specs.declared.events.NotEnabled.{NotEnabled}
 use Rattle.mk_core.specs.Accesses.{caller_number}
-use Rattle.mk_core.specs.Moments.{Moment, flight_of}
+use Rattle.mk_core.specs.Moments.{Moment, first_moment, flight_of}
 use Rattle.mk_core.specs.Enabled.{IsEnabled, failing}
 use Rattle.mk_core.specs.Effects.{moment_behind, answer_decided}
-use Rattle.mk_core.specs.History.{World, first_world, world_behind, left, AreEnabled, Decided, entry_of, call_decided, calls}
+use Rattle.mk_core.specs.History.{World, first_world, world_behind, left_from, left, AreEnabledFrom, AreEnabled, Decided, entry_of, call_decided, calls}
 use Rattle.mk_core.specs.Standing.{CoreState, StandsFor}
 use Rattle.mk_core.proofs.Histories.{left_more, enabled_more, last_enabled, calls_more}
 
@@ -39,3 +40,11 @@ stands_of core new es e (Ok a) st t h =
       now = ap (λ (m : Moment). moment_behind core.config m e) st.now ∙ sym (ap (λ (w : World). w.now) (left_more core.config (first_world core.config) es e));
     })
 stands_of core new es e (Err x) st t h = tt
+
+stands_at_start : (core : CoreState) → core.now ≡ first_moment core.config → StandsFor core []
+unfolding left_from AreEnabledFrom
+stands_at_start core e = record { enabled = tt; now = e }
+
+pub stands_if_ok : (k : Config) (r : Result CoreState NoMemory) → IfOk r (λ core. (core.config ≡ k) × (core.now ≡ first_moment k)) → IfOk r (λ core. StandsFor core [])
+stands_if_ok k (Ok core) h = stands_at_start core (h.1 ∙ ap (λ c. first_moment c) (sym h.0))
+stands_if_ok k (Err e) h = tt

@@ -50,29 +50,27 @@ holder_may c m f (step.Unblack p) = may_unblack m
 holder_may c m f step.Over = may_end_all c m
 holder_may c m f _ = true
 
-abbrev pub meets_own : Config → Moment → Seat → Step → Bool
+unfoldable pub meets_own : Config → Moment → Seat → Step → Bool
 meets_own c m (Marker k) s = marker_may c (marker_of m k) s
 meets_own c m (Caller k) s = holder_may c m (flight_of m (Caller k)) s
 meets_own c m Host s = holder_may c m (flight_of m Host) s
+
+-- the first of conditions 4 to 7 that fails, or 0
+abbrev pub failing_in_order : Config → Moment → Event → ℕ
+failing_in_order c m e =
+    if is_in_range c e.seat (flight_of m e.seat) e.step
+    then
+    (if has_gates c m.words e.seat (flight_of m e.seat) e.step
+    then (if has_phase (phase_of m.words) e.step then (if meets_own c m e.seat e.step then 0 else 7) else 6)
+    else 5)
+    else 4
 
 -- The first condition that fails, or 0 where none does.
 abbrev pub failing : Config → Moment → Event → ℕ
 failing c m e =
     if seat_exists c e.seat
     then
-    (if is_open_to e.seat (group_of e.step)
-    then
-    (if is_in_order c m e.seat e.step
-    then
-    (if is_in_range c e.seat (flight_of m e.seat) e.step
-    then
-    (if has_gates c m.words e.seat (flight_of m e.seat) e.step
-    then
-    (if has_phase (phase_of m.words) e.step then (if meets_own c m e.seat e.step then 0 else 7) else 6)
-    else 5)
-    else 4)
-    else 3)
-    else 2)
+    (if is_open_to e.seat (group_of e.step) then (if is_in_order c m e.seat e.step then failing_in_order c m e else 3) else 2)
     else 1
 
 abbrev pub IsEnabled : Config → Moment → Event → Type 0

@@ -5,7 +5,7 @@ ghost use Rattle.mk_core.specs.Calls.{at_rest};
 ghost use Rattle.mk_core.specs.Moments.{first_moment, flight_of, outside};
 ghost use Rattle.mk_core.specs.Order.{seat_exists};
 ghost use Rattle.mk_core.specs.Ranges.{is_in_range};
-ghost use Rattle.mk_core.specs.Enabled.{holder_may, meets_own, failing, IsEnabled};
+ghost use Rattle.mk_core.specs.Enabled.{holder_may, meets_own, failing_in_order, failing, IsEnabled};
 ghost use Rattle.mk_core.specs.Accesses.{caller_number};
 ghost use Rattle.mk_core.specs.Effects.{seats_behind, moment_behind, answer_by, answer_decided};
 ghost use Rattle.mk_core.specs.History.{left, AreEnabled, calls, entry_of};
@@ -33,11 +33,10 @@ fn markers_outside(alloc: Global, markers: usize) -> Result<Vec<Marker>, NoMemor
 }
 
 impl Core {
-    /// The core behind no event: all words are 0, and no seat is in the middle of anything.
-    pub fn start(alloc: Global, config: &Config) -> Result<Core, NoMemory>
-        requires within_limits { IsWithinLimits config.now }
-        ensures config { IfOk result (λ core. core.config ≡ config.now) }
-        ensures stands { IfOk result (λ core. StandsFor core []) }
+    /// The core of this configuration behind no event.
+    fn of(alloc: Global, config: Config) -> Result<Core, NoMemory>
+        requires { IsWithinLimits config }
+        ensures { IfOk result (λ core. (core.config ≡ config) × (core.now ≡ first_moment config)) }
     {
         Ok(Core {
             table: Table::start(alloc, config.pages)?,
@@ -45,8 +44,18 @@ impl Core {
             holding: NOTHING_DONE,
             markers: markers_outside(alloc, 8)?,
             fresh_words: 0,
-            config: config.try_clone(alloc)?,
+            config,
         })
+    }
+
+    /// The core behind no event: all words are 0, and no seat is in the middle of anything.
+    pub fn start(alloc: Global, config: &Config) -> Result<Core, NoMemory>
+        requires within_limits { IsWithinLimits config.now }
+        ensures config { IfOk result (λ core. core.config ≡ config.now) }
+        ensures now { IfOk result (λ core. core.now ≡ first_moment config.now) }
+        ensures stands { IfOk result (λ core. StandsFor core []) }
+    {
+        Core::of(alloc, config.try_clone(alloc)?)
     }
 
     /// Whether the step of the turn's holder, whose call this is, meets its kind's own condition.
@@ -75,6 +84,7 @@ impl Core {
     }
 
     /// Whether the event meets its kind's own condition.
+    #[tactic(auto, unfolding(crate::specs::Enabled::meets_own))]
     fn meets_own(&self, event: Event) -> bool
         ensures { result ≡ meets_own self.now.config self.now.now event.seat event.step }
     {
@@ -84,18 +94,12 @@ impl Core {
         }
     }
 
-    /// The first condition that fails, or 0 where none does.
-    fn first_failing(&self, event: Event) -> u64
-        ensures { result ≡ failing self.now.config self.now.now event }
+    /// The first of conditions 4 to 7 that fails, or 0.
+    fn failing_in_order(&self, event: Event) -> u64
+        ensures { result ≡ failing_in_order self.now.config self.now.now event }
     {
         let flight = self.flight(event.seat);
-        if !self.seat_exists(event.seat) {
-            1
-        } else if !is_open_to(event.seat, group(event.step)) {
-            2
-        } else if !self.is_in_order(event) {
-            3
-        } else if !self.is_in_range(event.seat, flight, event.step) {
+        if !self.is_in_range(event.seat, flight, event.step) {
             4
         } else if !self.has_gates(event.seat, flight, event.step) {
             5
@@ -105,6 +109,21 @@ impl Core {
             7
         } else {
             0
+        }
+    }
+
+    /// The first condition that fails, or 0 where none does.
+    fn first_failing(&self, event: Event) -> u64
+        ensures { result ≡ failing self.now.config self.now.now event }
+    {
+        if !self.seat_exists(event.seat) {
+            1
+        } else if !is_open_to(event.seat, group(event.step)) {
+            2
+        } else if !self.is_in_order(event) {
+            3
+        } else {
+            self.failing_in_order(event)
         }
     }
 
