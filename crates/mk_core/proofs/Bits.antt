@@ -15,6 +15,7 @@ pub sum_past : (value word k : ℕ) → value < 2 ^ 64 → 64 ≤ k → (value =
 sum_past value word k lt le =
     let great : 2 ^ 64 ≤ 2 ^ k = pow_mono le in
     ne_eqb value (word + 2 ^ k) (λ e. omega arith)
+
 -- no word is such a bit
 pub bit_above : (value k : ℕ) → value < 2 ^ 64 → 64 ≤ k → (value == 2 ^ k) ≡ false
 bit_above value k lt le =

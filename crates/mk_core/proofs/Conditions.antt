@@ -9,8 +9,7 @@ use Rattle.mk_core.specs.Order.{seat_exists, group_of, is_open_to, is_in_order}
 use Rattle.mk_core.specs.Ranges.{is_in_range, has_gates, has_phase}
 use Rattle.mk_core.specs.declared.events.Seat.{Seat}
 use Rattle.mk_core.specs.declared.events.Seat.TheVariants as seat
-use Rattle.mk_core.specs.declared.events.Step.{Step}
-use Rattle.mk_core.specs.Enabled.{marker_may, meets_own, failing, IsEnabled}
+use Rattle.mk_core.specs.Enabled.{marker_may, meets_own, IsEnabled}
 
 pub record MeetsAll (c : Config) (m : Moment) (e : Event) : Type 0 where
   pub seat : seat_exists c e.seat ≡ true
@@ -36,7 +35,7 @@ all_hold true true true true true true false h = absurd (omega arith)
 pub enabled_meets : (c : Config) (m : Moment) (e : Event) → IsEnabled c m e → MeetsAll c m e
 enabled_meets c m e h =
     let all = all_hold (seat_exists c e.seat) (is_open_to e.seat (group_of e.step)) (is_in_order c m e.seat e.step) (is_in_range c e.seat (flight_of m e.seat) e.step)
-      (has_gates c m.words e.seat (flight_of m e.seat) e.step) (has_phase (phase_of m.words) e.step) (meets_own c m e.seat e.step) h in
+    (has_gates c m.words e.seat (flight_of m e.seat) e.step) (has_phase (phase_of m.words) e.step) (meets_own c m e.seat e.step) h in
     record { seat = all.0; kind = all.1; order = all.2; range = all.3; gates = all.4; phase = all.5; own = all.6 }
 
 -- a marker's own condition

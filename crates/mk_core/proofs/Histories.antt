@@ -1,15 +1,9 @@
 -- Histories with one event more.
-use Rattle.std.proofs.Common.{◌≡◌, ◌↔◌, ℕ, ◌<◌, List, [], ◌∷◌, ◌++◌, Option, Some, None, Result, Ok, Err, IsOk, IfOk, IfErr, OnOk, refl, sym, ◌∙◌, ap, subst, append_assoc, append-nil, arith}
+use Rattle.std.proofs.Common.{◌≡◌, List, [], ◌∷◌, ◌++◌, refl, sym, ◌∙◌, ap, append_assoc, append-nil}
 use Rattle.mk_core.specs.declared.config.Config.{Config}
-use Rattle.mk_core.specs.declared.events.Answer.{Answer}
 use Rattle.mk_core.specs.declared.events.Event.{Event}
-use Rattle.mk_core.specs.declared.events.NotEnabled.{NotEnabled}
-use Rattle.mk_core.specs.Accesses.{caller_number}
-use Rattle.mk_core.specs.Moments.{Moment, flight_of}
-use Rattle.mk_core.specs.Enabled.{IsEnabled, failing}
-use Rattle.mk_core.specs.Effects.{moment_behind, answer_decided}
-use Rattle.mk_core.specs.History.{World, first_world, world_behind, left_from, left, AreEnabledFrom, AreEnabled, Decided, entry_of, call_decided, calls_from, calls}
-use Rattle.mk_core.specs.Standing.{CoreState, StandsFor}
+use Rattle.mk_core.specs.Enabled.{IsEnabled}
+use Rattle.mk_core.specs.History.{World, world_behind, left_from, AreEnabledFrom, Decided, call_decided, calls_from}
 
 pub left_more : (c : Config) (w : World) (es : List Event) (e : Event) → left_from c w (es ++ e ∷ []) ≡ world_behind c (left_from c w es) e
 unfolding left_from

@@ -1,7 +1,6 @@
 -- Each region of the words keeps its length.
-use Rattle.std.proofs.Common.{◌≡◌, ℕ, ◌+◌, ◌*◌, List, [], ◌∷◌, ◌++◌, length, length-set, refl, ◌∙◌}
+use Rattle.std.proofs.Common.{ℕ, ◌+◌, ◌*◌, List, [], ◌∷◌, length-set, refl, ◌∙◌}
 use Rattle.std.proofs.lemmas.List.{length-replicate}
-use Rattle.mk_geom.specs.declared.pages.Page.{Page}
 use Rattle.mk_geom.specs.Storages.{free_page}
 use Rattle.mk_core.specs.declared.config.Config.{Config}
 use Rattle.mk_core.specs.declared.events.Event.{Event}
@@ -19,9 +18,16 @@ use Rattle.mk_core.specs.History.{World, first_world, world_behind, left_from, l
 zero_lengths : (count : ℕ) → AreOfPages count (zero_words_of count)
 zero_lengths count =
     record {
-      gates = refl; registers = refl; globals = refl; pages = length-replicate count free_page;
-      freed = length-replicate count 0; snapshot = length-replicate count 0; marks = length-replicate count 0;
-      blacks = length-replicate count 0; dirty = length-replicate count 0; heap = length-replicate (64 * count) 0;
+      gates = refl;
+      registers = refl;
+      globals = refl;
+      pages = length-replicate count free_page;
+      freed = length-replicate count 0;
+      snapshot = length-replicate count 0;
+      marks = length-replicate count 0;
+      blacks = length-replicate count 0;
+      dirty = length-replicate count 0;
+      heap = length-replicate (64 * count) 0;
     }
 
 named_lengths : (count : ℕ) (w : Words) (x : Word) (v : ℕ) → AreOfPages count w → AreOfPages count (with_named w x v)

@@ -1,8 +1,7 @@
 -- The table's words as one list: each stands at its index, and a change of one is a change there.
-use Rattle.std.proofs.Common.{◌≡◌, ℕ, zero, suc, ◌+◌, ◌-◌, ◌*◌, ◌/◌, ◌%◌, ◌^◌, ◌<◌, ◌≤◌, List, [], ◌∷◌, ◌++◌, length, map, slice_index, slice_index_or, slice_set, refl, sym, ◌∙◌, ap, subst, arith}
+use Rattle.std.proofs.Common.{◌≡◌, ℕ, zero, suc, ◌+◌, ◌*◌, ◌/◌, ◌%◌, ◌^◌, ◌<◌, List, [], ◌∷◌, ◌++◌, length, map, slice_index, slice_index_or, slice_set, refl, sym, ◌∙◌, ap, arith}
 use Rattle.std.proofs.lemmas.List.{get_or_append_left, get_or-append-add, set-append_left, set-append_right, map-set, length-map, get_or-map}
 use Rattle.std.proofs.Math.Seq.{map-set_same}
-use Rattle.std.proofs.Math.ListN.{get_or-map as get_or-map-default}
 use Rattle.std.proofs.Math.Nat.{mod-add-div}
 use Rattle.mk_geom.specs.declared.pages.Page.{Page}
 use Rattle.mk_geom.specs.Storages.{free_page}
@@ -78,8 +77,16 @@ begins pages w h =
     let q : length (quarantine_words w.freed w.snapshot) ≡ pages = quarantine_length w.freed w.snapshot (h.freed ∙ sym h.snapshot) ∙ h.freed in
     let m = h.marks in let b = h.blacks in let d = h.dirty in
     record {
-      gates = omega arith; registers = omega arith; globals = omega arith; headers = omega arith; used = omega arith;
-      quarantine = omega arith; marks = omega arith; blacks = omega arith; dirty = omega arith; heap = omega arith;
+      gates = omega arith;
+      registers = omega arith;
+      globals = omega arith;
+      headers = omega arith;
+      used = omega arith;
+      quarantine = omega arith;
+      marks = omega arith;
+      blacks = omega arith;
+      dirty = omega arith;
+      heap = omega arith;
     }
 
 -- the word at k of region j, whose index is i
@@ -130,12 +137,12 @@ used_kept ps p v = map-set_same (λ (page : Page). page.used) ps p (record { hea
 with_pages : Words → List ℕ → List ℕ → List ℕ
 with_pages w headers used =
     joined ((w.phase ∷ w.turn ∷ w.held ∷ w.fresh ∷ w.cycles ∷ w.released ∷ w.full ∷ []) ∷ w.gates ∷ w.registers ∷ w.globals
-      ∷ headers ∷ used ∷ quarantine_words w.freed w.snapshot ∷ w.marks ∷ w.blacks ∷ w.dirty ∷ w.heap ∷ [])
+    ∷ headers ∷ used ∷ quarantine_words w.freed w.snapshot ∷ w.marks ∷ w.blacks ∷ w.dirty ∷ w.heap ∷ [])
 
 with_quarantine : Words → List ℕ → List ℕ
 with_quarantine w quarantine =
     joined ((w.phase ∷ w.turn ∷ w.held ∷ w.fresh ∷ w.cycles ∷ w.released ∷ w.full ∷ []) ∷ w.gates ∷ w.registers ∷ w.globals
-      ∷ map (λ (page : Page). page.header) w.pages ∷ map (λ (page : Page). page.used) w.pages ∷ quarantine ∷ w.marks ∷ w.blacks ∷ w.dirty ∷ w.heap ∷ [])
+    ∷ map (λ (page : Page). page.header) w.pages ∷ map (λ (page : Page). page.used) w.pages ∷ quarantine ∷ w.marks ∷ w.blacks ∷ w.dirty ∷ w.heap ∷ [])
 
 quarantine_whole : (v : ℕ) → quarantine_word (v % 2 ^ 32) (v / 2 ^ 32) ≡ v
 quarantine_whole v = mod-add-div v (2 ^ 32)

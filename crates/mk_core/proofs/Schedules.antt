@@ -10,7 +10,6 @@ use Rattle.mk_core.specs.declared.events.Word.TheVariants as word
 use Rattle.mk_core.specs.declared.events.Tally.TheVariants as tally
 use Rattle.mk_core.specs.declared.events.Step.{Step}
 use Rattle.mk_core.specs.declared.events.Step.TheVariants as step
-use Rattle.mk_core.specs.declared.events.Answer.{Answer}
 use Rattle.mk_core.specs.declared.events.Answer.TheVariants as answer
 use Rattle.mk_core.specs.declared.events.Event.{Event}
 use Rattle.mk_core.specs.Tests.{all_below}
@@ -47,22 +46,22 @@ one_page = record { pages = 1; resident = 1; callers = 1; markers = 0; types = r
 freed_after_begin : List Event
 freed_after_begin =
     by c0 (step.Take (Some (op.New 0 0 false)) ∷ step.Head 0 125 ∷ step.Used 0 1 ∷ step.Grant ∷ step.Tally
-      tally.Held 32 ∷ step.Give ∷ [])
+    tally.Held 32 ∷ step.Give ∷ [])
     ++ by c0 (step.Take (Some (op.New 1 0 false)) ∷ step.Used 0 3 ∷ step.Grant ∷ step.Tally tally.Held 64 ∷
-      step.Give ∷ [])
+    step.Give ∷ [])
     ++ by c0 (step.Take (Some (op.Free 0)) ∷ step.Reg ∷ step.Quar 0 1 ∷ step.Quar 0 4294967297 ∷ step.Begin ∷
-      step.Give ∷ [])
+    step.Give ∷ [])
     ++ by c0 (step.Take (Some (op.Free 1)) ∷ step.Reg ∷ step.Quar 0 4294967299 ∷ step.Tally tally.Fresh 32 ∷
-      step.Give ∷ [])
+    step.Give ∷ [])
     ++ by c0 (step.Enter (op.Clear 0) ∷ step.Reg ∷ step.Leave ∷ [])
     ++ by c0 (step.Enter (op.Clear 1) ∷ step.Reg ∷ step.Leave ∷ [])
     ++ by host (step.Take None ∷ step.Hold 0 ∷ step.Want ∷ step.Close ∷ step.Release ∷ [])
     ++ by host (step.Used 0 2 ∷ step.Quar 0 2 ∷ step.Tally tally.Held 32 ∷ step.End ∷ step.Open 0 ∷ step.Give ∷
-      [])
+    [])
     ++ by c0 (step.Take (Some (op.New 2 0 false)) ∷ step.Quar 0 8589934594 ∷ step.Tally tally.Fresh 0 ∷
-      step.Begin ∷ step.Want ∷ step.Close ∷ step.Release ∷ step.Used 0 0 ∷ step.Quar 0 0 ∷ step.Head 0 0 ∷
-      step.Tally tally.Held 0 ∷ step.End ∷ step.Head 0 125 ∷ step.Used 0 1 ∷ step.Grant ∷ step.Tally tally.Held
-      32 ∷ step.Give ∷ [])
+    step.Begin ∷ step.Want ∷ step.Close ∷ step.Release ∷ step.Used 0 0 ∷ step.Quar 0 0 ∷ step.Head 0 0 ∷
+    step.Tally tally.Held 0 ∷ step.End ∷ step.Head 0 125 ∷ step.Used 0 1 ∷ step.Grant ∷ step.Tally tally.Held
+    32 ∷ step.Give ∷ [])
     ++ by c0 (step.Enter (op.IsNull 2) ∷ step.Reg ∷ step.Leave ∷ [])
 
 no_fault_freed : first_fault one_page freed_after_begin ≡ None
@@ -80,33 +79,32 @@ pointer_page = record { pages = 1; resident = 1; callers = 1; markers = 0; types
 blackened_before_the_move : List Event
 blackened_before_the_move =
     by c0 (step.Take (Some (op.New 0 0 false)) ∷ step.Head 0 1 ∷ step.Used 0 1 ∷ step.Grant ∷ step.Tally
-      tally.Held 2 ∷ step.Give ∷ [])
+    tally.Held 2 ∷ step.Give ∷ [])
     ++ by c0 (step.Take (Some (op.New 1 0 false)) ∷ step.Used 0 3 ∷ step.Grant ∷ step.Tally tally.Held 4 ∷
-      step.Give ∷ [])
+    step.Give ∷ [])
     ++ by c0 (step.Take (Some (op.New 2 0 false)) ∷ step.Used 0 7 ∷ step.Grant ∷ step.Tally tally.Held 6 ∷
-      step.Give ∷ [])
+    step.Give ∷ [])
     ++ by c0 (step.Enter (op.SetPtr 1 0 2) ∷ step.Reg ∷ step.Reg ∷ step.Probe ∷ step.Write ∷ step.Dirty ∷
-      step.Leave ∷ [])
+    step.Leave ∷ [])
     ++ by c0 (step.Enter (op.SetNum 2 1 7) ∷ step.Reg ∷ step.Probe ∷ step.Write ∷ step.Dirty ∷ step.Leave ∷ [])
     ++ by c0 (step.Take (Some (op.Free 2)) ∷ step.Reg ∷ step.Quar 0 4 ∷ step.Undirty 0 ∷ step.Quar 0 17179869188
-      ∷ step.Begin ∷ step.Look (word.Reg 0 0) ∷ step.Mark 0 1 ∷ step.Give ∷ [])
+    ∷ step.Begin ∷ step.Look (word.Reg 0 0) ∷ step.Mark 0 1 ∷ step.Give ∷ [])
     ++ by c0 (step.Enter (op.Clear 2) ∷ step.Reg ∷ step.Leave ∷ [])
     ++ by m0 (step.Attend ∷ step.Mlook (word.Head 0) ∷ step.Claim 0 0 ∷ step.Mload ∷ step.Mload ∷ step.Mblack ∷
-      step.Quit ∷ [])
+    step.Quit ∷ [])
     ++ by c0 (step.Enter (op.GetPtr 2 1 0) ∷ step.Reg ∷ step.Probe ∷ step.Read ∷ step.Reg ∷ step.Leave ∷ [])
     ++ by c0 (step.Enter (op.SetPtr 0 0 2) ∷ step.Reg ∷ step.Reg ∷ step.Probe ∷ step.Write ∷ step.Dirty ∷
-      step.Leave ∷ [])
+    step.Leave ∷ [])
     ++ by c0 (step.Enter (op.SetPtr 1 0 3) ∷ step.Reg ∷ step.Reg ∷ step.Probe ∷ step.Write ∷ step.Dirty ∷
-      step.Leave ∷ [])
+    step.Leave ∷ [])
     ++ by c0 (step.Enter (op.Clear 2) ∷ step.Reg ∷ step.Leave ∷ [])
     ++ by host (step.Take None ∷ step.Hold 0 ∷ step.Want ∷ step.Unblack 0 ∷ step.Undirty 0 ∷ step.Look (word.Reg
-      0 0) ∷ step.Mark 0 1 ∷ step.Look (word.Reg 0 1) ∷ step.Mark 0 2 ∷ [])
+    0 0) ∷ step.Mark 0 1 ∷ step.Look (word.Reg 0 1) ∷ step.Mark 0 2 ∷ [])
     ++ by host (step.Look (word.Heap 0) ∷ step.Mark 0 4 ∷ step.Black 0 1 ∷ step.Black 0 2 ∷ step.Black 0 4 ∷
-      step.Close ∷ step.Release ∷ step.End ∷ step.Open 0 ∷ step.Give ∷ [])
+    step.Close ∷ step.Release ∷ step.End ∷ step.Open 0 ∷ step.Give ∷ [])
     ++ by c0 (step.Enter (op.GetPtr 2 0 0) ∷ step.Reg ∷ step.Probe ∷ step.Read ∷ step.Reg ∷ step.Leave ∷ [])
     ++ by c0 (step.Enter (op.GetNum 2 1) ∷ step.Reg ∷ step.Probe ∷ step.Read ∷ step.Leave ∷ [])
 
 no_fault_blackened : first_fault pointer_page blackened_before_the_move ≡ None
 unfolding first_fault fault meets_own by c0 m0 host all_below pointed_cell may_turn_black pointer_page blackened_before_the_move
 no_fault_blackened = refl
-

@@ -1,5 +1,5 @@
 -- What a step says of the histories for which the core stood.
-use Rattle.std.proofs.Common.{◌≡◌, ◌↔◌, ℕ, ◌<◌, ◌≤◌, List, [], ◌∷◌, ◌++◌, Option, Some, None, Result, Ok, Err, MatchResult, IsOk, IfOk, IfErr, OnOk, refl, sym, ◌∙◌, ap, subst, arith}
+use Rattle.std.proofs.Common.{◌≡◌, ◌↔◌, ◌≤◌, List, [], ◌∷◌, ◌++◌, Option, Result, Ok, Err, MatchResult, IsOk, IfOk, OnOk, refl, sym, ◌∙◌, ap, subst, arith}
 use Rattle.mk_never.specs.declared.never_heap.NoMemory.{NoMemory}
 use Rattle.mk_core.specs.declared.config.Config.{Config}
 use Rattle.mk_core.specs.declared.events.Answer.{Answer}
@@ -9,7 +9,7 @@ use Rattle.mk_core.specs.Accesses.{caller_number}
 use Rattle.mk_core.specs.Moments.{Moment, first_moment, flight_of}
 use Rattle.mk_core.specs.Enabled.{IsEnabled, failing}
 use Rattle.mk_core.specs.Effects.{moment_behind, answer_decided}
-use Rattle.mk_core.specs.History.{World, first_world, world_behind, left_from, left, AreEnabledFrom, AreEnabled, Decided, entry_of, call_decided, calls}
+use Rattle.mk_core.specs.History.{World, first_world, left_from, left, AreEnabledFrom, AreEnabled, entry_of, calls}
 use Rattle.mk_core.specs.Standing.{CoreState, StandsFor}
 use Rattle.mk_core.proofs.Histories.{left_more, enabled_more, last_enabled, calls_more}
 

@@ -1,5 +1,5 @@
 -- Runs and cells whose words are 0.
-use Rattle.std.proofs.Common.{◌≡◌, ℕ, ◌+◌, ◌*◌, ◌<◌, Bool, true, false, ◌&&◌, ◌||◌, not, ◌∙◌, ap, arith, slice_index}
+use Rattle.std.proofs.Common.{◌≡◌, ℕ, ◌+◌, ◌*◌, ◌<◌, true, false, ◌&&◌, ◌||◌, not, ◌∙◌, ap, arith, slice_index}
 use Rattle.std.specs.Prelude.{◌==◌}
 use Rattle.mk_core.specs.Words.{Words}
 use Rattle.mk_core.specs.Tests.{all_below, has_bit}

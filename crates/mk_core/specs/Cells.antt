@@ -2,12 +2,11 @@
 use Rattle.std.specs.Prelude.{ℕ, ◌+◌, ◌-◌, ◌*◌, ◌/◌, ◌^◌, Bool, true, false, ◌&&◌, ◌||◌, not, ◌==◌, nat_le, nat_lt, Option, Some, None, slice_index, bit_and}
 use Rattle.mk_geom.specs.declared.addresses.Cell.{Cell}
 use Rattle.mk_geom.specs.declared.headers.Header.{Header}
-use Rattle.mk_geom.specs.declared.headers.Header.TheVariants.{Free, Block, Run, Later, LeafBlock, LeafRun}
+use Rattle.mk_geom.specs.declared.headers.Header.TheVariants.{Block, Run, Later, LeafBlock, LeafRun}
 use Rattle.mk_geom.specs.Classes.{cells_of, class_words_of}
 use Rattle.mk_geom.specs.Headers.{header_of}
 use Rattle.mk_geom.specs.Addresses.{cell_at, page_at_address}
 use Rattle.mk_core.specs.declared.seats.RunPages.{RunPages}
-use Rattle.mk_core.specs.Image.{address_of}
 use Rattle.mk_core.specs.Words.{Words, header_at, used_at}
 use Rattle.mk_core.specs.Tests.{all_below, has_bit, without}
 use Rattle.mk_core.specs.Moments.{is_phase}

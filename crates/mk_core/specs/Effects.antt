@@ -1,5 +1,5 @@
 -- What each event does: to the word that it reaches, and to what its seat is in the middle of.
-use Rattle.std.specs.Prelude.{ℕ, ◌+◌, ◌-◌, ◌*◌, ◌%◌, ◌^◌, Bool, true, false, ◌&&◌, ◌||◌, not, min, nat_lt, nat_le, ◌==◌, slice_set, slice_index, Option, Some, None, option_and_then, if◌then◌else◌}
+use Rattle.std.specs.Prelude.{ℕ, ◌+◌, ◌-◌, ◌*◌, ◌%◌, ◌^◌, Bool, true, false, ◌&&◌, not, min, ◌==◌, slice_set, Option, Some, None, option_and_then, if◌then◌else◌}
 use Rattle.mk_never.specs.declared.operations.Op.{Op}
 use Rattle.mk_geom.specs.declared.addresses.Cell.{Cell}
 use Rattle.mk_geom.specs.declared.pages.Place.{Place}
@@ -19,26 +19,24 @@ use Rattle.mk_core.specs.declared.events.Answer.TheVariants as answer
 use Rattle.mk_core.specs.declared.seats.Stage.TheVariants as stage
 use Rattle.mk_core.specs.declared.seats.Flight.{Flight}
 use Rattle.mk_core.specs.declared.seats.Progress.{Progress}
-use Rattle.mk_core.specs.declared.seats.Source.{Source}
 use Rattle.mk_core.specs.declared.seats.Source.TheVariants.{Root, Marked, Unmarked}
 use Rattle.mk_core.specs.declared.seats.Hand.{Hand}
 use Rattle.mk_core.specs.declared.seats.Placing.{Placing}
 use Rattle.mk_core.specs.declared.seats.Placing.TheVariants.{Unplaced, Chosen, Used, Granted}
 use Rattle.mk_core.specs.declared.seats.OwnCycle.{OwnCycle}
-use Rattle.mk_core.specs.declared.seats.OwnCycle.TheVariants.{NotBegun, Begun, Ended}
+use Rattle.mk_core.specs.declared.seats.OwnCycle.TheVariants.{Begun, Ended}
 use Rattle.mk_core.specs.declared.seats.Holding.{Holding}
 use Rattle.mk_core.specs.declared.seats.RunPages.{RunPages}
 use Rattle.mk_core.specs.declared.seats.Scan.{Scan}
 use Rattle.mk_core.specs.declared.seats.SeenHeader.{SeenHeader}
-use Rattle.mk_core.specs.declared.seats.Presence.{Presence}
-use Rattle.mk_core.specs.declared.seats.Presence.TheVariants.{Out, Visiting, Attending}
+use Rattle.mk_core.specs.declared.seats.Presence.TheVariants.{Visiting, Attending}
 use Rattle.mk_core.specs.declared.seats.Marker.{Marker}
 use Rattle.mk_core.specs.Image.{address_of}
 use Rattle.mk_core.specs.Words.{Words, accessed}
 use Rattle.mk_core.specs.Tests.{has_bit}
 use Rattle.mk_core.specs.Calls.{at_rest, begun, onward, still, refused, progress_reg, progress_read, progress_cas, progress_getg}
 use Rattle.mk_core.specs.Cells.{header_in, run_headed, heads_run, has_no_pointers, is_unmapped_header, pointed_cell, is_used, is_freed, is_marked, words_under}
-use Rattle.mk_core.specs.NewPlaces.{target, is_undecided_new}
+use Rattle.mk_core.specs.NewPlaces.{target}
 use Rattle.mk_core.specs.TurnConditions.{place_now, cell_freed}
 use Rattle.mk_core.specs.StopConditions.{marks_place}
 use Rattle.mk_core.specs.Moments.{Moment, Seats, nothing_done, outside, flight_of, marker_of, others_are_held, is_phase}

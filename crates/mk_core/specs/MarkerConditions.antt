@@ -1,5 +1,5 @@
 -- Condition 7 for the markers' kinds and `over`, and the cells that a marker has seen.
-use Rattle.std.specs.Prelude.{ℕ, ◌+◌, Bool, true, false, ◌&&◌, ◌||◌, not, nat_lt, ◌==◌, Option, Some, None, is_some, is_none, if◌then◌else◌}
+use Rattle.std.specs.Prelude.{ℕ, Bool, true, false, ◌&&◌, not, nat_lt, ◌==◌, Option, Some, None, is_some, is_none, if◌then◌else◌}
 use Rattle.mk_geom.specs.declared.addresses.Cell.{Cell}
 use Rattle.mk_geom.specs.Headers.{header_of}
 use Rattle.mk_geom.specs.Addresses.{cell_at, page_at_address}
@@ -8,7 +8,7 @@ use Rattle.mk_core.specs.declared.events.Word.{Word}
 use Rattle.mk_core.specs.declared.events.Word.TheVariants as word
 use Rattle.mk_core.specs.declared.seats.Marker.{Marker}
 use Rattle.mk_core.specs.declared.seats.Presence.{Presence}
-use Rattle.mk_core.specs.declared.seats.Presence.TheVariants.{Out, Visiting, Attending}
+use Rattle.mk_core.specs.declared.seats.Presence.TheVariants.{Out}
 use Rattle.mk_core.specs.declared.seats.Scan.{Scan}
 use Rattle.mk_core.specs.declared.seats.SeenHeader.{SeenHeader}
 use Rattle.mk_core.specs.Cells.{cells_under}

@@ -1,5 +1,5 @@
 -- The place of a New and what its pages become, and the object of a Free, over the words as they are.
-use Rattle.std.specs.Prelude.{ℕ, ◌+◌, ◌-◌, ◌*◌, ◌^◌, Bool, true, false, ◌&&◌, ◌==◌, nat_le, nat_lt, not, List, [], length, Option, Some, None, option_and_then, unwrap_or, if◌then◌else◌}
+use Rattle.std.specs.Prelude.{ℕ, ◌+◌, ◌-◌, ◌*◌, ◌^◌, Bool, true, false, ◌&&◌, ◌==◌, nat_le, nat_lt, not, List, [], length, Option, Some, None, unwrap_or, if◌then◌else◌}
 use Rattle.std.specs.List.{list_all}
 use Rattle.mk_never.specs.declared.types.Kind.{Kind}
 use Rattle.mk_never.specs.declared.types.Kind.TheVariants.{Num, To}
@@ -24,7 +24,6 @@ use Rattle.mk_core.specs.declared.seats.Object.{Object}
 use Rattle.mk_core.specs.Words.{Words, header_at}
 use Rattle.mk_core.specs.Tests.{all_below}
 use Rattle.mk_core.specs.Cells.{pointed_cell, words_are_zero}
-use Rattle.mk_core.specs.Moments.{Moment}
 
 abbrev pub is_number : Kind → Bool
 is_number Num = true

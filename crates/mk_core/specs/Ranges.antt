@@ -9,11 +9,11 @@ use Rattle.mk_core.specs.declared.events.Word.TheVariants as word
 use Rattle.mk_core.specs.declared.events.Step.{Step}
 use Rattle.mk_core.specs.declared.events.Step.TheVariants as step
 use Rattle.mk_core.specs.declared.seats.Flight.{Flight}
-use Rattle.mk_core.specs.Words.{Words, phase_of}
+use Rattle.mk_core.specs.Words.{Words}
 use Rattle.mk_core.specs.Calls.{has_operands, word_met}
 use Rattle.mk_core.specs.Cells.{header_in, heads_run, is_unmapped_header}
 use Rattle.mk_core.specs.NewPlaces.{target}
-use Rattle.mk_core.specs.Moments.{Moment, flight_of, is_number_of, is_held, others_are_held, none_is_held, is_phase}
+use Rattle.mk_core.specs.Moments.{is_number_of, is_held, others_are_held, none_is_held, is_phase}
 
 abbrev pub is_word : Config → Word → Bool
 is_word c (word.Gate j) = nat_lt j c.callers

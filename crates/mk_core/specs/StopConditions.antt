@@ -1,5 +1,5 @@
 -- Condition 7 for the kinds of the turn's holder that mark, begin, close and end a cycle.
-use Rattle.std.specs.Prelude.{ℕ, ◌+◌, ◌-◌, ◌*◌, ◌^◌, Bool, true, false, ◌&&◌, ◌||◌, not, nat_lt, ◌==◌, List, Option, Some, None, if◌then◌else◌, slice_index, bit_and}
+use Rattle.std.specs.Prelude.{ℕ, ◌^◌, Bool, true, false, ◌&&◌, ◌||◌, not, nat_lt, ◌==◌, List, Option, Some, None, slice_index, bit_and}
 use Rattle.std.specs.List.{list_all}
 use Rattle.mk_geom.specs.declared.addresses.Cell.{Cell}
 use Rattle.mk_geom.specs.declared.pages.Place.{Place}
@@ -8,11 +8,11 @@ use Rattle.mk_core.specs.declared.seats.Flight.{Flight}
 use Rattle.mk_core.specs.declared.seats.Hand.{Hand}
 use Rattle.mk_core.specs.declared.seats.Marker.{Marker}
 use Rattle.mk_core.specs.declared.seats.Presence.{Presence}
-use Rattle.mk_core.specs.declared.seats.Presence.TheVariants.{Out, Visiting, Attending}
+use Rattle.mk_core.specs.declared.seats.Presence.TheVariants.{Attending}
 use Rattle.mk_core.specs.Words.{Words, header_at, used_at}
-use Rattle.mk_core.specs.Tests.{all_below, has_bit, without}
+use Rattle.mk_core.specs.Tests.{all_below, without}
 use Rattle.mk_core.specs.Cells.{header_in, head_page, cells_under, cell_bits, has_no_pointers, pointed_cell, is_marked, points_well, words_point_well, none_is_released}
-use Rattle.mk_core.specs.NewPlaces.{object_made, is_small_object, bits_made, is_undecided_new}
+use Rattle.mk_core.specs.NewPlaces.{object_made, is_small_object, bits_made}
 use Rattle.mk_core.specs.TurnConditions.{place_now}
 use Rattle.mk_core.specs.Moments.{Moment, is_phase}
 
@@ -75,7 +75,7 @@ abbrev pub may_undirty : Moment → ℕ → Bool
 may_undirty m page =
     not (is_phase m.words 2)
     || (none_attends m.seats.markers && (slice_index m.words.blacks page == 0)
-        && (slice_index m.words.blacks (head_page m.words page) == 0))
+    && (slice_index m.words.blacks (head_page m.words page) == 0))
 
 abbrev pub may_unblack : Moment → Bool
 may_unblack m = not (is_phase m.words 2) || none_attends m.seats.markers

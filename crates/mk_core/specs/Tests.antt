@@ -1,5 +1,5 @@
 -- Tests over many numbers and over the bits of words.
-use Rattle.std.specs.Prelude.{ℕ, zero, suc, ◌-◌, ◌%◌, ◌^◌, Bool, true, false, ◌&&◌, ◌==◌, bit_and}
+use Rattle.std.specs.Prelude.{ℕ, zero, suc, ◌-◌, ◌%◌, ◌^◌, Bool, true, ◌&&◌, ◌==◌, bit_and}
 use Rattle.std.specs.Int.{bit_at}
 
 -- the test holds of each number below n

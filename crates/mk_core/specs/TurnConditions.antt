@@ -1,5 +1,5 @@
 -- Condition 7 for the kinds of the turn's holder that change objects: each kind's own condition.
-use Rattle.std.specs.Prelude.{ℕ, ◌+◌, ◌-◌, ◌*◌, ◌/◌, ◌%◌, ◌^◌, Bool, true, false, ◌&&◌, ◌||◌, not, nat_lt, nat_le, ◌==◌, List, Option, Some, None, if◌then◌else◌, slice_index, sum_by, count_by, map, bit_and, is_none}
+use Rattle.std.specs.Prelude.{ℕ, ◌+◌, ◌-◌, ◌*◌, ◌/◌, ◌%◌, ◌^◌, Bool, true, false, ◌&&◌, ◌||◌, not, ◌==◌, Option, Some, None, if◌then◌else◌, slice_index, sum_by, count_by, bit_and, is_none}
 use Rattle.mk_core.specs.declared.seats.Object.{Object}
 use Rattle.mk_geom.specs.declared.addresses.Cell.{Cell}
 use Rattle.mk_geom.specs.declared.pages.Place.{Place}
@@ -7,22 +7,20 @@ use Rattle.mk_geom.specs.Classes.{class_words_of}
 use Rattle.mk_geom.specs.PageUses.{PageUse, Nothing, Cells, PartOfRun}
 use Rattle.mk_geom.specs.PageWords.{uses_of_pages}
 use Rattle.mk_core.specs.declared.config.Config.{Config}
-use Rattle.mk_core.specs.declared.events.Seat.{Seat}
 use Rattle.mk_core.specs.declared.seats.Flight.{Flight}
 use Rattle.mk_core.specs.declared.seats.Stage.{Stage}
 use Rattle.mk_core.specs.declared.seats.Stage.TheVariants as stage
 use Rattle.mk_core.specs.declared.seats.Placing.{Placing}
-use Rattle.mk_core.specs.declared.seats.Placing.TheVariants.{Unplaced, Chosen, Used, Granted}
+use Rattle.mk_core.specs.declared.seats.Placing.TheVariants.{Unplaced, Used}
 use Rattle.mk_core.specs.declared.seats.OwnCycle.{OwnCycle}
-use Rattle.mk_core.specs.declared.seats.OwnCycle.TheVariants.{NotBegun, Begun, Ended}
-use Rattle.mk_core.specs.declared.seats.Holding.{Holding}
+use Rattle.mk_core.specs.declared.seats.OwnCycle.TheVariants.{Ended}
 use Rattle.mk_core.specs.declared.seats.RunPages.{RunPages}
 use Rattle.mk_core.specs.Image.{address_of}
-use Rattle.mk_core.specs.Words.{Words, header_at, used_at, quarantine_word}
+use Rattle.mk_core.specs.Words.{Words, used_at, quarantine_word}
 use Rattle.mk_core.specs.Tests.{all_below, has_bit, without}
-use Rattle.mk_core.specs.Cells.{header_in, head_page, pointed_cell, is_freed, are_released, is_released_cell, words_are_zero, first_word, cell_words, is_in_run}
-use Rattle.mk_core.specs.NewPlaces.{object_made, first_fit, place_in, is_small_object, pages_made, header_made, bits_made, is_next_header, place_stands, unmapped_header, is_run_unmapped, is_run_gone, is_undecided_new, target}
-use Rattle.mk_core.specs.Moments.{Moment, Seats, is_phase}
+use Rattle.mk_core.specs.Cells.{head_page, pointed_cell, is_freed, are_released, is_released_cell, words_are_zero, first_word, cell_words, is_in_run}
+use Rattle.mk_core.specs.NewPlaces.{object_made, first_fit, place_in, pages_made, header_made, bits_made, is_next_header, place_stands, unmapped_header, is_run_unmapped, is_run_gone, is_undecided_new, target}
+use Rattle.mk_core.specs.Moments.{Moment, is_phase}
 
 -- the place of an undecided New
 abbrev pub place_now : Config → Moment → Flight → Option Place

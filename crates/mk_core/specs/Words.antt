@@ -1,5 +1,5 @@
 -- The words of the shared table: their contents, by region, and what each name names.
-use Rattle.std.specs.Prelude.{ℕ, zero, suc, ◌+◌, ◌-◌, ◌*◌, ◌/◌, ◌%◌, ◌^◌, Bool, ◌==◌, List, replicate, slice_index, slice_index_or, slice_set, if◌then◌else◌, bit_or}
+use Rattle.std.specs.Prelude.{ℕ, ◌+◌, ◌-◌, ◌*◌, ◌/◌, ◌%◌, ◌^◌, ◌==◌, List, replicate, slice_index, slice_index_or, slice_set, if◌then◌else◌, bit_or}
 use Rattle.mk_geom.specs.declared.pages.Page.{Page}
 use Rattle.mk_geom.specs.Storages.{free_page}
 use Rattle.mk_core.specs.declared.events.Word.{Word}

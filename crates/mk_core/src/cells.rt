@@ -7,8 +7,8 @@ ghost use Rattle.mk_core.specs.Tests.{all_below, has_bit, without};
 ghost use Rattle.mk_core.specs.Cells.{cells_under, words_under, run_headed, heads_run, is_leaf_header, is_unmapped_header, has_no_pointers, head_page, head_behind, cell_bits, first_word, cell_words, pointed_cell, is_used, is_freed, is_marked, is_marked_cell, points_well, word_points_well, words_point_well, words_are_zero, is_released, is_released_cell, are_released, none_is_released, is_in_run};
 
 use crate::geometry::{HEAP_START, PAGE_WORDS, WORD_BYTES, page_at};
-use crate::{Core, RunPages};
 use crate::table::Table;
+use crate::{Core, RunPages};
 use mk_geom::{Cell, Header, cells, class_words, decode, lookup};
 
 /// The bit of a word that stands for a cell; none for a cell that no word has a bit for.

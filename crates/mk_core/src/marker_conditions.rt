@@ -63,9 +63,7 @@ fn may_mlook(marker: Marker, word: Word) -> bool
 fn may_claim(marker: Marker, page: u64, cell: u64) -> bool
     ensures { result ≡ may_claim marker page cell }
 {
-    is_attending(marker.presence)
-        && marker.scan.is_none()
-        && has_seen_cell(marker.seen, page, cell)
+    is_attending(marker.presence) && marker.scan.is_none() && has_seen_cell(marker.seen, page, cell)
 }
 
 impl Core {

@@ -227,7 +227,10 @@ impl Table {
         ensures { result ≡ words_are_zero self.now (64 * run.page) (64 * run.count) }
     {
         for page in 0..run.count {
-            if !self.words_are_zero(PAGE_WORDS as u128 * (run.page as u128 + page as u128), PAGE_WORDS) {
+            if !self.words_are_zero(
+                PAGE_WORDS as u128 * (run.page as u128 + page as u128),
+                PAGE_WORDS,
+            ) {
                 return false;
             }
         }

@@ -23,9 +23,7 @@ pub(crate) fn is_attending(presence: Presence) -> bool
 fn none_attends(markers: &[Marker]) -> bool
     ensures { result ≡ none_attends markers.now }
 {
-    markers
-        .iter()
-        .all(|marker| !is_attending(marker.presence))
+    markers.iter().all(|marker| !is_attending(marker.presence))
 }
 
 /// Whether the value is the one bit of the cell, at its page.

@@ -280,11 +280,23 @@ impl Table {
             Word::Global(global) => set_number(&mut self.globals, global as u128, value),
             Word::Head(page) => {
                 let used = self.page(page as u128).used;
-                self.set_page(page, Page { header: value, used });
+                self.set_page(
+                    page,
+                    Page {
+                        header: value,
+                        used,
+                    },
+                );
             }
             Word::Used(page) => {
                 let header = self.page(page as u128).header;
-                self.set_page(page, Page { header, used: value });
+                self.set_page(
+                    page,
+                    Page {
+                        header,
+                        used: value,
+                    },
+                );
             }
             Word::Quar(page) => self.set_quarantine(page, value),
             Word::Mark(page) => set_number(&mut self.marks, page as u128, value),
