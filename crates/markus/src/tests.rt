@@ -3,10 +3,10 @@
 
 use crate::statuses::Status;
 use crate::top::markus;
-use mk_check::TypeKind;
+use mk_check::{TypeKind, check};
 use mk_io::{MemSink, MemSource};
 use mk_never::{Kind, NeverHeap, Op, Reply, TypeTable};
-use mk_script::{TextKind, Which};
+use mk_script::{TextKind, Which, parse};
 use std::alloc::{AllocError, Global};
 use std::test::Fail;
 
@@ -17,6 +17,9 @@ const FIRST_RUN: &[u8] = b"heap 1 1\ntype A n*32\nscript s\nptr p A\nnum n\nnew 
 const BLOCKS: &[u8] =
     b"heap 1 1\ntype A n\nscript s\nptr p A\nnum n\nconst n 3\nnew p A\nrepeat 2\n\
     setn p 0 n\nconst n 0\ngetn n p 0\nif n\nprint n\nelse\nnew p A\nend\nend\n";
+
+/// A script of as many instructions as one may execute.
+const LONGEST: &[u8] = b"heap 1 1\nscript s\nnum n\nprint n\nrepeat 499999\nprint n\nend\n";
 
 const SPACED: &[u8] = b" heap 1  1\ntype A n n n p:A+0\nscript s\nptr p A+0";
 
@@ -77,6 +80,7 @@ fn ends_as_the_cases_do(rt: HostRuntime) -> Result<(), Fail> {
         ample(run_word, full, Status::Ok, b"script s\n7: full\n"),
         ample(run_word, BLOCKS, Status::Ok, b"script s\n3\n3\n"),
         ample(&["check"], BLOCKS, Status::Ok, b"ok\n"),
+        ample(&["check"], LONGEST, Status::Ok, b"ok\n"),
         ample(&["print"], SPACED, Status::Ok, CANONICAL),
         ample(run_word, SPACED, Status::NotBuilt, b""),
         ample(&[], b"", Status::Usage, b""),
@@ -179,5 +183,21 @@ fn never_reuses_in_memory(rt: HostRuntime) -> Result<(), Fail> {
     assert_eq!(rt; heap.apply(0, free).expect(&rt, "memory"), Reply::Done);
     assert_eq!(rt; heap.apply(0, load).expect(&rt, "memory"), Reply::Num(7));
     assert_eq!(rt; heap.apply(0, free).expect(&rt, "memory"), Reply::Double);
+    Ok(())
+}
+
+#[test]
+fn configures_a_heap_in_memory(rt: HostRuntime) -> Result<(), Fail> {
+    let text =
+        b"heap 3 2\ntype A n*2 p:B+1\ntype B n n\nglobal g B\nglobal h A\nscript s\nscript t\n";
+    let program = parse(rt.alloc(), text.as_slice()).expect(&rt, "a program");
+    let checked = check(rt.alloc(), program).expect(&rt, "well typed");
+    let config = checked.config(rt.alloc(), 0).expect(&rt, "memory");
+    let kinds = [Kind::Num, Kind::Num, Kind::To { ty: 1, offset: 1 }];
+    assert_eq!(rt; (config.pages, config.resident), (3, 2));
+    assert_eq!(rt; (config.callers, config.markers), (2, 0));
+    assert_eq!(rt; config.types.count(), 2);
+    assert_eq!(rt; config.types.kinds(0), kinds.as_slice());
+    assert_eq!(rt; config.globals.types(), [1, 0].as_slice());
     Ok(())
 }

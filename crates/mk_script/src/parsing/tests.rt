@@ -140,14 +140,22 @@ fn judges_blocks(rt: HostRuntime) -> Result<(), Fail> {
 fn keeps_limits(rt: HostRuntime) -> Result<(), Fail> {
     let header = "heap 1 1\n";
     let script = "heap 1 1\nscript s\n";
-    for (front, word, end, greatest, which) in [
-        (header, "type", " n", 64, Which::Types),
-        (header, "global", " A", 64, Which::Globals),
-        (header, "script", "", 16, Which::Scripts),
-        (script, "ptr", " A", 8, Which::Pointers),
-        (script, "num", "", 8, Which::Numbers),
-        (script, "if", "", 32, Which::Depth),
+    let ends = "end\n".repeat(rt.alloc(), 32)?;
+    for (front, word, end, greatest, back, which) in [
+        (header, "type", " n", 64, "script s\n", Which::Types),
+        (header, "global", " A", 64, "script s\n", Which::Globals),
+        (header, "script", "", 16, "", Which::Scripts),
+        (script, "ptr", " A", 8, "", Which::Pointers),
+        (script, "num", "", 8, "", Which::Numbers),
+        (script, "if", "", 32, ends.as_str(), Which::Depth),
     ] {
+        let mut lines = declaring(rt.alloc(), front, word, greatest, end)?;
+        lines.push_str(back)?;
+        assert_eq!(rt;
+            outcome(rt.alloc(), lines.as_bytes()),
+            Ok(lines.lines().count()),
+            "{word}"
+        );
         let lines = declaring(rt.alloc(), front, word, greatest + 1, end)?;
         let line = front.lines().count() + greatest + 1;
         let found = greatest as u64 + 1;
