@@ -9,9 +9,11 @@ mod lengths;
 mod lookups;
 mod numbers;
 mod places;
+mod text;
 mod typing;
 mod typing_faults;
 
 pub use checked::{Checked, check};
 pub use feeding::Feed;
+pub use text::Text;
 pub use typing_faults::{TypeKind, TypeStop};

@@ -21,6 +21,8 @@ mod splitting;
 pub use faults::{TextKind, TextStop, Which};
 pub use items::{At, Item, TypeWord, TypeWords};
 pub use names::Name;
+pub use numbers::number;
 pub use parsing::parse;
 pub use printing::print;
 pub use program::Program;
+pub use splitting::{lines, words};

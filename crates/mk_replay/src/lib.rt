@@ -1,0 +1,8 @@
+//! Schedules: one given history of a heap, run event by event on the core.
+#![tactic(auto)]
+
+mod replaying;
+mod schedule;
+
+pub use replaying::ReplayStop;
+pub use schedule::{Entry, Form, Schedule};
