@@ -187,6 +187,7 @@ impl Core {
         ensures answer { (events : List Event) → StandsFor self.old events → IfOk result (λ a. calls self.old.config (events ++ event ∷ []) ≡ calls self.old.config events ++ entry_of (caller_number event.seat) (flight_of (left self.old.config events).now event.seat).op a) }
         ensures stands { (events : List Event) → StandsFor self.old events → OnOk result (StandsFor self.new (events ++ event ∷ [])) }
         ensures not_enabled { IfErr result (λ r. (failing self.old.config self.old.now event ≡ r.condition) × (1 ≤ r.condition)) }
+        ensures config { self.new.config ≡ self.old.config }
         ensures unchanged { OnErr result (self.new ≡ self.old) }
     {
         self.advance(event)
