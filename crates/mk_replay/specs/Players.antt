@@ -1,13 +1,11 @@
 -- What a run keeps for each script, and what it stands for.
-use Rattle.std.specs.Prelude.{◌≡◌, ◌<◌, ◌≤◌, ℕ, nat_lt, Bool, true, false, List, [], ◌∷◌, ◌++◌, length, count_by, slice_index_or, Option, None, if◌then◌else◌}
+use Rattle.std.specs.Prelude.{◌≡◌, ◌<◌, ◌≤◌, ℕ, Bool, true, false, List, [], ◌∷◌, ◌++◌, length, count_by, slice_index_or, drop, Option, None, if◌then◌else◌}
 use Rattle.mk_script.specs.declared.items.Item.{Item}
 use Rattle.mk_script.specs.Scopes.{script_names}
 use Rattle.mk_check.specs.Feed.{feed}
 use Rattle.mk_check.specs.Feeding.{FeedState, StandsFor as FeedStandsFor}
 use Rattle.mk_core.specs.declared.config.Config.{Config}
 use Rattle.mk_core.specs.declared.events.Event.{Event}
-use Rattle.mk_core.specs.declared.events.Seat.{Seat}
-use Rattle.mk_core.specs.declared.events.Seat.TheVariants as seat
 use Rattle.mk_core.specs.declared.events.Answer.{Answer}
 use Rattle.mk_core.specs.Effects.{answer_decided}
 use Rattle.mk_core.specs.History.{World, first_world, world_behind}
@@ -17,7 +15,7 @@ use Rattle.mk_replay.specs.declared.replaying.Run.{Run}
 use Rattle.mk_replay.specs.declared.replaying.ReplayStop.{ReplayStop}
 use Rattle.mk_replay.specs.declared.replaying.ReplayStop.TheVariants.{NotEnabled}
 use Rattle.mk_replay.specs.declared.schedule.Entry.{Entry}
-use Rattle.mk_replay.specs.Replays.{config_of, is_of_caller, is_last, newer, as_list, is_refusal, answers_given, event_of, failing_entry}
+use Rattle.mk_replay.specs.Replays.{config_of, is_of_caller, is_last, newer, as_list, is_refusal, answers_given, event_of, failing_entry, refusal_from, refusal_of, history_from, history_of}
 
 -- The answers of a caller's calls that ended, and the one that was decided in the call in flight.
 pub record Served : Type 0 where
@@ -53,6 +51,11 @@ pub record IsFed (program : List Item) (k : ℕ) (s : FeedState) (answers : List
   pub taken : List Answer
   pub stands : FeedStandsFor program k s taken
   pub same : feed program k taken ≡ feed program k answers
+
+-- Whatever answers the first had, the second has those and the one behind them.
+abbrev pub FeedsOn : Answer → FeedState → FeedState → Type 0
+FeedsOn a old new = (program : List Item) (k : ℕ) (answers : List Answer)
+    → IsFed program k old answers → IsFed program k new (answers ++ a ∷ [])
 
 -- the player of script k
 pub record IsPlayerOf (program : List Item) (k : ℕ) (x : Served) (p : Player) : Type 0 where
@@ -95,10 +98,6 @@ pub record IsRunOf (program : List Item) (es : List Event) (run : Run) : Type 0 
   pub count : length run.players.items ≡ length (script_names program)
   pub players : ArePlayersOf program es run.players.items
 
-abbrev pub is_player : ℕ → Seat → Bool
-is_player count (seat.Caller k) = nat_lt k count
-is_player count _ = true
-
 -- The entry's event is enabled, and the run goes on behind it.
 pub record TakesEntry (program : List Item) (es : List Event) (x : Entry) (new : Run) : Type 0 where
   pub enabled : failing_entry program es x ≡ 0
@@ -107,4 +106,12 @@ pub record TakesEntry (program : List Item) (es : List Event) (x : Entry) (new :
 -- The entry's event isn't enabled, and the refusal says so.
 pub record IsNotEnabled (program : List Item) (es : List Event) (x : Entry) (stop : ReplayStop) : Type 0 where
   pub condition : 1 ≤ failing_entry program es x
-  pub stop : stop ≡ NotEnabled x.line x.place (failing_entry program es x)
+  pub says : stop ≡ NotEnabled x.line x.place (failing_entry program es x)
+
+-- the run behind the first entries of a schedule
+pub record IsUnderWay (program : List Item) (schedule : List Entry) (count : ℕ) (run : Run) : Type 0 where
+  pub events : List Event
+  pub is_run : IsRunOf program events run
+  pub so_many : length events ≡ count
+  pub refusal : refusal_from program events (drop count schedule) ≡ refusal_of program schedule
+  pub history : history_from program events (drop count schedule) ≡ history_of program schedule

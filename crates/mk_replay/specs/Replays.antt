@@ -158,8 +158,12 @@ pub record IsTextOf (program : List Item) (es : List Event) (k : ℕ) (bytes : L
   pub all : ops ≡ length (answers_given (config_of program) es k)
   pub refusals : refused ≡ count_by is_refusal (answers_given (config_of program) es k)
 
+-- the texts of the first scripts, in order
+abbrev pub AreFirstTexts : List Item → List Event → List Text → Type 0
+AreFirstTexts program es texts = (k : ℕ) (d : Text) → k < length texts
+    → IsTextOf program es k (slice_index_or texts k d).bytes.items (slice_index_or texts k d).ops (slice_index_or texts k d).refused
+
 -- A text for each script, in order.
 pub record AreTextsOf (program : List Item) (es : List Event) (texts : List Text) : Type 0 where
   pub count : length texts ≡ length (script_names program)
-  pub each : (k : ℕ) (d : Text) → k < length texts
-      → IsTextOf program es k (slice_index_or texts k d).bytes.items (slice_index_or texts k d).ops (slice_index_or texts k d).refused
+  pub each : AreFirstTexts program es texts

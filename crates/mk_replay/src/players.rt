@@ -1,9 +1,9 @@
 //! A script that takes part in a run.
-ghost use Rattle.std.specs.Prelude.{◌≡◌, ◌<◌, ℕ, [], length, IfOk, OnOk, None};
+ghost use Rattle.std.specs.Prelude.{◌≡◌, ◌<◌, ◌+◌, ℕ, [], ◌∷◌, length, count_by, IfOk, OnOk, None};
 ghost use Rattle.mk_script.specs.Grammar.{IsOfSomeText};
 ghost use Rattle.mk_script.specs.Scopes.{script_names};
 ghost use Rattle.mk_replay.specs.Replays.{is_refusal, newer, config_of, IsTextOf};
-ghost use Rattle.mk_replay.specs.Players.{Served, served, IsPlayerOf, TakesAnswer, TakesStep, HasRoom};
+ghost use Rattle.mk_replay.specs.Players.{Served, served, IsPlayerOf, TakesAnswer, TakesStep, FeedsOn, HasRoom};
 
 use mk_check::{Feed, Text};
 use mk_core::Answer;
@@ -36,6 +36,16 @@ fn newer(decided: Option<Answer>, kept: Option<Answer>) -> Option<Answer>
     decided.or(kept)
 }
 
+/// Answers a script's operation; one that has ended takes none.
+fn feed_on(feed: &mut Feed, alloc: Global, answer: Answer) -> Result<(), NoMemory>
+    ensures { OnOk result (FeedsOn answer feed.old feed.new) }
+{
+    if feed.op().is_none() {
+        return Ok(());
+    }
+    feed.answer(alloc, answer)
+}
+
 impl Player {
     ghost use Rattle.std.specs.Prelude.{List};
     ghost use Rattle.mk_core.specs.declared.events.Event.{Event};
@@ -55,18 +65,24 @@ impl Player {
         })
     }
 
-    /// The answer of a call that ended; a script that has ended takes none.
-    fn answer(&mut self, alloc: Global, answer: Answer) -> Result<(), NoMemory>
+    /// Counts an answer.
+    fn count(&mut self, answer: Answer)
         requires { HasRoom self.old }
-        ensures { OnOk result (TakesAnswer answer self.old self.new) }
+        ensures { self.new ≡ record self.old { ops = self.old.ops + 1; refused = count_by is_refusal (answer ∷ []) + self.old.refused } }
     {
-        if self.feed.op().is_some() {
-            self.feed.answer(alloc, answer)?;
-        }
         self.ops += 1;
         if is_refusal(answer) {
             self.refused += 1;
         }
+    }
+
+    /// The answer of a call that ended.
+    fn answer(&mut self, alloc: Global, answer: Answer) -> Result<(), NoMemory>
+        requires { HasRoom self.old }
+        ensures { OnOk result (TakesAnswer answer self.old self.new) }
+    {
+        feed_on(&mut self.feed, alloc, answer)?;
+        self.count(answer);
         Ok(())
     }
 

@@ -4,8 +4,8 @@ ghost use Rattle.mk_script.specs.Scopes.{script_names};
 ghost use Rattle.mk_replay.specs.declared.replaying.ReplayStop.TheVariants as ReplayStop;
 ghost use Rattle.mk_core.specs.Order.{seat_exists};
 ghost use Rattle.mk_core.specs.History.{AreEnabled};
-ghost use Rattle.mk_replay.specs.Replays.{config_of, event_of, failing_entry, history_of, refusal_of, AreTextsOf};
-ghost use Rattle.mk_replay.specs.Players.{EachHasRoom, TakeEvent, IsRunOf, is_player, ArePlayersOf, TakesEntry, IsNotEnabled};
+ghost use Rattle.mk_replay.specs.Replays.{config_of, event_of, failing_entry, op_for, history_of, refusal_of, AreTextsOf};
+ghost use Rattle.mk_replay.specs.Players.{EachHasRoom, TakeEvent, IsRunOf, ArePlayersOf, TakesEntry, IsNotEnabled};
 
 use crate::players::Player;
 use crate::steps::{is_last, step_of};
@@ -73,7 +73,10 @@ impl Run {
     }
 
     /// The next operation of a caller's script.
-    fn op(&self, seat: Seat) -> Option<Op> {
+    fn op(&self, seat: Seat) -> Option<Op>
+        ensures { (program : List Item) (es : List Event) → IsRunOf program es self.now
+            → IsTrue (seat_exists (config_of program) seat) → result ≡ op_for program es seat }
+    {
         let Seat::Caller(caller) = seat else {
             return None;
         };
@@ -100,8 +103,7 @@ impl Run {
         event: Event,
         decided: Option<Answer>,
     ) -> Result<(), NoMemory>
-        requires room { EachHasRoom self.old.players.items }
-        requires exists { IsTrue (is_player (length self.old.players.items) event.seat) }
+        requires { EachHasRoom self.old.players.items }
         ensures core { self.new.core ≡ self.old.core }
         ensures count { length self.new.players.items ≡ length self.old.players.items }
         ensures players { OnOk result (TakeEvent event decided self.old.players.items self.new.players.items) }

@@ -1,0 +1,2 @@
+pub mod ServedMore
+pub mod RunLaws
