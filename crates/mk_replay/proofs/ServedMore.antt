@@ -5,7 +5,6 @@ use Rattle.std.proofs.lemmas.List.{length-append}
 use Rattle.mk_core.specs.declared.config.Config.{Config}
 use Rattle.mk_core.specs.declared.events.Event.{Event}
 use Rattle.mk_core.specs.declared.events.Answer.{Answer}
-use Rattle.mk_core.specs.Moments.{Moment}
 use Rattle.mk_core.specs.Effects.{answer_decided}
 use Rattle.mk_core.specs.History.{World, first_world, world_behind, left_from, left}
 use Rattle.mk_replay.specs.Replays.{is_of_caller, is_last, newer, as_list, answers_from, answers_given}

@@ -1,6 +1,6 @@
 -- A run behind the first entries of a schedule.
-use Rattle.std.proofs.Common.{◌≡◌, ℕ, ◌+◌, ◌<◌, ◌≤◌, Bool, true, false, List, [], ◌∷◌, ◌++◌, length, drop, get_or, refl, sym, ◌∙◌, ap, subst, arith, add-one, drop-cons}
-use Rattle.std.specs.Prelude.{Option, Some, None, ◌==◌, if◌then◌else◌}
+use Rattle.std.proofs.Common.{◌≡◌, ℕ, ◌+◌, ◌<◌, ◌≤◌, false, List, [], ◌∷◌, ◌++◌, length, drop, get_or, refl, sym, ◌∙◌, ap, subst, arith, add-one, drop-cons}
+use Rattle.std.specs.Prelude.{Some, None, ◌==◌}
 use Rattle.std.proofs.lemmas.Bool.Decides.{nat_tests}
 use Rattle.std.proofs.lemmas.List.{length-append}
 use Rattle.std.proofs.Math.ListN.{drop_of_length-le}
@@ -9,13 +9,12 @@ use Rattle.mk_script.specs.declared.items.Item.{Item}
 use Rattle.mk_core.specs.declared.config.Config.{Config}
 use Rattle.mk_core.specs.declared.events.Event.{Event}
 use Rattle.mk_core.specs.History.{AreEnabled}
-use Rattle.mk_replay.specs.declared.players.Player.{Player}
 use Rattle.mk_replay.specs.declared.replaying.Run.{Run}
 use Rattle.mk_replay.specs.declared.replaying.ReplayStop.{ReplayStop}
 use Rattle.mk_replay.specs.declared.replaying.ReplayStop.TheVariants.{NotEnabled}
 use Rattle.mk_replay.specs.declared.schedule.Entry.{Entry}
 use Rattle.mk_replay.specs.Replays.{config_of, event_of, failing_entry, is_refusal, answers_given, history_from, history_of, refusal_from, refusal_of}
-use Rattle.mk_replay.specs.Players.{IsPlayerOf, EachHasRoom, IsRunOf, TakesEntry, IsNotEnabled, IsUnderWay}
+use Rattle.mk_replay.specs.Players.{EachHasRoom, IsRunOf, TakesEntry, IsNotEnabled, IsUnderWay}
 use Rattle.mk_replay.proofs.ServedMore.{few_answers}
 
 -- There are fewer answers than the counts can hold.

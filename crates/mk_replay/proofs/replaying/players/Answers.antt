@@ -1,4 +1,4 @@
-use Rattle.std.proofs.Common.{◌≡◌, List, [], length, ℕ, sym, ◌∙◌, subst, rules}
+use Rattle.std.proofs.Common.{List, [], ℕ, sym, ◌∙◌, subst, rules}
 use Rattle.std.specs.Prelude.{None}
 use Rattle.mk_script.specs.declared.items.Item.{Item}
 use Rattle.mk_replay.specs.declared.players.Player.{Player}

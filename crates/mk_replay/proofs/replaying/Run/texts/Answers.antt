@@ -1,4 +1,4 @@
-use Rattle.std.proofs.Common.{◌≡◌, List, [], ◌∷◌, ◌++◌, ◌<◌, length, get_or, ℕ, sym, ◌∙◌, ap, subst, rules, arith}
+use Rattle.std.proofs.Common.{◌≡◌, List, ◌<◌, length, get_or, ℕ, sym, subst, rules}
 use Rattle.mk_check.specs.declared.text.Text.{Text}
 use Rattle.mk_replay.specs.declared.players.Player.{Player}
 use Rattle.mk_replay.specs.Replays.{config_of, IsTextOf, AreFirstTexts}
