@@ -1,0 +1,3 @@
+pub mod ServedMore
+pub mod RunLaws
+pub mod UnderWay

@@ -1,0 +1,167 @@
+-- What a run's steps say of the histories that it stands for.
+use Rattle.std.proofs.Common.{◌≡◌, ◌≢◌, ℕ, eq-eqb, ◌<◌, true, false, List, [], ◌∷◌, ◌++◌, length, slice_set, slice_index_or, get_or, set, refl, sym, ◌∙◌, ap, subst, arith, inl, inr, IsTrue}
+use Rattle.std.specs.Prelude.{Option, Some, None, ◌==◌}
+use Rattle.std.proofs.lemmas.Bool.{cases_eq}
+use Rattle.std.proofs.lemmas.Bool.Decides.{nat_tests}
+use Rattle.std.proofs.lemmas.List.{append_cancel_left, length-append, get_or_default, get_or_push, get_or_append_left, get_or-set_same, get_or-set_other}
+use Rattle.mk_never.specs.declared.operations.Op.{Op}
+use Rattle.mk_script.specs.declared.items.Item.{Item}
+use Rattle.mk_check.specs.Feed.{Fed, feed, has_ended, take_answer}
+use Rattle.mk_check.specs.Feeding.{FeedState, script_scope, StandsFor as FeedStandsFor, TakesAnswer as FeedTakesAnswer}
+use Rattle.mk_check.proofs.FeedLaws.{feed_push, feed_push-ended}
+use Rattle.mk_core.specs.declared.config.Config.{Config}
+use Rattle.mk_core.specs.declared.events.Answer.{Answer}
+use Rattle.mk_core.specs.declared.events.Event.{Event}
+use Rattle.mk_core.specs.declared.events.Seat.{Seat}
+use Rattle.mk_core.specs.declared.events.Seat.TheVariants as seat
+use Rattle.mk_core.specs.Moments.{flight_of}
+use Rattle.mk_core.specs.Effects.{answer_decided}
+use Rattle.mk_core.specs.History.{first_world, left, AreEnabled, Decided, entry_of, calls}
+use Rattle.mk_core.proofs.Histories.{calls_more, last_enabled}
+use Rattle.mk_check.specs.declared.text.Text.{Text}
+use Rattle.mk_core.specs.Order.{seat_exists}
+use Rattle.mk_core.specs.Accesses.{caller_number}
+use Rattle.mk_core.specs.Enabled.{failing, IsEnabled}
+use Rattle.mk_core.specs.Standing.{CoreState, StandsFor as CoreStandsFor}
+use Rattle.mk_core.proofs.Conditions.{enabled_meets}
+use Rattle.mk_replay.specs.declared.players.Player.{Player}
+use Rattle.mk_replay.specs.declared.replaying.Run.{Run}
+use Rattle.mk_replay.specs.declared.schedule.Entry.{Entry}
+use Rattle.mk_replay.specs.Replays.{config_of, event_of, is_of_caller, is_last, newer, IsTextOf, AreFirstTexts}
+use Rattle.mk_replay.specs.Players.{Served, served_by, served, IsFed, IsPlayerOf, ArePlayersOf, TakesAnswer, TakesStep, TakeEvent, IsRunOf, TakesEntry}
+use Rattle.mk_replay.proofs.ServedMore.{served_more, served_first}
+
+-- A feed that waits takes the answer.
+pub fed_more : (program : List Item) (k : ℕ) (old new : FeedState) (answers : List Answer) (a : Answer)
+    → FeedTakesAnswer old a new → IsFed program k old answers → IsFed program k new (answers ++ a ∷ [])
+fed_more program k old new answers a takes h = record {
+  taken = h.taken ++ a ∷ [];
+  stands = takes program k h.taken h.stands;
+  same = feed_push program k h.taken a
+      ∙ (ap (λ (f : Fed). take_answer (script_scope program k) f f.left a) h.same ∙ sym (feed_push program k answers a));
+}
+
+-- One that has ended stays as it is.
+pub fed_ended : (program : List Item) (k : ℕ) (s : FeedState) (answers : List Answer) (a : Answer)
+    → ((taken : List Answer) → FeedStandsFor program k s taken → has_ended (feed program k taken) ≡ true)
+    → IsFed program k s answers → IsFed program k s (answers ++ a ∷ [])
+fed_ended program k s answers a ended h = record {
+  taken = h.taken;
+  stands = h.stands;
+  same = h.same ∙ sym (feed_push-ended program k answers a (ap (λ (f : Fed). has_ended f) (sym h.same) ∙ ended h.taken h.stands));
+}
+
+first_answer : List Decided → Option Answer
+first_answer [] = None
+first_answer (x ∷ xs) = Some x.answer
+
+answer_of_entry : (caller : ℕ) (o : Op) (a : Option Answer) → first_answer (entry_of caller o a) ≡ a
+unfolding first_answer
+answer_of_entry caller o (Some a) = refl
+answer_of_entry caller o None = refl
+
+-- The answer that makes this history's calls is the one that the event decides.
+pub answer_is : (c : Config) (es : List Event) (e : Event) (caller : ℕ) (o : Op) (a : Option Answer)
+    → calls c (es ++ e ∷ []) ≡ calls c es ++ entry_of caller o a → a ≡ answer_decided c (left c es).now e
+answer_is c es e caller o a h =
+    let same = append_cancel_left (calls c es) _ _ (sym h ∙ calls_more c (first_world c) es e) in
+    sym (answer_of_entry caller o a) ∙ (ap first_answer same ∙ answer_of_entry _ _ (answer_decided c (left c es).now e))
+
+is_same : (j : ℕ) → (j == j) ≡ true
+is_same j = eq-eqb j j refl
+
+is_other : (j k : ℕ) → j ≢ k → (j == k) ≡ false
+is_other j k ne = grind (arith, nat_tests)
+
+mine : (players : List Player) (j : ℕ) (old new : Player) (e : Event) (a : Option Answer)
+    → j < length players → old ≡ slice_index_or players j old → e.seat ≡ seat.Caller j → TakesStep (is_last e.step) a old new
+    → (program : List Item) (d : Player) (x : Served) → IsPlayerOf program j x (get_or players j d)
+    → IsPlayerOf program j (served_by j e a x) (get_or (set players j new) j d)
+mine players j old new e a lt at is takes program d x h =
+    let mine : is_of_caller j e.seat ≡ true = ap (λ (s : Seat). is_of_caller j s) is ∙ is_same j in
+    let here : get_or players j d ≡ old = get_or_default players j d old lt ∙ sym at in
+    rw (mine, get_or-set_same players j new d lt) (takes program j x (subst (λ (p : Player). IsPlayerOf program j x p) here h))
+
+others : (players : List Player) (j : ℕ) (new : Player) (e : Event) (a : Option Answer) → e.seat ≡ seat.Caller j
+    → (program : List Item) (k : ℕ) (d : Player) (x : Served) → j ≢ k → IsPlayerOf program k x (get_or players k d)
+    → IsPlayerOf program k (served_by k e a x) (get_or (set players j new) k d)
+others players j new e a is program k d x other h =
+    let not_mine : is_of_caller k e.seat ≡ false = ap (λ (s : Seat). is_of_caller k s) is ∙ is_other j k other in
+    rw (not_mine, get_or-set_other players j k new d (λ same. other (sym same))) h
+
+-- One player takes a step of its caller.
+pub one_takes : (players : List Player) (j : ℕ) (old new : Player) (e : Event) (a : Option Answer)
+    → j < length players → old ≡ slice_index_or players j old → e.seat ≡ seat.Caller j → TakesStep (is_last e.step) a old new
+    → TakeEvent e a players (slice_set players j new)
+one_takes players j old new e a lt at is takes = λ program k d x less h.
+    elim (cases_eq j k) [
+      | inl same ↦ subst (λ (i : ℕ). IsPlayerOf program i (served_by i e a x) (get_or (set players j new) i d)) same
+          (mine players j old new e a lt at is takes program d x (subst (λ (i : ℕ). IsPlayerOf program i x (get_or players i d)) (sym same) h))
+      | inr other ↦ others players j new e a is program k d x other h
+    ]
+
+-- At a call's last step the answer that was kept, or is decided there, is given.
+pub last_takes : (old new : Player) (decided : Option Answer) (a : Answer) → newer decided old.kept ≡ Some a
+    → TakesAnswer a (record old { kept = None }) new → TakesStep true decided old new
+last_takes old new decided a is takes = λ program k x h.
+    let given : newer decided x.kept ≡ Some a = ap (λ (o : Option Answer). newer decided o) (sym h.kept) ∙ is in
+    rw given (takes program k (record { answers = x.answers; kept = None }) (record { fed = h.fed; kept = refl; ops = h.ops; refused = h.refused }))
+
+-- One player more.
+pub players_push : (program : List Item) (players : List Player) (p : Player) → ArePlayersOf program [] players
+    → IsPlayerOf program (length players) (record { answers = []; kept = None }) p → ArePlayersOf program [] (players ++ p ∷ [])
+players_push program players p h new = λ k d less.
+    let total = length-append players (p ∷ []) in
+    elim (cases_eq k (length players)) [
+      | inl e ↦ rw (get_or_push players p d k (sym e)) (subst (λ (i : ℕ). IsPlayerOf program i (served (config_of program) [] i) p) (sym e)
+          (subst (λ (x : Served). IsPlayerOf program (length players) x p) (sym (served_first (config_of program) (length players))) new))
+      | inr ne ↦ (let lt : k < length players = omega arith in rw (get_or_append_left players (p ∷ []) d k lt) (h k d lt))
+    ]
+
+-- One text more.
+pub texts_push : (program : List Item) (es : List Event) (texts : List Text) (t : Text) → AreFirstTexts program es texts
+    → IsTextOf program es (length texts) t.bytes.items t.ops t.refused → AreFirstTexts program es (texts ++ t ∷ [])
+texts_push program es texts t h new = λ k d less.
+    let total = length-append texts (t ∷ []) in
+    elim (cases_eq k (length texts)) [
+      | inl e ↦ rw (get_or_push texts t d k (sym e)) (subst (λ (i : ℕ). IsTextOf program es i t.bytes.items t.ops t.refused) (sym e) new)
+      | inr ne ↦ (let lt : k < length texts = omega arith in rw (get_or_append_left texts (t ∷ []) d k lt) (h k d lt))
+    ]
+
+-- The players behind an event that decides this answer.
+players_more : (program : List Item) (es : List Event) (e : Event) (a : Option Answer) (players new : List Player)
+    → length new ≡ length players → a ≡ answer_decided (config_of program) (left (config_of program) es).now e
+    → TakeEvent e a players new → ArePlayersOf program es players → ArePlayersOf program (es ++ e ∷ []) new
+players_more program es e a players new count is takes h = λ k d less.
+    let lt : k < length players = omega arith in
+    let c = config_of program in
+    subst (λ (x : Served). IsPlayerOf program k x (get_or new k d))
+    (ap (λ (b : Option Answer). served_by k e b (served c es k)) is ∙ sym (served_more c es k e))
+    (takes program k d (served c es k) lt (h k d lt))
+
+-- A run goes on behind an event of the core.
+pub run_goes : (program : List Item) (es : List Event) (x : Entry) (old new : Run) (core : CoreState) (e : Event) (a : Option Answer)
+    → IsRunOf program es old → (IsTrue (seat_exists (config_of program) x.seat) → e ≡ event_of program es x) → e.seat ≡ x.seat
+    → core.config ≡ old.core.config → CoreStandsFor core (es ++ e ∷ [])
+    → calls old.core.config (es ++ e ∷ []) ≡ calls old.core.config es ++ entry_of (caller_number e.seat) (flight_of (left old.core.config es).now e.seat).op a
+    → new.core ≡ core → length new.players.items ≡ length old.players.items → TakeEvent e a old.players.items new.players.items
+    → TakesEntry program es x new
+run_goes program es x old new core e a h event seat same stands answers keeps count takes =
+    let c = config_of program in
+    let config : core.config ≡ c = same ∙ h.config in
+    let all : AreEnabled c (es ++ e ∷ []) = subst (λ (k : Config). AreEnabled k (es ++ e ∷ [])) config stands.enabled in
+    let enabled : IsEnabled c (left c es).now e = last_enabled c (first_world c) es e all in
+    let is : e ≡ event_of program es x = event (ap (λ (s : Seat). seat_exists c s) (sym seat) ∙ (enabled_meets c (left c es).now e enabled).seat) in
+    let decided : a ≡ answer_decided c (left c es).now e =
+    answer_is c es e (caller_number e.seat) (flight_of (left c es).now e.seat).op a
+    (subst (λ (k : Config). calls k (es ++ e ∷ []) ≡ calls k es ++ entry_of (caller_number e.seat) (flight_of (left k es).now e.seat).op a) h.config answers) in
+    record {
+      enabled = subst (λ (y : Event). failing c (left c es).now y ≡ 0) is enabled;
+      run = subst (λ (y : Event). IsRunOf program (es ++ y ∷ []) new) is
+          (record {
+            config = ap (λ (k : CoreState). k.config) keeps ∙ config;
+            stands = subst (λ (k : CoreState). CoreStandsFor k (es ++ e ∷ [])) (sym keeps) stands;
+            count = count ∙ h.count;
+            players = players_more program es e a old.players.items new.players.items count decided takes h.players;
+          });
+    }

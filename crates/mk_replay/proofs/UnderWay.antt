@@ -1,0 +1,103 @@
+-- A run behind the first entries of a schedule.
+use Rattle.std.proofs.Common.{◌≡◌, ℕ, ◌+◌, ◌<◌, ◌≤◌, false, List, [], ◌∷◌, ◌++◌, length, drop, get_or, refl, sym, ◌∙◌, ap, subst, arith, add-one, drop-cons}
+use Rattle.std.specs.Prelude.{Some, None, ◌==◌}
+use Rattle.std.proofs.lemmas.Bool.Decides.{nat_tests}
+use Rattle.std.proofs.lemmas.List.{length-append}
+use Rattle.std.proofs.Math.ListN.{drop_of_length-le}
+use Rattle.std.proofs.lemmas.List.Sums.{count_by-le-length}
+use Rattle.mk_script.specs.declared.items.Item.{Item}
+use Rattle.mk_core.specs.declared.config.Config.{Config}
+use Rattle.mk_core.specs.declared.events.Event.{Event}
+use Rattle.mk_core.specs.History.{AreEnabled}
+use Rattle.mk_replay.specs.declared.replaying.Run.{Run}
+use Rattle.mk_replay.specs.declared.replaying.ReplayStop.{ReplayStop}
+use Rattle.mk_replay.specs.declared.replaying.ReplayStop.TheVariants.{NotEnabled}
+use Rattle.mk_replay.specs.declared.schedule.Entry.{Entry}
+use Rattle.mk_replay.specs.Replays.{config_of, event_of, failing_entry, is_refusal, answers_given, history_from, history_of, refusal_from, refusal_of}
+use Rattle.mk_replay.specs.Players.{EachHasRoom, IsRunOf, TakesEntry, IsNotEnabled, IsUnderWay}
+use Rattle.mk_replay.proofs.ServedMore.{few_answers}
+
+-- There are fewer answers than the counts can hold.
+pub room_of : (program : List Item) (schedule : List Entry) (n : ℕ) (run : Run) → IsUnderWay program schedule n run → n < 18446744073709551615 → EachHasRoom run.players.items
+room_of program schedule n run h few = λ k d less.
+    let p = h.is_run.players k d less in
+    let answers = answers_given (config_of program) h.events k in
+    let so_few : length answers ≤ length h.events = few_answers (config_of program) h.events k in
+    let fewer = count_by-le-length is_refusal answers in
+    let ops = p.ops in
+    let refused = p.refused in
+    let so_many = h.so_many in
+    record { ops = omega arith; refused = omega arith }
+
+refusal_more : (program : List Item) (es : List Event) (x : Entry) (xs : List Entry) → failing_entry program es x ≡ 0
+    → refusal_from program es (x ∷ xs) ≡ refusal_from program (es ++ event_of program es x ∷ []) xs
+unfolding refusal_from
+refusal_more program es x xs h = rw h refl
+
+refusal_here : (program : List Item) (es : List Event) (x : Entry) (xs : List Entry) → (failing_entry program es x == 0) ≡ false
+    → refusal_from program es (x ∷ xs) ≡ Some (NotEnabled x.line x.place (failing_entry program es x))
+unfolding refusal_from
+refusal_here program es x xs h = rw h refl
+
+history_more : (program : List Item) (es : List Event) (x : Entry) (xs : List Entry)
+    → history_from program es (x ∷ xs) ≡ history_from program (es ++ event_of program es x ∷ []) xs
+unfolding history_from
+history_more program es x xs = refl
+
+refusal_none : (program : List Item) (es : List Event) → refusal_from program es [] ≡ None
+unfolding refusal_from
+refusal_none program es = refl
+
+history_none : (program : List Item) (es : List Event) → history_from program es [] ≡ es
+unfolding history_from
+history_none program es = refl
+
+pub first_under_way : (program : List Item) (schedule : List Entry) (run : Run) → IsRunOf program [] run → IsUnderWay program schedule 0 run
+first_under_way program schedule run h = record { events = []; is_run = h; so_many = refl; refusal = refl; history = refl }
+
+item_at : (schedule entries : List Entry) (n : ℕ) (d : Entry) → entries ≡ schedule → n < length entries
+    → drop n schedule ≡ get_or entries n d ∷ drop (n + 1) schedule
+item_at schedule entries n d same lt =
+    let less : n < length schedule = subst (λ (xs : List Entry). n < length xs) same lt in
+    rw (same, add-one) (drop-cons schedule n d less)
+
+pub next_under_way : (program : List Item) (schedule entries : List Entry) (n : ℕ) (old new : Run) (d : Entry)
+    → entries ≡ schedule → n < length entries → (h : IsUnderWay program schedule n old) → TakesEntry program h.events (get_or entries n d) new
+    → IsUnderWay program schedule (n + 1) new
+next_under_way program schedule entries n old new d same lt h t =
+    let x = get_or entries n d in
+    let at = item_at schedule entries n d same lt in
+    record {
+      events = h.events ++ event_of program h.events x ∷ [];
+      is_run = t.run;
+      so_many = (let e = length-append h.events (event_of program h.events x ∷ []) in let s = h.so_many in omega arith);
+      refusal = sym (refusal_more program h.events x (drop (n + 1) schedule) t.enabled) ∙ (ap (refusal_from program h.events) (sym at) ∙ h.refusal);
+      history = sym (history_more program h.events x (drop (n + 1) schedule)) ∙ (ap (history_from program h.events) (sym at) ∙ h.history);
+    }
+
+pub refused_here : (program : List Item) (schedule entries : List Entry) (n : ℕ) (run : Run) (d : Entry) (stop : ReplayStop)
+    → entries ≡ schedule → n < length entries → (h : IsUnderWay program schedule n run) → IsNotEnabled program h.events (get_or entries n d) stop
+    → refusal_of program schedule ≡ Some stop
+refused_here program schedule entries n run d stop same lt h t =
+    let x = get_or entries n d in
+    let condition = t.condition in
+    let no : (failing_entry program h.events x == 0) ≡ false = grind (arith, nat_tests) in
+    sym h.refusal ∙ (ap (refusal_from program h.events) (item_at schedule entries n d same lt)
+    ∙ (refusal_here program h.events x (drop (n + 1) schedule) no ∙ ap (λ (s : ReplayStop). Some s) (sym t.says)))
+
+pub record IsOver (program : List Item) (schedule : List Entry) (run : Run) : Type 0 where
+  pub is_run : IsRunOf program (history_of program schedule) run
+  pub refusal : refusal_of program schedule ≡ None
+  pub enabled : AreEnabled (config_of program) (history_of program schedule)
+
+pub over : (program : List Item) (schedule entries : List Entry) (n : ℕ) (run : Run)
+    → entries ≡ schedule → length entries ≤ n → IsUnderWay program schedule n run → IsOver program schedule run
+over program schedule entries n run same le h =
+    let none : drop n schedule ≡ [] = drop_of_length-le schedule (subst (λ (xs : List Entry). length xs ≤ n) same le) in
+    let all : h.events ≡ history_of program schedule = sym (history_none program h.events) ∙ (ap (history_from program h.events) (sym none) ∙ h.history) in
+    let is_run = subst (λ (es : List Event). IsRunOf program es run) all h.is_run in
+    record {
+      is_run = is_run;
+      refusal = sym h.refusal ∙ (ap (refusal_from program h.events) none ∙ refusal_none program h.events);
+      enabled = subst (λ (c : Config). AreEnabled c (history_of program schedule)) is_run.config is_run.stands.enabled;
+    }

@@ -1,0 +1,42 @@
+use Rattle.std.proofs.Common.{◌≡◌, ◌≢◌, ◌<◌, rules}
+use Rattle.std.specs.Prelude.{Some}
+use Rattle.mk_replay.specs.declared.replaying.ReplayStop.TheVariants.{NoMemory}
+use Rattle.mk_replay.specs.Replays.{refusal_of, history_of}
+use Rattle.mk_replay.proofs.UnderWay.{room_of, next_under_way, refused_here, over}
+use Rattle.mk_replay.proofs.replaying.replay.Goals as goal
+
+pub step-requires : goal.step-requires
+step-requires c =
+    let few : c.loop-entry.entry-index < 18446744073709551615 = search rules in
+    room_of c.args.program.now c.args.schedule.now c.loop-entry.entry-index c.loop-entry.run c.loop-entry.invariant few
+
+pub returns-in_err-step-clause-not_enabled : goal.returns-in_err-step-clause-not_enabled
+returns-in_err-step-clause-not_enabled c =
+    let h = c.loop-entry.invariant in
+    let stop = c.in_err-step.field-0.0 in
+    let refused : stop ≢ NoMemory → refusal_of c.args.program.now c.args.schedule.now ≡ Some stop =
+    λ ne. refused_here c.args.program.now c.args.schedule.now c.entries-entry-items.result.now c.loop-entry.entry-index c.loop-entry.run _ stop
+    c.entries-entry-items.ensures c.loop-entry-test.true h (c.in_err-step.ensures.stop c.args.program.now h.events h.is_run ne) in
+    search rules
+
+pub loop-entry-preserved : goal.loop-entry-preserved
+loop-entry-preserved c =
+    let h = c.loop-entry.invariant in
+    next_under_way c.args.program.now c.args.schedule.now c.entries-entry-items.result.now c.loop-entry.entry-index c.loop-entry.run c.step.new.self _
+    c.entries-entry-items.ensures c.loop-entry-test.true h (c.in_ok-step.ensures.ok c.args.program.now h.events h.is_run)
+
+pub returns-clause-enabled : goal.returns-clause-enabled
+returns-clause-enabled c =
+    (over c.args.program.now c.args.schedule.now c.entries-entry-items.result.now c.loop-entry.entry-index c.loop-entry.run
+    c.entries-entry-items.ensures c.loop-entry-test.false c.loop-entry.invariant).refusal
+
+pub returns-clause-history : goal.returns-clause-history
+returns-clause-history c =
+    (over c.args.program.now c.args.schedule.now c.entries-entry-items.result.now c.loop-entry.entry-index c.loop-entry.run
+    c.entries-entry-items.ensures c.loop-entry-test.false c.loop-entry.invariant).enabled
+
+pub returns-clause-texts : goal.returns-clause-texts
+returns-clause-texts c =
+    c.in_ok-texts.ensures c.args.program.now (history_of c.args.program.now c.args.schedule.now)
+    (over c.args.program.now c.args.schedule.now c.entries-entry-items.result.now c.loop-entry.entry-index c.loop-entry.run
+    c.entries-entry-items.ensures c.loop-entry-test.false c.loop-entry.invariant).is_run

@@ -1,0 +1,4 @@
+pub mod Forms
+pub mod Players
+pub mod Replays
+pub mod Schedules

@@ -1,0 +1,117 @@
+-- What a run keeps for each script, and what it stands for.
+use Rattle.std.specs.Prelude.{◌≡◌, ◌<◌, ◌≤◌, ℕ, Bool, true, false, List, [], ◌∷◌, ◌++◌, length, count_by, slice_index_or, drop, Option, None, if◌then◌else◌}
+use Rattle.mk_script.specs.declared.items.Item.{Item}
+use Rattle.mk_script.specs.Scopes.{script_names}
+use Rattle.mk_check.specs.Feed.{feed}
+use Rattle.mk_check.specs.Feeding.{FeedState, StandsFor as FeedStandsFor}
+use Rattle.mk_core.specs.declared.config.Config.{Config}
+use Rattle.mk_core.specs.declared.events.Event.{Event}
+use Rattle.mk_core.specs.declared.events.Answer.{Answer}
+use Rattle.mk_core.specs.Effects.{answer_decided}
+use Rattle.mk_core.specs.History.{World, first_world, world_behind}
+use Rattle.mk_core.specs.Standing.{StandsFor as CoreStandsFor}
+use Rattle.mk_replay.specs.declared.players.Player.{Player}
+use Rattle.mk_replay.specs.declared.replaying.Run.{Run}
+use Rattle.mk_replay.specs.declared.replaying.ReplayStop.{ReplayStop}
+use Rattle.mk_replay.specs.declared.replaying.ReplayStop.TheVariants.{NotEnabled}
+use Rattle.mk_replay.specs.declared.schedule.Entry.{Entry}
+use Rattle.mk_replay.specs.Replays.{config_of, is_of_caller, is_last, newer, as_list, is_refusal, answers_given, event_of, failing_entry, refusal_from, refusal_of, history_from, history_of}
+
+-- The answers of a caller's calls that ended, and the one that was decided in the call in flight.
+pub record Served : Type 0 where
+  pub answers : List Answer
+  pub kept : Option Answer
+
+-- behind one of the caller's steps, which may be its call's last one, and may decide an answer
+abbrev pub served_behind : Bool → Option Answer → Served → Served
+served_behind true decided x = record { answers = x.answers ++ as_list (newer decided x.kept); kept = None }
+served_behind false decided x = record { answers = x.answers; kept = newer decided x.kept }
+
+-- caller k behind an event that decides this answer, if any
+abbrev pub served_by : ℕ → Event → Option Answer → Served → Served
+served_by k e decided x = if is_of_caller k e.seat then served_behind (is_last e.step) decided x else x
+
+-- the answer that is kept for caller k behind events
+unfoldable pub kept_from : Config → World → ℕ → Option Answer → List Event → Option Answer
+kept_from c w k decided [] = decided
+kept_from c w k decided (e ∷ es) =
+    if is_of_caller k e.seat
+    then
+    (if is_last e.step
+    then kept_from c (world_behind c w e) k None es
+    else kept_from c (world_behind c w e) k (newer (answer_decided c w.now e) decided) es)
+    else kept_from c (world_behind c w e) k decided es
+
+abbrev pub served : Config → List Event → ℕ → Served
+served c es k = record { answers = answers_given c es k; kept = kept_from c (first_world c) k None es }
+
+-- A feed that is where script k of a program is behind these answers. One that has ended took none of those behind
+-- its end.
+pub record IsFed (program : List Item) (k : ℕ) (s : FeedState) (answers : List Answer) : Type 0 where
+  pub taken : List Answer
+  pub stands : FeedStandsFor program k s taken
+  pub same : feed program k taken ≡ feed program k answers
+
+-- Whatever answers the first had, the second has those and the one behind them.
+abbrev pub FeedsOn : Answer → FeedState → FeedState → Type 0
+FeedsOn a old new = (program : List Item) (k : ℕ) (answers : List Answer)
+    → IsFed program k old answers → IsFed program k new (answers ++ a ∷ [])
+
+-- the player of script k
+pub record IsPlayerOf (program : List Item) (k : ℕ) (x : Served) (p : Player) : Type 0 where
+  pub fed : IsFed program k p.feed x.answers
+  pub kept : p.kept ≡ x.kept
+  pub ops : p.ops ≡ length x.answers
+  pub refused : p.refused ≡ count_by is_refusal x.answers
+
+-- Whatever the first stands for, the second stands for that with the answer behind it.
+abbrev pub TakesAnswer : Answer → Player → Player → Type 0
+TakesAnswer a old new = (program : List Item) (k : ℕ) (x : Served)
+    → IsPlayerOf program k x old → IsPlayerOf program k (record x { answers = x.answers ++ a ∷ [] }) new
+
+-- Whatever the first was served, the second was served that and the step behind it.
+abbrev pub TakesStep : Bool → Option Answer → Player → Player → Type 0
+TakesStep last decided old new = (program : List Item) (k : ℕ) (x : Served)
+    → IsPlayerOf program k x old → IsPlayerOf program k (served_behind last decided x) new
+
+-- The counts of a player's answers may grow.
+pub record HasRoom (p : Player) : Type 0 where
+  pub ops : p.ops < 18446744073709551615
+  pub refused : p.refused < 18446744073709551615
+
+abbrev pub EachHasRoom : List Player → Type 0
+EachHasRoom players = (k : ℕ) (d : Player) → k < length players → HasRoom (slice_index_or players k d)
+
+-- the players behind an event that decides this answer, if any
+abbrev pub TakeEvent : Event → Option Answer → List Player → List Player → Type 0
+TakeEvent e decided old new = (program : List Item) (k : ℕ) (d : Player) (x : Served) → k < length old
+    → IsPlayerOf program k x (slice_index_or old k d) → IsPlayerOf program k (served_by k e decided x) (slice_index_or new k d)
+
+abbrev pub ArePlayersOf : List Item → List Event → List Player → Type 0
+ArePlayersOf program es players = (k : ℕ) (d : Player) → k < length players
+    → IsPlayerOf program k (served (config_of program) es k) (slice_index_or players k d)
+
+-- a run behind events
+pub record IsRunOf (program : List Item) (es : List Event) (run : Run) : Type 0 where
+  pub config : run.core.config ≡ config_of program
+  pub stands : CoreStandsFor run.core es
+  pub count : length run.players.items ≡ length (script_names program)
+  pub players : ArePlayersOf program es run.players.items
+
+-- The entry's event is enabled, and the run goes on behind it.
+pub record TakesEntry (program : List Item) (es : List Event) (x : Entry) (new : Run) : Type 0 where
+  pub enabled : failing_entry program es x ≡ 0
+  pub run : IsRunOf program (es ++ event_of program es x ∷ []) new
+
+-- The entry's event isn't enabled, and the refusal says so.
+pub record IsNotEnabled (program : List Item) (es : List Event) (x : Entry) (stop : ReplayStop) : Type 0 where
+  pub condition : 1 ≤ failing_entry program es x
+  pub says : stop ≡ NotEnabled x.line x.place (failing_entry program es x)
+
+-- the run behind the first entries of a schedule
+pub record IsUnderWay (program : List Item) (schedule : List Entry) (count : ℕ) (run : Run) : Type 0 where
+  pub events : List Event
+  pub is_run : IsRunOf program events run
+  pub so_many : length events ≡ count
+  pub refusal : refusal_from program events (drop count schedule) ≡ refusal_of program schedule
+  pub history : history_from program events (drop count schedule) ≡ history_of program schedule

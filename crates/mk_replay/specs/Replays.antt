@@ -1,0 +1,169 @@
+-- What a schedule makes of a program: the history, the first event that isn't enabled, and the texts of the scripts.
+use Rattle.std.specs.Prelude.{◌≡◌, ◌<◌, ℕ, Bool, true, false, List, [], ◌∷◌, ◌++◌, length, count_by, slice_index_or, Option, Some, None, ◌==◌, if◌then◌else◌}
+use Rattle.mk_never.specs.declared.operations.Op.{Op}
+use Rattle.mk_never.specs.declared.operations.Op.TheVariants as op
+use Rattle.mk_script.specs.declared.items.Item.{Item}
+use Rattle.mk_script.specs.Scopes.{script_names}
+use Rattle.mk_check.specs.Declarations.{types_of, globals_of, pages_of, resident_of}
+use Rattle.mk_check.specs.Feed.{feed}
+use Rattle.mk_check.specs.declared.text.Text.{Text}
+use Rattle.mk_check.specs.Feeding.{next_op}
+use Rattle.mk_core.specs.declared.config.Config.{Config}
+use Rattle.mk_core.specs.declared.events.Seat.{Seat}
+use Rattle.mk_core.specs.declared.events.Seat.TheVariants as seat
+use Rattle.mk_core.specs.declared.events.Step.{Step}
+use Rattle.mk_core.specs.declared.events.Step.TheVariants as step
+use Rattle.mk_core.specs.declared.events.Event.{Event}
+use Rattle.mk_core.specs.declared.events.Answer.{Answer}
+use Rattle.mk_core.specs.declared.events.Answer.TheVariants as answer
+use Rattle.mk_core.specs.Enabled.{failing}
+use Rattle.mk_core.specs.Effects.{answer_decided}
+use Rattle.mk_core.specs.History.{World, first_world, world_behind, left}
+use Rattle.mk_replay.specs.declared.schedule.Form.{Form}
+use Rattle.mk_replay.specs.declared.schedule.Form.TheVariants as form
+use Rattle.mk_replay.specs.declared.schedule.Entry.{Entry}
+use Rattle.mk_replay.specs.declared.replaying.ReplayStop.{ReplayStop}
+use Rattle.mk_replay.specs.declared.replaying.ReplayStop.TheVariants.{NotEnabled}
+
+-- The heap that a program's scripts share, with eight markers.
+abbrev pub config_of : List Item → Config
+config_of program =
+    record {
+      pages = pages_of program;
+      resident = resident_of program;
+      callers = length (script_names program);
+      markers = 8;
+      types = types_of program;
+      globals = globals_of program;
+    }
+
+abbrev pub is_of_caller : ℕ → Seat → Bool
+is_of_caller k (seat.Caller j) = j == k
+is_of_caller k _ = false
+
+-- the last step of a call
+abbrev pub is_last : Step → Bool
+is_last step.Leave = true
+is_last step.Give = true
+is_last _ = false
+
+abbrev pub newer : Option Answer → Option Answer → Option Answer
+newer (Some a) older = Some a
+newer None older = older
+
+abbrev pub as_list : Option Answer → List Answer
+as_list (Some a) = a ∷ []
+as_list None = []
+
+-- The answers of caller k's calls, each at its call's last step; `decided` is that of the call in flight.
+unfoldable pub answers_from : Config → World → ℕ → Option Answer → List Event → List Answer
+answers_from c w k decided [] = []
+answers_from c w k decided (e ∷ es) =
+    if is_of_caller k e.seat
+    then
+    (if is_last e.step
+    then as_list (newer (answer_decided c w.now e) decided) ++ answers_from c (world_behind c w e) k None es
+    else answers_from c (world_behind c w e) k (newer (answer_decided c w.now e) decided) es)
+    else answers_from c (world_behind c w e) k decided es
+
+abbrev pub answers_given : Config → List Event → ℕ → List Answer
+answers_given c es k = answers_from c (first_world c) k None es
+
+-- A caller's operation is its script's next one, fed with the answers so far. Other seats have none.
+abbrev pub op_for : List Item → List Event → Seat → Option Op
+op_for program es (seat.Caller k) = next_op program k (answers_given (config_of program) es k)
+op_for program es _ = None
+
+-- The step of a form. Where there is no operation, `enter` carries a New, which no `enter` may carry.
+abbrev pub step_of : Form → Option Op → Step
+step_of form.Enter (Some o) = step.Enter o
+step_of form.Enter None = step.Enter (op.New 0 0 false)
+step_of form.Leave o = step.Leave
+step_of form.Reg o = step.Reg
+step_of form.Probe o = step.Probe
+step_of form.Read o = step.Read
+step_of form.Write o = step.Write
+step_of form.Cas o = step.Cas
+step_of form.Getg o = step.Getg
+step_of form.Setg o = step.Setg
+step_of form.Take o = step.Take o
+step_of form.Give o = step.Give
+step_of (form.Look x) o = step.Look x
+step_of (form.Head p v) o = step.Head p v
+step_of (form.Used p v) o = step.Used p v
+step_of (form.Quar p v) o = step.Quar p v
+step_of form.Grant o = step.Grant
+step_of (form.Tally n v) o = step.Tally n v
+step_of (form.Hold j) o = step.Hold j
+step_of (form.Open j) o = step.Open j
+step_of (form.Clear p) o = step.Clear p
+step_of (form.Mark p v) o = step.Mark p v
+step_of (form.Wipe n) o = step.Wipe n
+step_of form.Full o = step.Full
+step_of form.Begin o = step.Begin
+step_of form.Close o = step.Close
+step_of form.Release o = step.Release
+step_of form.End o = step.End
+step_of form.Want o = step.Want
+step_of form.Dirty o = step.Dirty
+step_of (form.Undirty p) o = step.Undirty p
+step_of (form.Black p v) o = step.Black p v
+step_of (form.Unblack p) o = step.Unblack p
+step_of form.Attend o = step.Attend
+step_of form.Quit o = step.Quit
+step_of (form.Mlook x) o = step.Mlook x
+step_of (form.Claim p k) o = step.Claim p k
+step_of form.Mload o = step.Mload
+step_of form.Mmark o = step.Mmark
+step_of form.Mblack o = step.Mblack
+step_of form.Over o = step.Over
+
+-- an entry's event behind others
+abbrev pub event_of : List Item → List Event → Entry → Event
+event_of program es x = record { seat = x.seat; step = step_of x.form (op_for program es x.seat) }
+
+-- the events of a schedule, with the operations of the scripts, behind others
+unfoldable pub history_from : List Item → List Event → List Entry → List Event
+history_from program es [] = es
+history_from program es (x ∷ xs) = history_from program (es ++ event_of program es x ∷ []) xs
+
+abbrev pub history_of : List Item → List Entry → List Event
+history_of program schedule = history_from program [] schedule
+
+-- the first condition of an entry's event that fails behind others, or 0
+abbrev pub failing_entry : List Item → List Event → Entry → ℕ
+failing_entry program es x = failing (config_of program) (left (config_of program) es).now (event_of program es x)
+
+-- The refusal that names the first event that isn't enabled.
+unfoldable pub refusal_from : List Item → List Event → List Entry → Option ReplayStop
+refusal_from program es [] = None
+refusal_from program es (x ∷ xs) =
+    if failing_entry program es x == 0
+    then refusal_from program (es ++ event_of program es x ∷ []) xs
+    else Some (NotEnabled x.line x.place (failing_entry program es x))
+
+abbrev pub refusal_of : List Item → List Entry → Option ReplayStop
+refusal_of program schedule = refusal_from program [] schedule
+
+abbrev pub is_refusal : Answer → Bool
+is_refusal answer.Full = true
+is_refusal answer.Fault = true
+is_refusal answer.Null = true
+is_refusal answer.Double = true
+is_refusal _ = false
+
+-- The text of script k, fed with the answers of its calls that ended, and the counts of these and of the refused ones.
+pub record IsTextOf (program : List Item) (es : List Event) (k : ℕ) (bytes : List ℕ) (ops refused : ℕ) : Type 0 where
+  pub text : bytes ≡ (feed program k (answers_given (config_of program) es k)).text
+  pub all : ops ≡ length (answers_given (config_of program) es k)
+  pub refusals : refused ≡ count_by is_refusal (answers_given (config_of program) es k)
+
+-- the texts of the first scripts, in order
+abbrev pub AreFirstTexts : List Item → List Event → List Text → Type 0
+AreFirstTexts program es texts = (k : ℕ) (d : Text) → k < length texts
+    → IsTextOf program es k (slice_index_or texts k d).bytes.items (slice_index_or texts k d).ops (slice_index_or texts k d).refused
+
+-- A text for each script, in order.
+pub record AreTextsOf (program : List Item) (es : List Event) (texts : List Text) : Type 0 where
+  pub count : length texts ≡ length (script_names program)
+  pub each : AreFirstTexts program es texts

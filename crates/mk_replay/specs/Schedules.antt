@@ -1,0 +1,96 @@
+-- A text of a script part and a schedule: its program and the events, or its first fault.
+use Rattle.std.specs.Prelude.{ℕ, ◌+◌, Bool, true, false, ◌&&◌, nat_le, ◌==◌, if◌then◌else◌, List, [], ◌∷◌, ◌++◌, length, map, Option, Some, None, Ok, Err}
+use Rattle.std.specs.declared.result.Result.{Result}
+use Rattle.std.specs.Str.{bytes_eq}
+use lib.Chars.{codes}
+use Rattle.mk_script.specs.declared.items.Item.{Item}
+use Rattle.mk_script.specs.declared.faults.TextKind.{TextKind}
+use Rattle.mk_script.specs.declared.faults.TextKind.TheVariants as kind
+use Rattle.mk_script.specs.declared.faults.TextStop.{TextStop}
+use Rattle.mk_script.specs.declared.faults.TextStop.TheVariants as stop
+use Rattle.mk_script.specs.declared.faults.Which.TheVariants as which
+use Rattle.mk_script.specs.Words.{lines_of, words_of}
+use Rattle.mk_script.specs.Grammar.{items_of_lines}
+use Rattle.mk_core.specs.declared.events.Seat.{Seat}
+use Rattle.mk_replay.specs.declared.schedule.Form.{Form}
+use Rattle.mk_replay.specs.declared.schedule.Entry.{Entry}
+use Rattle.mk_replay.specs.Forms.{both, on_ok, form_of, seat_of}
+
+-- a byte in front of the first piece
+abbrev pub in_front : ℕ → List (List ℕ) → List (List ℕ)
+in_front byte [] = (byte ∷ []) ∷ []
+in_front byte (piece ∷ pieces) = (byte ∷ piece) ∷ pieces
+
+-- A line is cut at each `; `, from left to right.
+unfoldable pub pieces_of : List ℕ → List (List ℕ)
+pieces_of [] = [] ∷ []
+pieces_of (byte ∷ []) = (byte ∷ []) ∷ []
+pieces_of (byte ∷ next ∷ rest) =
+    if (byte == 59) && (next == 32) then [] ∷ pieces_of rest else in_front byte (pieces_of (next ∷ rest))
+
+abbrev pub forms_of : List (List (List ℕ)) → Result (List Form) TextKind
+forms_of [] = Ok []
+forms_of (words ∷ more) = both (λ form forms. form ∷ forms) (form_of words) (forms_of more)
+
+-- the events of a line, from a place on
+abbrev pub entries_from : ℕ → ℕ → Seat → List Form → List Entry
+entries_from line place seat [] = []
+entries_from line place seat (form ∷ forms) =
+    record { seat = seat; form = form; line = line; place = place } ∷ entries_from line (place + 1) seat forms
+
+-- The first piece of a line begins with the seat.
+abbrev pub entries_of_pieces : ℕ → List (List (List ℕ)) → Result (List Entry) TextKind
+entries_of_pieces line [] = Err kind.Word
+entries_of_pieces line ([] ∷ pieces) = Err kind.Word
+entries_of_pieces line ((seat ∷ words) ∷ pieces) = both (entries_from line 1) (seat_of seat) (forms_of (words ∷ pieces))
+
+abbrev pub entries_of_line : ℕ → List ℕ → Result (List Entry) TextKind
+entries_of_line line text = entries_of_pieces line (map words_of (pieces_of text))
+
+-- goes on behind a line's events, or ends with its fault
+abbrev pub go_on : ℕ → Result (List Entry) TextKind → Result (List Entry) TextStop → Result (List Entry) TextStop
+go_on line (Err fault) later = Err (stop.Text line fault)
+go_on line (Ok entries) (Err fault) = Err fault
+go_on line (Ok entries) (Ok later) = Ok (entries ++ later)
+
+-- the events of lines, the first of which has this number
+unfoldable pub entries_of_lines : ℕ → List (List ℕ) → Result (List Entry) TextStop
+entries_of_lines line [] = Ok []
+entries_of_lines line (text ∷ texts) = go_on line (entries_of_line line text) (entries_of_lines (line + 1) texts)
+
+-- The only word of the line is `schedule`.
+abbrev pub is_only_word : List (List ℕ) → Bool
+is_only_word (word ∷ []) = bytes_eq word (codes "schedule")
+is_only_word words = false
+
+abbrev pub is_schedule_line : List ℕ → Bool
+is_schedule_line line = is_only_word (words_of line)
+
+-- the lines before the first of these, which are the script part, and those behind it
+unfoldable pub script_lines : List (List ℕ) → List (List ℕ)
+script_lines [] = []
+script_lines (line ∷ lines) = if is_schedule_line line then [] else line ∷ script_lines lines
+
+unfoldable pub schedule_lines : List (List ℕ) → Option (List (List ℕ))
+schedule_lines [] = None
+schedule_lines (line ∷ lines) = if is_schedule_line line then Some lines else schedule_lines lines
+
+-- the events behind a script part of so many lines
+abbrev pub schedule_behind : ℕ → Option (List (List ℕ)) → Result (List Entry) TextStop
+schedule_behind count None = Err (stop.Text count kind.End)
+schedule_behind count (Some lines) = entries_of_lines (count + 2) lines
+
+abbrev pub with_schedule : Result (List Item) TextStop → Result (List Entry) TextStop → Result (List Item × List Entry) TextStop
+with_schedule (Err fault) entries = Err fault
+with_schedule (Ok items) (Err fault) = Err fault
+with_schedule (Ok items) (Ok entries) = Ok (items, entries)
+
+abbrev pub replay_of_lines : List (List ℕ) → Result (List Item × List Entry) TextStop
+replay_of_lines lines =
+    with_schedule (items_of_lines (script_lines lines)) (schedule_behind (length (script_lines lines)) (schedule_lines lines))
+
+-- The program and the schedule of a text of at most 1,048,576 bytes, or the first fault. Faults of the script part come
+-- first.
+abbrev pub replay_of : List ℕ → Result (List Item × List Entry) TextStop
+replay_of text =
+    if nat_le (length text) 1048576 then replay_of_lines (lines_of text) else Err (stop.Limit 0 which.Bytes 1048577)

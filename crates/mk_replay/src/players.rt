@@ -1,0 +1,126 @@
+//! A script that takes part in a run.
+ghost use Rattle.std.specs.Prelude.{◌≡◌, ◌<◌, ◌+◌, ℕ, [], ◌∷◌, length, count_by, IfOk, OnOk, None};
+ghost use Rattle.mk_script.specs.Grammar.{IsOfSomeText};
+ghost use Rattle.mk_script.specs.Scopes.{script_names};
+ghost use Rattle.mk_replay.specs.Replays.{is_refusal, newer, config_of, IsTextOf};
+ghost use Rattle.mk_replay.specs.Players.{Served, served, IsPlayerOf, TakesAnswer, TakesStep, FeedsOn, HasRoom};
+
+use mk_check::{Feed, Text};
+use mk_core::Answer;
+use mk_never::NoMemory;
+use mk_script::Item;
+use std::alloc::Global;
+
+/// A script, the answer that was decided in its call in flight, and the counts of its answers and of
+/// those that refuse.
+#[derive(Drop)]
+pub(crate) struct Player {
+    pub(crate) feed: Feed,
+    pub(crate) kept: Option<Answer>,
+    pub(crate) ops: u64,
+    pub(crate) refused: u64,
+}
+
+fn is_refusal(answer: Answer) -> bool
+    ensures { result ≡ is_refusal answer }
+{
+    matches!(
+        answer,
+        Answer::Full | Answer::Fault | Answer::Null | Answer::Double
+    )
+}
+
+fn newer(decided: Option<Answer>, kept: Option<Answer>) -> Option<Answer>
+    ensures { result ≡ newer decided kept }
+{
+    decided.or(kept)
+}
+
+/// Answers a script's operation; one that has ended takes none.
+fn feed_on(feed: &mut Feed, alloc: Global, answer: Answer) -> Result<(), NoMemory>
+    ensures { OnOk result (FeedsOn answer feed.old feed.new) }
+{
+    if feed.op().is_none() {
+        return Ok(());
+    }
+    feed.answer(alloc, answer)
+}
+
+impl Player {
+    ghost use Rattle.std.specs.Prelude.{List};
+    ghost use Rattle.mk_core.specs.declared.events.Event.{Event};
+    ghost use Rattle.mk_script.specs.declared.items.Item.{Item};
+
+    /// Script `script` of a program, before its first answer.
+    pub(crate) fn start(alloc: Global, program: &[Item], script: u64) -> Result<Player, NoMemory>
+        requires exists { script < length (script_names program.now) }
+        requires text { IsOfSomeText program.now }
+        ensures { IfOk result (IsPlayerOf program.now script (record { answers = []; kept = None })) }
+    {
+        Ok(Player {
+            feed: Feed::start(alloc, program, script)?,
+            kept: None,
+            ops: 0,
+            refused: 0,
+        })
+    }
+
+    /// Counts an answer.
+    fn count(&mut self, answer: Answer)
+        requires { HasRoom self.old }
+        ensures { self.new ≡ record self.old { ops = self.old.ops + 1; refused = count_by is_refusal (answer ∷ []) + self.old.refused } }
+    {
+        self.ops += 1;
+        if is_refusal(answer) {
+            self.refused += 1;
+        }
+    }
+
+    /// The answer of a call that ended.
+    fn answer(&mut self, alloc: Global, answer: Answer) -> Result<(), NoMemory>
+        requires { HasRoom self.old }
+        ensures { OnOk result (TakesAnswer answer self.old self.new) }
+    {
+        feed_on(&mut self.feed, alloc, answer)?;
+        self.count(answer);
+        Ok(())
+    }
+
+    /// One of its steps, which may be its call's last one, and may decide an answer.
+    pub(crate) fn follow(
+        &mut self,
+        alloc: Global,
+        decided: Option<Answer>,
+        is_last: bool,
+    ) -> Result<(), NoMemory>
+        requires { HasRoom self.old }
+        ensures { OnOk result (TakesStep is_last decided self.old self.new) }
+    {
+        let kept = newer(decided, self.kept);
+        if !is_last {
+            self.kept = kept;
+            return Ok(());
+        }
+        self.kept = None;
+        match kept {
+            Some(answer) => self.answer(alloc, answer),
+            None => Ok(()),
+        }
+    }
+
+    /// Its text so far.
+    pub(crate) fn text(&self, alloc: Global) -> Result<Text, NoMemory>
+        ensures { (program : List Item) (es : List Event) (k : ℕ)
+            → IsPlayerOf program k (served (config_of program) es k) self.now
+            → IfOk result (λ t. IsTextOf program es k t.bytes.items t.ops t.refused) }
+    {
+        let Ok(bytes) = self.feed.text().to_vec(alloc) else {
+            return Err(NoMemory);
+        };
+        Ok(Text {
+            bytes,
+            ops: self.ops,
+            refused: self.refused,
+        })
+    }
+}
