@@ -3,6 +3,8 @@
 
 mod replaying;
 mod schedule;
+mod schedule_parsing;
 
-pub use replaying::ReplayStop;
+pub use replaying::{ReplayStop, replay};
 pub use schedule::{Entry, Form, Schedule};
+pub use schedule_parsing::parse_replay;
