@@ -17,14 +17,28 @@ pub enum Status {
     ReadFault,
     WriteFault,
     /// The first line that isn't of the grammar.
-    Text { line: u64, kind: TextKind },
+    Text {
+        line: u64,
+        kind: TextKind,
+    },
     /// The least ill-typed line.
-    IllTyped { line: u64, kind: TypeKind },
+    IllTyped {
+        line: u64,
+        kind: TypeKind,
+    },
     /// A quantity outside its limits. For bytes the line is 0.
-    Limit { line: u64, which: Which, found: u64 },
+    Limit {
+        line: u64,
+        which: Which,
+        found: u64,
+    },
     /// The first event of a schedule that isn't enabled, by its place in its line from 1, and the first of
     /// the seven conditions that fails.
-    NotEnabled { line: u64, event: u64, condition: u64 },
+    NotEnabled {
+        line: u64,
+        event: u64,
+        condition: u64,
+    },
     /// The text asks for what isn't built yet.
     NotBuilt,
 }
