@@ -1,5 +1,5 @@
 -- What a command writes on an input, and the status that it ends with where nothing fails.
-use Rattle.std.specs.Prelude.{◌≡◌, ℕ, List, [], Bool, true, false, if◌then◌else◌, Option, Some, None, IfSome, Ok as Accepted, Err as Refused, ◌⊎◌}
+use Rattle.std.specs.Prelude.{◌≡◌, ℕ, List, [], if◌then◌else◌, Option, Some, None, IfSome, Ok as Accepted, Err as Refused, ◌⊎◌}
 use Rattle.std.specs.declared.result.Result.{Result}
 use lib.Chars.{codes}
 use Rattle.mk_script.specs.declared.items.Item.{Item}
@@ -10,10 +10,16 @@ use Rattle.mk_script.specs.Canonical.{canonical_text}
 use Rattle.mk_check.specs.declared.typing_faults.TypeStop.{TypeStop}
 use Rattle.mk_check.specs.declared.typing_faults.TypeStop.TheVariants as typing
 use Rattle.mk_check.specs.Typing.{TypingFault, first_typing_fault}
+use Rattle.mk_core.specs.History.{AreEnabled}
+use Rattle.mk_replay.specs.declared.schedule.Entry.{Entry}
+use Rattle.mk_replay.specs.declared.replaying.ReplayStop.{ReplayStop}
+use Rattle.mk_replay.specs.declared.replaying.ReplayStop.TheVariants as replay
+use Rattle.mk_replay.specs.Schedules.{replay_of}
+use Rattle.mk_replay.specs.Replays.{config_of, history_of, refusal_of, printed}
 use Rattle.markus.specs.declared.commands.Command.{Command}
-use Rattle.markus.specs.declared.commands.Command.TheVariants.{Run, Check, Print}
+use Rattle.markus.specs.declared.commands.Command.TheVariants.{Run, Check, Print, Replay}
 use Rattle.markus.specs.declared.statuses.Status.{Status}
-use Rattle.markus.specs.declared.statuses.Status.TheVariants.{Ok, NoMemory, Text, IllTyped, Limit, NotBuilt}
+use Rattle.markus.specs.declared.statuses.Status.TheVariants.{Ok, NoMemory, Text, IllTyped, Limit, NotEnabled, NotBuilt}
 use Rattle.markus.specs.Commands.{command_of}
 use Rattle.markus.specs.Narrow.{is_narrow}
 use Rattle.markus.specs.RunText.{IsRunText}
@@ -28,6 +34,7 @@ abbrev pub status_of_program : Command → List Item → Status
 status_of_program Run program = typed_or (first_typing_fault program) (if is_narrow program then Ok else NotBuilt)
 status_of_program Check program = typed_or (first_typing_fault program) Ok
 status_of_program Print program = Ok
+status_of_program Replay program = typed_or (first_typing_fault program) Ok
 
 abbrev pub status_of_text_stop : TextStop → Status
 status_of_text_stop (stop.Text line kind) = Text line kind
@@ -42,21 +49,50 @@ abbrev pub status_of_type_stop : TypeStop → Status
 status_of_type_stop (typing.IllTyped line kind) = IllTyped line kind
 status_of_type_stop typing.NoMemory = NoMemory
 
+-- the first event that isn't enabled, or none
+abbrev pub status_of_refusal : Option ReplayStop → Status
+status_of_refusal None = Ok
+status_of_refusal (Some (replay.NotEnabled line event condition)) = NotEnabled line event condition
+status_of_refusal (Some replay.NoMemory) = NoMemory
+
+abbrev pub status_of_schedule : List Item → List Entry → Status
+status_of_schedule program schedule = typed_or (first_typing_fault program) (status_of_refusal (refusal_of program schedule))
+
+abbrev pub status_of_replay : Result (List Item × List Entry) TextStop → Status
+status_of_replay (Accepted parts) = status_of_schedule parts.0 parts.1
+status_of_replay (Refused stop) = status_of_text_stop stop
+
 -- the status of a command on an input, where nothing fails
 abbrev pub status_on : Command → List ℕ → Status
+status_on Replay input = status_of_replay (replay_of input)
 status_on command input = status_of_text command (program_of input)
 
 abbrev pub IsOutputOf : Command → List Item → List ℕ → Type 0
 IsOutputOf Run program output = IsRunText program output
 IsOutputOf Check program output = output ≡ codes "ok\n"
 IsOutputOf Print program output = output ≡ canonical_text program
+IsOutputOf Replay program output = ⊥
 
--- what a command writes on an input that it accepts
-pub record IsOutput (command : Command) (input output : List ℕ) : Type 0 where
+-- what a command on a program writes on one that it accepts
+pub record IsOutputOnProgram (command : Command) (input output : List ℕ) : Type 0 where
   pub program : List Item
   pub is_text : program_of input ≡ Accepted program
   pub accepted : status_of_program command program ≡ Ok
   pub output_is : IsOutputOf command program output
+
+-- what `replay` writes on a schedule whose history is enabled: the texts of the scripts so far
+pub record IsOutputOnSchedule (input output : List ℕ) : Type 0 where
+  pub program : List Item
+  pub schedule : List Entry
+  pub is_text : replay_of input ≡ Accepted (program, schedule)
+  pub accepted : status_of_schedule program schedule ≡ Ok
+  pub enabled : AreEnabled (config_of program) (history_of program schedule)
+  pub output_is : output ≡ printed program (history_of program schedule)
+
+-- what a command writes on an input that it accepts
+abbrev pub IsOutput : Command → List ℕ → List ℕ → Type 0
+IsOutput Replay input output = IsOutputOnSchedule input output
+IsOutput command input output = IsOutputOnProgram command input output
 
 -- An input was read from the source to its end, and W holds of what the words' command writes on it. Where the source
 -- doesn't tell its bytes, there is such an input.

@@ -9,7 +9,7 @@ use Rattle.mk_script.specs.declared.faults.Which.TheVariants.{Bytes, Pages, Resi
 use Rattle.mk_check.specs.declared.typing_faults.TypeKind.{TypeKind}
 use Rattle.mk_check.specs.declared.typing_faults.TypeKind.TheVariants as typing
 use Rattle.markus.specs.declared.statuses.Status.{Status}
-use Rattle.markus.specs.declared.statuses.Status.TheVariants.{Ok, NoMemory, Usage, ReadFault, WriteFault, Text, IllTyped, Limit, NotBuilt}
+use Rattle.markus.specs.declared.statuses.Status.TheVariants.{Ok, NoMemory, Usage, ReadFault, WriteFault, Text, IllTyped, Limit, NotEnabled, NotBuilt}
 
 abbrev pub number_of : Status → ℕ
 number_of Ok = 0
@@ -20,6 +20,7 @@ number_of WriteFault = 4
 number_of (Text line kind) = 5
 number_of (IllTyped line fault) = 6
 number_of (Limit line which found) = 7
+number_of (NotEnabled line event condition) = 8
 number_of NotBuilt = 9
 
 abbrev pub text_words : TextKind → List ℕ
@@ -54,6 +55,9 @@ which_word Depth = codes "depth"
 abbrev pub limit_words : Which → ℕ → List ℕ
 limit_words which found = codes "limit " ++ (which_word which ++ (codes " " ++ decimal found))
 
+abbrev pub not_enabled_words : ℕ → ℕ → List ℕ
+not_enabled_words event condition = codes "event " ++ (decimal event ++ (codes " not enabled, condition " ++ decimal condition))
+
 abbrev pub at_line : ℕ → List ℕ → List ℕ
 at_line line words = codes "line " ++ (decimal line ++ (codes ": " ++ (words ++ codes "\n")))
 
@@ -67,6 +71,7 @@ status_line WriteFault = codes "write failed\n"
 status_line (Text line kind) = at_line line (text_words kind)
 status_line (IllTyped line fault) = at_line line (typing_words fault)
 status_line (Limit line which found) = at_line line (limit_words which found)
+status_line (NotEnabled line event condition) = at_line line (not_enabled_words event condition)
 status_line NotBuilt = codes "not built\n"
 
 -- the statuses that come before the first write
@@ -79,6 +84,7 @@ IsBeforeWriting WriteFault = ⊥
 IsBeforeWriting (Text line kind) = Unit {0}
 IsBeforeWriting (IllTyped line fault) = Unit {0}
 IsBeforeWriting (Limit line which found) = Unit {0}
+IsBeforeWriting (NotEnabled line event condition) = Unit {0}
 IsBeforeWriting NotBuilt = Unit {0}
 
 -- the statuses that say what is wrong with a text
@@ -91,4 +97,5 @@ IsRefusal WriteFault = ⊥
 IsRefusal (Text line kind) = Unit {0}
 IsRefusal (IllTyped line fault) = Unit {0}
 IsRefusal (Limit line which found) = Unit {0}
+IsRefusal (NotEnabled line event condition) = Unit {0}
 IsRefusal NotBuilt = Unit {0}

@@ -11,6 +11,8 @@ pub enum Command {
     Check,
     /// Prints the canonical text of a text's program.
     Print,
+    /// Runs the schedule behind a text.
+    Replay,
 }
 
 /// The command of the words behind the program's name; none where they are of no form.
@@ -27,6 +29,8 @@ pub fn command_in(words: &[String]) -> Option<Command>
         Some(Command::Check)
     } else if word == "print" {
         Some(Command::Print)
+    } else if word == "replay" {
+        Some(Command::Replay)
     } else {
         None
     }

@@ -2,35 +2,18 @@
 ghost use Rattle.std.specs.Prelude.{◌≡◌, ◌⊎◌, Ok, IfOk, IfErr, OnOk};
 ghost use Rattle.mk_script.specs.Grammar.{program_of};
 ghost use Rattle.mk_script.specs.declared.items.Item.{Item};
-ghost use Rattle.markus.specs.Outputs.{IsOutput, IsOutputOf, status_on, status_of_program, status_of_text_stop, status_of_type_stop};
+ghost use Rattle.markus.specs.Outputs.{IsOutput, IsOutputOf, status_on, status_of_program, status_of_text};
 ghost use Rattle.markus.specs.Statuses.{IsBeforeWriting};
 
 use crate::commands::Command;
 use crate::narrow::is_narrow;
+use crate::refusals::{text_refusal, type_refusal};
+use crate::replays::replayed;
 use crate::running::run_script;
 use crate::statuses::Status;
-use mk_check::{TypeStop, check};
-use mk_script::{Program, TextStop, parse, print};
+use mk_check::check;
+use mk_script::{Program, parse, print};
 use std::alloc::Global;
-
-fn text_refusal(stop: TextStop) -> Status
-    ensures { result ≡ status_of_text_stop stop }
-{
-    match stop {
-        TextStop::Text { line, kind } => Status::Text { line, kind },
-        TextStop::Limit { line, which, found } => Status::Limit { line, which, found },
-        TextStop::NoMemory => Status::NoMemory,
-    }
-}
-
-fn type_refusal(stop: TypeStop) -> Status
-    ensures { result ≡ status_of_type_stop stop }
-{
-    match stop {
-        TypeStop::IllTyped { line, kind } => Status::IllTyped { line, kind },
-        TypeStop::NoMemory => Status::NoMemory,
-    }
-}
 
 /// What a command writes on a text, whole. A text that it refuses has the status that says why.
 pub fn output_of(alloc: Global, command: Command, text: &[u8]) -> Result<Vec<u8>, Status>
@@ -38,15 +21,33 @@ pub fn output_of(alloc: Global, command: Command, text: &[u8]) -> Result<Vec<u8>
     ensures refused { IfErr result (λ status. (status ≡ Status.NoMemory) ⊎ (status ≡ status_on command text.now)) }
     ensures before_writing { IfErr result (λ status. IsBeforeWriting status) }
 {
-    let program = match parse(alloc, text) {
-        Ok(program) => program,
-        Err(stop) => return Err(text_refusal(stop)),
-    };
     match command {
-        Command::Print => print(alloc, &program).map_err(|_| Status::NoMemory),
-        Command::Check => accept(alloc, program),
-        Command::Run => run(alloc, program),
+        Command::Run => run(alloc, read(alloc, text)?),
+        Command::Check => accept(alloc, read(alloc, text)?),
+        Command::Print => canonical(alloc, read(alloc, text)?),
+        Command::Replay => replayed(alloc, text),
     }
+}
+
+/// The program of a text. The status of a text that has none is the same for each command on a program.
+fn read(alloc: Global, text: &[u8]) -> Result<Program, Status>
+    ensures program { IfOk result (λ program. program_of text.now ≡ Ok program) }
+    ensures refused { IfErr result (λ status. (status ≡ Status.NoMemory)
+        ⊎ ((command : Command) → status ≡ status_of_text command (program_of text.now))) }
+    ensures before_writing { IfErr result (λ status. IsBeforeWriting status) }
+{
+    match parse(alloc, text) {
+        Ok(program) => Ok(program),
+        Err(stop) => Err(text_refusal(stop)),
+    }
+}
+
+/// The canonical text of a program.
+fn canonical(alloc: Global, program: Program) -> Result<Vec<u8>, Status>
+    ensures ok { IfOk result (λ output. IsOutputOf Command.Print program output.items) }
+    ensures refused { IfErr result (λ status. status ≡ Status.NoMemory) }
+{
+    print(alloc, &program).map_err(|_| Status::NoMemory)
 }
 
 /// The line that says that a program is well typed.

@@ -1,7 +1,7 @@
 //! How the program ends.
 ghost use Rattle.std.specs.Prelude.{◌≡◌, IfOk, string_bytes};
 ghost use Rattle.markus.specs.Statuses as spec;
-ghost use Rattle.markus.specs.Statuses.{number_of, status_line, text_words, typing_words, which_word, limit_words};
+ghost use Rattle.markus.specs.Statuses.{number_of, status_line, text_words, typing_words, which_word, limit_words, not_enabled_words};
 
 use mk_check::TypeKind;
 use mk_never::NoMemory;
@@ -17,11 +17,28 @@ pub enum Status {
     ReadFault,
     WriteFault,
     /// The first line that isn't of the grammar.
-    Text { line: u64, kind: TextKind },
+    Text {
+        line: u64,
+        kind: TextKind,
+    },
     /// The least ill-typed line.
-    IllTyped { line: u64, kind: TypeKind },
+    IllTyped {
+        line: u64,
+        kind: TypeKind,
+    },
     /// A quantity outside its limits. For bytes the line is 0.
-    Limit { line: u64, which: Which, found: u64 },
+    Limit {
+        line: u64,
+        which: Which,
+        found: u64,
+    },
+    /// The first event of a schedule that isn't enabled, by its place in its line from 1, and the first of
+    /// the seven conditions that fails.
+    NotEnabled {
+        line: u64,
+        event: u64,
+        condition: u64,
+    },
     /// The text asks for what isn't built yet.
     NotBuilt,
 }
@@ -40,6 +57,7 @@ impl Status {
             Status::Text { .. } => 5,
             Status::IllTyped { .. } => 6,
             Status::Limit { .. } => 7,
+            Status::NotEnabled { .. } => 8,
             Status::NotBuilt => 9,
         }
     }
@@ -69,6 +87,11 @@ impl Status {
             Status::Text { line, kind } => at_line(alloc, *line, words_of_text(*kind)),
             Status::IllTyped { line, kind } => type_line(alloc, *line, *kind),
             Status::Limit { line, which, found } => limit_line(alloc, *line, *which, *found),
+            Status::NotEnabled {
+                line,
+                event,
+                condition,
+            } => not_enabled_line(alloc, *line, *event, *condition),
             Status::NotBuilt => String::from_str(alloc, "not built\n"),
         }
     }
@@ -102,6 +125,18 @@ fn limit_line(alloc: Global, line: u64, which: Which, found: u64) -> Result<Stri
 {
     let which = word_of(which);
     format!(in alloc; "line {line}: limit {which} {found}\n")
+}
+
+fn not_enabled_line(
+    alloc: Global,
+    line: u64,
+    event: u64,
+    condition: u64,
+) -> Result<String, AllocError>
+    ensures { IfOk result (λ text. string_bytes text ≡ spec.at_line line (not_enabled_words event condition)) }
+{
+    let words = format!(in alloc; "event {event} not enabled, condition {condition}")?;
+    at_line(alloc, line, words.as_str())
 }
 
 fn words_of_text(kind: TextKind) -> &'static str

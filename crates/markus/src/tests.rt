@@ -21,6 +21,15 @@ const BLOCKS: &[u8] =
 /// A script of as many instructions as one may execute.
 const LONGEST: &[u8] = b"heap 1 1\nscript s\nnum n\nprint n\nrepeat 499999\nprint n\nend\n";
 
+/// Two scripts with a global. The schedule has a load of it before the store and one behind, and ends within
+/// a call of `s`.
+const SCHEDULED: &[u8] =
+    b"heap 1 1\ntype A n*2\nglobal g A\nscript s\nptr p A\nnew p A\nstoreg p g\nshow p\n\
+    script t\nptr q A\nnum n\nloadg q g\ngetn n q 0\nprint n\nloadg q g\nshow q\nschedule\n\
+    c1 enter; getg; reg; leave\nc1 enter; reg; leave\n\
+    c0 take; head 0 13; used 0 1; grant; tally held 2; give\nc0 enter; reg; setg; leave\n\
+    c1  enter;  getg; reg; leave \nc1 enter; reg; leave\nc0 enter; reg";
+
 const SPACED: &[u8] = b" heap 1  1\ntype A n n n p:A+0\nscript s\nptr p A+0";
 
 const CANONICAL: &[u8] = b"heap 1 1\ntype A n*3 p:A\nscript s\nptr p A\n";
@@ -160,6 +169,103 @@ fn names_the_same_fault_in_every_chunking(rt: HostRuntime) -> Result<(), Fail> {
         let told = expected.text(rt.alloc()).map_err(|_| AllocError)?;
         assert_eq!(rt; told.as_slice(), line);
     }
+    Ok(())
+}
+
+fn text_fault(line: u64, kind: TextKind) -> Status {
+    Status::Text { line, kind }
+}
+
+fn not_enabled(line: u64, event: u64, condition: u64) -> Status {
+    Status::NotEnabled {
+        line,
+        event,
+        condition,
+    }
+}
+
+#[test]
+fn names_the_first_fault_of_a_schedule(rt: HostRuntime) -> Result<(), Fail> {
+    let no_register = Status::IllTyped {
+        line: 3,
+        kind: TypeKind::NoRegister,
+    };
+    let cases: [(&[u8], Status); 14] = [
+        // Lines of events.
+        (
+            b"heap 1 1\nscript s\nschedule\nh take\n\n",
+            text_fault(5, TextKind::Word),
+        ),
+        (
+            b"heap 1 1\nscript s\nschedule\nc take\n",
+            text_fault(4, TextKind::Number),
+        ),
+        (
+            b"heap 1 1\nscript s\nschedule\nc take; gave\n",
+            text_fault(4, TextKind::Word),
+        ),
+        (
+            b"heap 1 1\nscript s\nschedule\nh take 1\n",
+            text_fault(4, TextKind::Word),
+        ),
+        (
+            b"heap 1 1\nscript s\nschedule\nh take; clear 18446744073709551616\n",
+            text_fault(4, TextKind::Number),
+        ),
+        // The script part comes first, and types behind all text.
+        (
+            b"heap 1 1\nscript s\nshow\nschedule\n\n",
+            text_fault(3, TextKind::Word),
+        ),
+        (
+            b"heap 1 1\nscript s\nshow p\n",
+            text_fault(3, TextKind::End),
+        ),
+        (b"schedule\nh take\n", text_fault(1, TextKind::Header)),
+        (
+            b"heap 1 1\nscript s\nshow p\nschedule\nh gave\n",
+            text_fault(5, TextKind::Word),
+        ),
+        (
+            b"heap 1 1\nscript s\nshow p\nschedule\nh give\n",
+            no_register,
+        ),
+        // Events that aren't enabled.
+        (
+            b"heap 1 1\nscript s\nschedule\nh take\nc1 enter",
+            not_enabled(5, 1, 1),
+        ),
+        (
+            b"heap 1 1\nscript s\nschedule\nh take; give; give",
+            not_enabled(4, 3, 3),
+        ),
+        (
+            b"heap 1 1\nscript s\nschedule\nc0 enter",
+            not_enabled(4, 1, 3),
+        ),
+        (
+            b"heap 1 1\nscript s\nschedule\nm0 attend; mlook heap 0",
+            not_enabled(4, 2, 7),
+        ),
+    ];
+    for (number, case) in cases.iter().enumerate() {
+        let (text, expected) = *case;
+        let (status, _) = run(rt.alloc(), &ample(&["replay"], text, expected, b""))?;
+        assert_eq!(rt; status, expected, "case {number}");
+    }
+    let line: &[u8] = b"line 4: event 2 not enabled, condition 7\n";
+    let told = not_enabled(4, 2, 7).text(rt.alloc());
+    assert_eq!(rt; told.map_err(|_| AllocError)?.as_slice(), line);
+    Ok(())
+}
+
+#[test]
+fn replays_a_schedule(rt: HostRuntime) -> Result<(), Fail> {
+    let expected: &[u8] = b"script s\nscript t\n13: null\n0\nptr\n";
+    let case = ample(&["replay"], SCHEDULED, Status::Ok, expected);
+    let (status, written) = run(rt.alloc(), &case)?;
+    assert_eq!(rt; status, Status::Ok);
+    assert_eq!(rt; written.as_slice(), expected);
     Ok(())
 }
 

@@ -13,9 +13,10 @@ use mk_io::{Failed, ReadStop, Sink, Source, read_all, write_all};
 use mk_script::Which;
 use std::alloc::Global;
 
-/// Does all that the program does. With the one word `run`, `check` or `print` it reads a text from the
-/// source and writes to the sink what its script prints, the line `ok`, or its canonical text. The
-/// whole output is made before the first write.
+/// Does all that the program does. With the one word `run`, `check`, `print` or `replay` it reads a text
+/// from the source and writes to the sink what its script prints, the line `ok`, its canonical text, or
+/// what its scripts have printed when the schedule behind it ends. The whole output is made before the
+/// first write.
 ///
 /// Where the source doesn't tell its bytes, or the sink what it took, the clauses on these say
 /// nothing, as with standard input and output.

@@ -1,12 +1,13 @@
 -- What a schedule makes of a program: the history, the first event that isn't enabled, and the texts of the scripts.
+use Rattle.std.specs.List.{flat_map, range_with_len}
 use Rattle.std.specs.Prelude.{◌≡◌, ◌<◌, ℕ, Bool, true, false, List, [], ◌∷◌, ◌++◌, length, count_by, slice_index_or, Option, Some, None, ◌==◌, if◌then◌else◌}
 use Rattle.mk_never.specs.declared.operations.Op.{Op}
 use Rattle.mk_never.specs.declared.operations.Op.TheVariants as op
 use Rattle.mk_script.specs.declared.items.Item.{Item}
 use Rattle.mk_script.specs.Scopes.{script_names}
 use Rattle.mk_check.specs.Declarations.{types_of, globals_of, pages_of, resident_of}
-use Rattle.mk_check.specs.Feed.{feed}
 use Rattle.mk_check.specs.declared.text.Text.{Text}
+use Rattle.mk_check.specs.Feed.{feed}
 use Rattle.mk_check.specs.Feeding.{next_op}
 use Rattle.mk_core.specs.declared.config.Config.{Config}
 use Rattle.mk_core.specs.declared.events.Seat.{Seat}
@@ -167,3 +168,8 @@ AreFirstTexts program es texts = (k : ℕ) (d : Text) → k < length texts
 pub record AreTextsOf (program : List Item) (es : List Event) (texts : List Text) : Type 0 where
   pub count : length texts ≡ length (script_names program)
   pub each : AreFirstTexts program es texts
+
+-- all that a run prints: the texts of the scripts, one behind the other
+abbrev pub printed : List Item → List Event → List ℕ
+printed program es =
+    flat_map (λ k. (feed program k (answers_given (config_of program) es k)).text) (range_with_len 0 (length (script_names program)))

@@ -1,0 +1,26 @@
+-- The texts of the scripts, one behind the other, are all that a run prints.
+use Rattle.std.proofs.Common.{◌≡◌, ℕ, ◌+◌, ◌<◌, suc, List, [], ◌∷◌, ◌++◌, length, refl, ap, ◌∙◌, arith}
+use Rattle.std.specs.List.{flat_map, range_with_len}
+use Rattle.std.specs.Prelude.{slice_index_or}
+use Rattle.mk_core.specs.declared.events.Event.{Event}
+use Rattle.mk_script.specs.declared.items.Item.{Item}
+use Rattle.mk_check.specs.declared.text.Text.{Text}
+use Rattle.mk_check.specs.Feed.{feed}
+use Rattle.mk_replay.specs.Replays.{AreTextsOf, answers_given, config_of, printed}
+
+-- pieces that are those of their places
+pieces : {X A : Type 0} (f : X → List A) (g : ℕ → List A) (a : ℕ) (xs : List X)
+    → ((k : ℕ) (d : X) → k < length xs → f (slice_index_or xs k d) ≡ g (a + k))
+    → flat_map f xs ≡ flat_map g (range_with_len a (length xs))
+pieces f g a [] each = refl
+pieces f g a (x ∷ xs) each =
+    let first : f x ≡ g a = each 0 x (omega arith) ∙ ap g (omega arith) in
+    let rest = pieces f g (a + 1) xs (λ k d less. each (suc k) d (omega (arith, less)) ∙ ap g (omega arith)) in
+    ap (λ piece. piece ++ flat_map f xs) first ∙ ap (λ more. g a ++ more) rest
+
+pub texts_are_printed : (program : List Item) (es : List Event) (texts : List Text) → AreTextsOf program es texts
+    → flat_map (λ text. text.bytes.items) texts ≡ printed program es
+texts_are_printed program es texts are =
+    let text_of = λ (k : ℕ). (feed program k (answers_given (config_of program) es k)).text in
+    pieces (λ text. text.bytes.items) text_of 0 texts (λ k d less. (are.each k d less).text ∙ ap text_of (omega arith))
+    ∙ ap (λ n. flat_map text_of (range_with_len 0 n)) are.count

@@ -1,0 +1,61 @@
+//! What a schedule makes of the scripts before it.
+ghost use Rattle.std.specs.Prelude.{◌≡◌, ◌⊎◌, IfOk, IfErr, OnOk};
+ghost use Rattle.std.specs.List.{flat_map};
+ghost use Rattle.mk_core.specs.History.{AreEnabled};
+ghost use Rattle.mk_replay.specs.Replays.{config_of, history_of, printed};
+ghost use Rattle.markus.specs.Outputs.{IsOutputOnSchedule, status_on, status_of_schedule};
+ghost use Rattle.markus.specs.Statuses.{IsBeforeWriting};
+
+use crate::commands::Command;
+use crate::refusals::{replay_refusal, text_refusal, type_refusal};
+use crate::statuses::Status;
+use mk_check::{Text, check};
+use mk_never::NoMemory;
+use mk_replay::{Schedule, parse_replay, replay};
+use mk_script::Program;
+use std::alloc::Global;
+
+/// What `replay` writes on a text, whole.
+pub fn replayed(alloc: Global, text: &[u8]) -> Result<Vec<u8>, Status>
+    ensures ok { IfOk result (λ output. IsOutputOnSchedule text.now output.items) }
+    ensures refused { IfErr result (λ status. (status ≡ Status.NoMemory) ⊎ (status ≡ status_on Command.Replay text.now)) }
+    ensures before_writing { IfErr result (λ status. IsBeforeWriting status) }
+{
+    match parse_replay(alloc, text) {
+        Ok((program, schedule)) => run(alloc, program, &schedule),
+        Err(stop) => Err(text_refusal(stop)),
+    }
+}
+
+/// What the program's scripts have printed behind the schedule.
+#[tactic(auto, using(crate::proofs::PrintedTexts::texts_are_printed))]
+fn run(alloc: Global, program: Program, schedule: &Schedule) -> Result<Vec<u8>, Status>
+    ensures printed { IfOk result (λ output. output.items ≡ printed program (history_of program schedule.now)) }
+    ensures enabled { OnOk result (AreEnabled (config_of program) (history_of program schedule.now)) }
+    ensures accepted { OnOk result (status_of_schedule program schedule.now ≡ Status.Ok) }
+    ensures refused { IfErr result (λ status. (status ≡ Status.NoMemory) ⊎ (status ≡ status_of_schedule program schedule.now)) }
+    ensures before_writing { IfErr result (λ status. IsBeforeWriting status) }
+{
+    let checked = match check(alloc, program) {
+        Ok(checked) => checked,
+        Err(stop) => return Err(type_refusal(stop)),
+    };
+    let texts = match replay(alloc, &checked, schedule) {
+        Ok(texts) => texts,
+        Err(stop) => return Err(replay_refusal(stop)),
+    };
+    joined(alloc, &texts).map_err(|_| Status::NoMemory)
+}
+
+/// The texts, one behind the other.
+fn joined(alloc: Global, texts: &[Text]) -> Result<Vec<u8>, NoMemory>
+    ensures { IfOk result (λ bytes. bytes.items ≡ flat_map (λ text. text.bytes.items) texts.now) }
+{
+    let mut bytes = Vec::new(alloc);
+    for text in texts {
+        if bytes.extend_from_slice(&text.bytes).is_err() {
+            return Err(NoMemory);
+        }
+    }
+    Ok(bytes)
+}
