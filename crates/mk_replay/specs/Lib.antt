@@ -1,3 +1,5 @@
+pub mod Entries
 pub mod Forms
+pub mod Reading
 pub mod Replays
 pub mod Schedules

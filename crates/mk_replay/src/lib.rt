@@ -1,8 +1,11 @@
 //! Schedules: one given history of a heap, run event by event on the core.
 #![tactic(auto)]
 
+mod lines;
 mod replaying;
 mod schedule;
+mod schedule_parsing;
 
 pub use replaying::ReplayStop;
 pub use schedule::{Entry, Form, Schedule};
+pub use schedule_parsing::parse_replay;

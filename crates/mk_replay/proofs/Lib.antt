@@ -1,0 +1,4 @@
+mod EntriesRead
+mod Parts
+mod ScheduleLine
+mod ScriptPart
