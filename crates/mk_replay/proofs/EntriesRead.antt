@@ -1,5 +1,5 @@
 -- The events of lines, one line behind the others.
-use Rattle.std.proofs.Common.{◌≡◌, ◌≢◌, ℕ, ◌+◌, ◌<◌, ◌≤◌, List, [], ◌∷◌, ◌++◌, length, get_or, drop, Bor, Ok, Err, Result, refl, ap, sym, ◌∙◌, append_assoc, arith}
+use Rattle.std.proofs.Common.{◌≡◌, ◌≢◌, ℕ, ◌+◌, ◌<◌, ◌≤◌, List, ◌∷◌, ◌++◌, length, get_or, drop, Bor, Ok, Err, Result, refl, ap, sym, ◌∙◌, append_assoc, arith}
 use Rattle.std.proofs.lemmas.List.{append-nil, at_drop_more, at_drop_all}
 use Rattle.mk_script.specs.declared.faults.TextStop.{TextStop}
 use Rattle.mk_script.specs.declared.faults.TextStop.TheVariants.{NoMemory}
@@ -9,7 +9,7 @@ use Rattle.mk_replay.specs.declared.lines.LineStop.{LineStop}
 use Rattle.mk_replay.specs.declared.lines.LineStop.TheVariants as linestop
 use Rattle.mk_replay.specs.Entries.{Adds, StopsAt}
 use Rattle.mk_replay.specs.Reading.{stop_at}
-use Rattle.mk_replay.specs.Schedules.{ go_on, entries_of_line, entries_of_lines}
+use Rattle.mk_replay.specs.Schedules.{go_on, entries_of_line, entries_of_lines}
 
 -- events behind others, and those of later lines behind both
 behind_both : (first line : ℕ) (before events : List Entry) (later : Result (List Entry) TextStop) → go_on first (Ok before) (go_on line (Ok events) later) ≡ go_on first (Ok (before ++ events)) later
@@ -53,7 +53,3 @@ unfolding entries_of_lines
 ends lines i first before behind =
     at_drop_all (λ left. go_on first (Ok before) (entries_of_lines (first + i) (texts_of left))) lines i behind
     ∙ ap (λ all. Ok all) (append-nil before)
-
-pub begins : (first : ℕ) (all : Result (List Entry) TextStop) → go_on first (Ok []) all ≡ all
-begins first (Ok entries) = refl
-begins first (Err fault) = refl

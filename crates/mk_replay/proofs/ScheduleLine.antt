@@ -1,24 +1,20 @@
 -- The first line whose only word is `schedule`, and the lines before it and behind it.
-use Rattle.std.proofs.Common.{◌≡◌, ℕ, suc, ◌+◌, ◌<◌, Bool, true, false, cond, List, [], ◌∷◌, length, take, drop, Option, Some, None, refl, ap, sym, subst, ◌∙◌, arith}
+use Rattle.std.proofs.Common.{◌≡◌, ℕ, suc, ◌+◌, Bool, true, false, cond, List, [], ◌∷◌, drop, Some, None, refl, ap, sym, subst, ◌∙◌, arith}
 use Rattle.std.specs.List.{position_from}
+use Rattle.mk_replay.specs.Reading.{StandsAt, HasNone}
 use Rattle.mk_replay.specs.Schedules.{is_schedule_line, script_lines, schedule_lines}
 
-pub record IsFirst (lines : List (List ℕ)) (place : ℕ) : Type 0 where
-  pub inside : place < length lines
-  pub before : script_lines lines ≡ take place lines
-  pub behind : schedule_lines lines ≡ Some (drop (place + 1) lines)
-
--- the lines but the first have it at the place
+-- where it is found, counted from a number on
 record IsFound (lines : List (List ℕ)) (from found : ℕ) : Type 0 where
   place : ℕ
   counts : found ≡ from + place
-  first : IsFirst lines place
+  first : StandsAt lines place
 
-here : (line : List ℕ) (lines : List (List ℕ)) → is_schedule_line line ≡ true → IsFirst (line ∷ lines) 0
+here : (line : List ℕ) (lines : List (List ℕ)) → is_schedule_line line ≡ true → StandsAt (line ∷ lines) 0
 unfolding script_lines schedule_lines
 here line lines is = record { inside = omega arith; before = rw is refl; behind = rw is refl }
 
-later : (line : List ℕ) (lines : List (List ℕ)) (place : ℕ) → is_schedule_line line ≡ false → IsFirst lines place → IsFirst (line ∷ lines) (suc place)
+later : (line : List ℕ) (lines : List (List ℕ)) (place : ℕ) → is_schedule_line line ≡ false → StandsAt lines place → StandsAt (line ∷ lines) (suc place)
 unfolding script_lines schedule_lines
 later line lines place is first =
     let one_more : suc (place + 1) ≡ suc place + 1 = omega arith in
@@ -42,15 +38,11 @@ found_from : (lines : List (List ℕ)) (from found : ℕ) → position_from is_s
 found_from [] from found e = absurd cc
 found_from (line ∷ lines) from found e = found_by line lines from found (is_schedule_line line) refl (found_from lines (from + 1) found) e
 
-pub found_first : (lines : List (List ℕ)) (place : ℕ) → Some place ≡ position_from is_schedule_line 0 lines → IsFirst lines place
+pub found_first : (lines : List (List ℕ)) (place : ℕ) → Some place ≡ position_from is_schedule_line 0 lines → StandsAt lines place
 found_first lines place e =
     let found = found_from lines 0 place (sym e) in
     let same : found.place ≡ place = omega (arith, found.counts) in
-    subst (IsFirst lines) same found.first
-
-pub record HasNone (lines : List (List ℕ)) : Type 0 where
-  pub before : script_lines lines ≡ lines
-  pub behind : schedule_lines lines ≡ None
+    subst (StandsAt lines) same found.first
 
 none_by : (line : List ℕ) (lines : List (List ℕ)) (from : ℕ) (is : Bool) → is_schedule_line line ≡ is
     → (position_from is_schedule_line (from + 1) lines ≡ None → HasNone lines)

@@ -1,7 +1,7 @@
 -- The bytes before a line of a text: their lines are those before it.
-use Rattle.std.proofs.Common.{◌≡◌, ℕ, zero, suc, ◌+◌, ◌<◌, ◌≤◌, ◌==◌, Bool, true, false, if◌then◌else◌, List, [], ◌∷◌, ◌++◌, inl, inr, length, get_or, take, drop, refl, ap, sym, ◌∙◌, subst, arith, length-append}
+use Rattle.std.proofs.Common.{◌≡◌, ℕ, zero, suc, ◌+◌, ◌<◌, ◌≤◌, ◌==◌, Bool, true, false, if◌then◌else◌, List, [], ◌∷◌, ◌++◌, inl, inr, length, get_or, take, refl, ap, sym, ◌∙◌, subst, arith, length-append}
 use Rattle.std.specs.List.{All, slice_split, position_or_len, before_first, after_first}
-use Rattle.std.proofs.lemmas.List.Splits.{slice_split_at, slice_split_first, slice_split_none, length-slice_split}
+use Rattle.std.proofs.lemmas.List.Splits.{slice_split_at, slice_split_none, length-slice_split}
 use Rattle.std.proofs.lemmas.List.Sums.{split_at_first, fails_before_first, passes_at_first}
 use Rattle.std.proofs.lemmas.Bool.{cases_lt}
 use Rattle.std.proofs.lemmas.Grind.{common_steps}
@@ -57,9 +57,9 @@ cut : (line : List ℕ) (newline : ℕ) (text : List ℕ) (before : List (List �
 cut line newline text before without is inner = record {
   within = omega (arith, inner.within, length-append line (newline ∷ text));
   lines =
-    ap lines_of (take_line line newline text (text_length before))
-    ∙ lines_of_line line newline (take (text_length before) text) without is
-    ∙ ap (λ rest. line ∷ rest) inner.lines;
+      ap lines_of (take_line line newline text (text_length before))
+      ∙ lines_of_line line newline (take (text_length before) text) without is
+      ∙ ap (λ rest. line ∷ rest) inner.lines;
 }
 
 at_most_one : (is_empty : Bool) (line : List ℕ) → length (if is_empty then [] else line ∷ []) ≤ 1

@@ -1,4 +1,4 @@
-//! STAND-IN
+//! STAND-IN: the events of a line.
 ghost use Rattle.std.specs.Prelude.{MatchResult};
 ghost use Rattle.mk_replay.specs.Entries.{Adds, StopsAt};
 ghost use Rattle.mk_replay.specs.Schedules.{entries_of_line};
@@ -22,5 +22,5 @@ pub(crate) fn line_entries(
 ) -> Result<(), LineStop>
     ensures { MatchResult result (λ _. Adds (entries_of_line line text.now) entries.old.items entries.new.items) (StopsAt (entries_of_line line text.now)) }
 {
-    Err(LineStop::Text(TextKind::Word))
+    Err(LineStop::NoMemory)
 }

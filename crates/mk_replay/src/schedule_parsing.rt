@@ -1,8 +1,8 @@
 //! The reader of a script part and a schedule.
-ghost use Rattle.std.specs.Prelude.{◌≡◌, ◌≢◌, ◌<◌, ◌+◌, ◌^◌, length, Ok, Err, IfOk, IfErr};
-ghost use Rattle.std.specs.List.{position_from};
-ghost use Rattle.mk_script.specs.Words.{texts_of};
+ghost use Rattle.std.specs.Prelude.{◌≡◌, ◌≢◌, ◌<◌, ◌≤◌, ◌+◌, ◌^◌, length, Ok, Err, IfOk, IfErr, MatchOption};
+ghost use Rattle.mk_script.specs.Words.{lines_of, texts_of};
 ghost use Rattle.mk_replay.specs.Reading as reading;
+ghost use Rattle.mk_replay.specs.Reading.{StandsAt, HasNone};
 ghost use Rattle.mk_replay.specs.Schedules as spec;
 ghost use Rattle.mk_replay.specs.Schedules.{replay_of, entries_of_lines};
 
@@ -28,22 +28,40 @@ pub fn parse_replay(alloc: Global, bytes: &[u8]) -> Result<(Program, Schedule), 
         });
     }
     let lines = lines(alloc, bytes)?;
-    let Some(place) = schedule_place(alloc, &lines)? else {
-        parse(alloc, bytes)?;
-        return Err(TextStop::Text {
-            line: lines.len() as u64,
-            kind: TextKind::End,
-        });
-    };
-    let script = &bytes[..text_length(&lines[..place])];
-    let program = parse(alloc, script)?;
+    match schedule_place(alloc, &lines)? {
+        Some(place) => read_parts(alloc, bytes, &lines, place),
+        None => {
+            parse(alloc, bytes)?;
+            Err(TextStop::Text {
+                line: lines.len() as u64,
+                kind: TextKind::End,
+            })
+        }
+    }
+}
+
+/// The same, of a text whose schedule line stands at this place of its lines.
+fn read_parts(
+    alloc: Global,
+    bytes: &[u8],
+    lines: &[&[u8]],
+    place: usize,
+) -> Result<(Program, Schedule), TextStop>
+    requires short { length bytes.now ≤ 1048576 }
+    requires lines { texts_of lines.now ≡ lines_of bytes.now }
+    requires place { StandsAt (lines_of bytes.now) place }
+    ensures parts { IfOk result (λ parts. replay_of bytes.now ≡ Ok parts) }
+    ensures fault { IfErr result (λ stop. stop ≢ TextStop.NoMemory → replay_of bytes.now ≡ Err stop) }
+{
+    let end = text_length(&lines[..place]);
+    let program = parse(alloc, &bytes[..end])?;
     let entries = entries(alloc, place as u64 + 2, &lines[place + 1..])?;
     Ok((program, Schedule { entries }))
 }
 
 /// The place of the first line whose only word is `schedule`.
 fn schedule_place(alloc: Global, lines: &[&[u8]]) -> Result<Option<usize>, AllocError>
-    ensures { IfOk result (λ place. place ≡ position_from spec.is_schedule_line 0 (texts_of lines.now)) }
+    ensures { IfOk result (λ place. MatchOption place (HasNone (texts_of lines.now)) (StandsAt (texts_of lines.now))) }
 {
     for (place, line) in lines.iter().enumerate() {
         if is_schedule_line(alloc, line)? {
@@ -63,7 +81,7 @@ fn is_schedule_line(alloc: Global, line: &[u8]) -> Result<bool, AllocError>
     }
 }
 
-/// The length of lines of a text that another follows: each has its newline.
+/// The length of these lines of a text, each with its newline.
 fn text_length(lines: &[&[u8]]) -> usize
     requires { reading.text_length (texts_of lines.now) < 2 ^ 64 }
     ensures { result ≡ reading.text_length (texts_of lines.now) }
@@ -91,7 +109,7 @@ fn entries(alloc: Global, first: u64, lines: &[&[u8]]) -> Result<Vec<Entry>, Tex
     Ok(entries)
 }
 
-/// The same, of a text whose line of this number it is.
+/// A line's stop, as that of the text whose line of this number it is.
 fn stop_at(line: u64, stop: LineStop) -> TextStop
     ensures { result ≡ reading.stop_at line stop }
 {

@@ -1,4 +1,4 @@
-use Rattle.std.proofs.Common.{◌≡◌, ◌≢◌, ◌+◌, Err, ap, sym, ◌∙◌}
+use Rattle.std.proofs.Common.{◌≢◌, ◌+◌, Err, ap, sym, ◌∙◌}
 use Rattle.mk_script.specs.declared.faults.TextStop.TheVariants.{NoMemory}
 use Rattle.mk_replay.specs.Reading.{stop_at}
 use Rattle.mk_replay.proofs.EntriesRead.{step, stops, ends}
