@@ -1,0 +1,16 @@
+use Rattle.std.proofs.Common.{◌≡◌, ◌≤◌, ℕ, List, [], ◌∷◌, length, get_or, drop, Bor, refl, sym, ◌∙◌, arith}
+use Rattle.mk_script.specs.Words.{texts_of}
+use Rattle.mk_replay.specs.Forms.{form_of, with_table_word, among, forms_of_word}
+use Rattle.mk_replay.proofs.forms.form.Goals as goal
+
+-- more than three words
+many : (words : List (Bor (List ℕ))) (d : Bor (List ℕ)) → 4 ≤ length words
+    → form_of (texts_of words) ≡ with_table_word (among forms_of_word (get_or words 0 d).now) (texts_of (drop 1 words))
+many [] d more = absurd (omega arith)
+many (a ∷ []) d more = absurd (omega arith)
+many (a ∷ v ∷ []) d more = absurd (omega arith)
+many (a ∷ v ∷ w ∷ []) d more = absurd (omega arith)
+many (a ∷ u ∷ v ∷ w ∷ words) d more = refl
+
+pub returns-in-len1-up : goal.returns-in-len1-up
+returns-in-len1-up c = c.look.ensures ∙ sym (many c.args.words.now _ c.in-len1-up.len_at_least)
