@@ -1,3 +1,4 @@
+pub mod Entries
 pub mod Forms
 pub mod Replays
 pub mod Schedules

@@ -1,0 +1,2 @@
+pub mod FormsInTurn
+pub mod Pieces
