@@ -4,10 +4,6 @@
 /// and this is the first of the seven conditions that fails; or no memory.
 #[derive(Clone, Copy, Debug, PartialEq, Eq)]
 pub enum ReplayStop {
-    NotEnabled {
-        line: u64,
-        event: u64,
-        condition: u64,
-    },
+    NotEnabled { line: u64, event: u64, condition: u64 },
     NoMemory,
 }
