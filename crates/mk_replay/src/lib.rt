@@ -1,6 +1,7 @@
 //! Schedules: one given history of a heap, run event by event on the core.
 #![tactic(auto)]
 
+mod forms;
 mod lines;
 mod replaying;
 mod schedule;
