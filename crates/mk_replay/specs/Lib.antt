@@ -1,4 +1,6 @@
+pub mod Entries
 pub mod Forms
 pub mod Players
+pub mod Reading
 pub mod Replays
 pub mod Schedules

@@ -1,15 +1,120 @@
-//! The reader of schedules.
-ghost use Rattle.std.specs.Prelude.{◌≡◌, ◌≢◌, Ok, Err, IfOk, IfErr};
-ghost use Rattle.mk_replay.specs.Schedules.{replay_of};
+//! The reader of a script part and a schedule.
+ghost use Rattle.std.specs.Prelude.{◌≡◌, ◌≢◌, ◌<◌, ◌≤◌, ◌+◌, ◌^◌, length, Ok, Err, IfOk, IfErr, MatchOption};
+ghost use Rattle.mk_script.specs.Words.{lines_of, texts_of};
+ghost use Rattle.mk_replay.specs.Reading as reading;
+ghost use Rattle.mk_replay.specs.Reading.{StandsAt, HasNone};
+ghost use Rattle.mk_replay.specs.Schedules as spec;
+ghost use Rattle.mk_replay.specs.Schedules.{replay_of, entries_of_lines};
 
-use crate::Schedule;
-use mk_script::{Program, TextStop};
-use std::alloc::Global;
+use crate::lines::{LineStop, line_entries};
+use crate::schedule::{Entry, Schedule};
+use mk_script::{Program, TextKind, TextStop, Which, lines, parse, words};
+use std::alloc::{AllocError, Global};
 
-/// Reads a script text and its schedule.
-pub fn parse_replay(_alloc: Global, _bytes: &[u8]) -> Result<(Program, Schedule), TextStop>
-    ensures parts { IfOk result (λ parts. replay_of _bytes.now ≡ Ok parts) }
-    ensures fault { IfErr result (λ stop. stop ≢ TextStop.NoMemory → replay_of _bytes.now ≡ Err stop) }
+/// The greatest length of a text, in bytes.
+const TEXT_LIMIT: usize = 1_048_576;
+
+/// The program and the schedule of a text, or its first fault, those of the script part before those
+/// behind it. `NoMemory` says nothing of the text.
+pub fn parse_replay(alloc: Global, bytes: &[u8]) -> Result<(Program, Schedule), TextStop>
+    ensures parts { IfOk result (λ parts. replay_of bytes.now ≡ Ok parts) }
+    ensures fault { IfErr result (λ stop. stop ≢ TextStop.NoMemory → replay_of bytes.now ≡ Err stop) }
 {
-    Err(TextStop::NoMemory)
+    if bytes.len() > TEXT_LIMIT {
+        return Err(TextStop::Limit {
+            line: 0,
+            which: Which::Bytes,
+            found: 1_048_577,
+        });
+    }
+    let lines = lines(alloc, bytes)?;
+    match schedule_place(alloc, &lines)? {
+        Some(place) => read_parts(alloc, bytes, &lines, place),
+        None => {
+            parse(alloc, bytes)?;
+            Err(TextStop::Text {
+                line: lines.len() as u64,
+                kind: TextKind::End,
+            })
+        }
+    }
+}
+
+/// The same, of a text whose schedule line stands at this place of its lines.
+fn read_parts(
+    alloc: Global,
+    bytes: &[u8],
+    lines: &[&[u8]],
+    place: usize,
+) -> Result<(Program, Schedule), TextStop>
+    requires short { length bytes.now ≤ 1048576 }
+    requires lines { texts_of lines.now ≡ lines_of bytes.now }
+    requires place { StandsAt (lines_of bytes.now) place }
+    ensures parts { IfOk result (λ parts. replay_of bytes.now ≡ Ok parts) }
+    ensures fault { IfErr result (λ stop. stop ≢ TextStop.NoMemory → replay_of bytes.now ≡ Err stop) }
+{
+    let end = text_length(&lines[..place]);
+    let program = parse(alloc, &bytes[..end])?;
+    let entries = entries(alloc, place as u64 + 2, &lines[place + 1..])?;
+    Ok((program, Schedule { entries }))
+}
+
+/// The place of the first line whose only word is `schedule`.
+fn schedule_place(alloc: Global, lines: &[&[u8]]) -> Result<Option<usize>, AllocError>
+    ensures { IfOk result (λ place. MatchOption place (HasNone (texts_of lines.now)) (StandsAt (texts_of lines.now))) }
+{
+    for (place, line) in lines.iter().enumerate() {
+        if is_schedule_line(alloc, line)? {
+            return Ok(Some(place));
+        }
+    }
+    Ok(None)
+}
+
+fn is_schedule_line(alloc: Global, line: &[u8]) -> Result<bool, AllocError>
+    ensures { IfOk result (λ is. is ≡ spec.is_schedule_line line.now) }
+{
+    let words = words(alloc, line)?;
+    match words.as_slice() {
+        [word] => Ok(*word == b"schedule".as_slice()),
+        _ => Ok(false),
+    }
+}
+
+/// The length of these lines of a text, each with its newline.
+fn text_length(lines: &[&[u8]]) -> usize
+    requires { reading.text_length (texts_of lines.now) < 2 ^ 64 }
+    ensures { result ≡ reading.text_length (texts_of lines.now) }
+{
+    let mut length = 0;
+    for line in lines {
+        length += line.len() + 1;
+    }
+    length
+}
+
+/// The events of lines, the first of which has this number.
+fn entries(alloc: Global, first: u64, lines: &[&[u8]]) -> Result<Vec<Entry>, TextStop>
+    requires { first + length lines.now < 2 ^ 64 }
+    ensures entries { IfOk result (λ entries. entries_of_lines first (texts_of lines.now) ≡ Ok entries.items) }
+    ensures fault { IfErr result (λ stop. stop ≢ TextStop.NoMemory → entries_of_lines first (texts_of lines.now) ≡ Err stop) }
+{
+    let mut entries = Vec::new(alloc);
+    for (index, text) in lines.iter().enumerate() {
+        let line = first + index as u64;
+        if let Err(stop) = line_entries(alloc, line, text, &mut entries) {
+            return Err(stop_at(line, stop));
+        }
+    }
+    Ok(entries)
+}
+
+/// A line's stop, as that of the text whose line of this number it is.
+fn stop_at(line: u64, stop: LineStop) -> TextStop
+    ensures { result ≡ reading.stop_at line stop }
+{
+    match stop {
+        LineStop::Text(kind) => TextStop::Text { line, kind },
+        LineStop::NoMemory => TextStop::NoMemory,
+    }
 }

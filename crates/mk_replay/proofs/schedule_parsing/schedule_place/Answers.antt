@@ -1,0 +1,17 @@
+use Rattle.std.proofs.Common.{◌≡◌, Some, None, arith}
+use Rattle.std.specs.List.{position_from}
+use Rattle.std.proofs.lemmas.Grind.{common_steps}
+use Rattle.mk_script.specs.Words.{texts_of}
+use Rattle.mk_replay.specs.Schedules.{is_schedule_line}
+use Rattle.mk_replay.proofs.ScheduleLine.{found_first, found_none}
+use Rattle.mk_replay.proofs.schedule_parsing.schedule_place.Goals as goal
+
+pub returns-then-branch : goal.returns-then-branch
+returns-then-branch c =
+    let found : Some c.loop-place.place ≡ position_from is_schedule_line 0 (texts_of c.args.lines.now) = grind (arith, common_steps) in
+    found_first (texts_of c.args.lines.now) c.loop-place.place found
+
+pub returns : goal.returns
+returns c =
+    let found : None ≡ position_from is_schedule_line 0 (texts_of c.args.lines.now) = grind (arith, common_steps) in
+    found_none (texts_of c.args.lines.now) found

@@ -1,0 +1,9 @@
+use Rattle.std.proofs.Common.{◌≡◌, drop}
+use Rattle.std.specs.List.{position_from}
+use Rattle.mk_script.specs.Words.{texts_of}
+use Rattle.mk_replay.specs.Schedules.{is_schedule_line}
+use Rattle.mk_replay.proofs.schedule_parsing.schedule_place.Given as goal
+
+-- the lines that are left decide
+abbrev pub invariant-loop-place : goal.invariant-loop-place
+invariant-loop-place l = position_from is_schedule_line l.place (texts_of (drop l.place l.lines)) ≡ position_from is_schedule_line 0 (texts_of l.lines)

@@ -1,0 +1,7 @@
+use Rattle.std.proofs.Common.{◌≡◌, ◌+◌, drop}
+use Rattle.mk_script.specs.Words.{texts_of}
+use Rattle.mk_replay.specs.Reading.{text_length}
+use Rattle.mk_replay.proofs.schedule_parsing.text_length.Given as goal
+
+abbrev pub invariant-loop-line : goal.invariant-loop-line
+invariant-loop-line l = l.length + text_length (texts_of (drop l.line-index l.lines)) ≡ text_length (texts_of l.lines)

@@ -1,0 +1,229 @@
+//! The words of events.
+ghost use Rattle.std.specs.Prelude.{◌≡◌, ◌∷◌, [], map};
+ghost use Rattle.mk_script.specs.Words.{texts_of};
+ghost use Rattle.mk_replay.specs.Forms as spec;
+
+use crate::schedule::Form;
+use mk_core::{Seat, Tally, Word};
+use mk_script::TextKind;
+
+const PLAIN_FORMS: [(&[u8], Form); 25] = [
+    (b"enter", Form::Enter),
+    (b"leave", Form::Leave),
+    (b"reg", Form::Reg),
+    (b"probe", Form::Probe),
+    (b"read", Form::Read),
+    (b"write", Form::Write),
+    (b"cas", Form::Cas),
+    (b"getg", Form::Getg),
+    (b"setg", Form::Setg),
+    (b"take", Form::Take),
+    (b"give", Form::Give),
+    (b"grant", Form::Grant),
+    (b"full", Form::Full),
+    (b"begin", Form::Begin),
+    (b"close", Form::Close),
+    (b"release", Form::Release),
+    (b"end", Form::End),
+    (b"want", Form::Want),
+    (b"dirty", Form::Dirty),
+    (b"attend", Form::Attend),
+    (b"quit", Form::Quit),
+    (b"mload", Form::Mload),
+    (b"mmark", Form::Mmark),
+    (b"mblack", Form::Mblack),
+    (b"over", Form::Over),
+];
+
+const TALLIES: [(&[u8], Tally); 5] = [
+    (b"held", Tally::Held),
+    (b"fresh", Tally::Fresh),
+    (b"cycles", Tally::Cycles),
+    (b"released", Tally::Released),
+    (b"full", Tally::Full),
+];
+
+const PLAIN_WORDS: [(&[u8], Word); 6] = [
+    (b"phase", Word::Phase),
+    (b"held", Word::Held),
+    (b"fresh", Word::Fresh),
+    (b"cycles", Word::Cycles),
+    (b"released", Word::Released),
+    (b"full", Word::Full),
+];
+
+/// The form of an event, by its words.
+pub(crate) fn form(words: &[&[u8]]) -> Result<Form, TextKind>
+    ensures { result ≡ spec.form_of (texts_of words.now) }
+{
+    match words {
+        [] => Err(TextKind::Word),
+        [name] => listed(&PLAIN_FORMS, name),
+        [name, operand] => one_operand(name, operand),
+        [name, first, second] => two_operands(name, first, second),
+        [name, operands @ ..] => look(name, operands),
+    }
+}
+
+/// A seat, by its word.
+pub(crate) fn seat(word: &[u8]) -> Result<Seat, TextKind>
+    ensures { result ≡ spec.seat_of word.now }
+{
+    match word {
+        [b'c', digits @ ..] => Ok(Seat::Caller(number(digits)?)),
+        [b'm', digits @ ..] => Ok(Seat::Marker(number(digits)?)),
+        [b'h'] => Ok(Seat::Host),
+        _ => Err(TextKind::Word),
+    }
+}
+
+fn number(word: &[u8]) -> Result<u64, TextKind>
+    ensures { result ≡ spec.number word.now }
+{
+    mk_script::number(word).ok_or(TextKind::Number)
+}
+
+/// The value that the word is listed with.
+fn listed<T: Copy>(table: &[(&[u8], T)], word: &[u8]) -> Result<T, TextKind>
+    ensures { result ≡ spec.or_word (spec.among (map (λ entry. (entry.0.now, entry.1)) table.now) word.now) }
+{
+    for (name, value) in table {
+        if word == *name {
+            return Ok(*value);
+        }
+    }
+    Err(TextKind::Word)
+}
+
+/// An event of one word behind its name.
+fn one_operand(name: &[u8], operand: &[u8]) -> Result<Form, TextKind>
+    ensures { result ≡ spec.one_operand name.now operand.now }
+{
+    if name == b"hold".as_slice() {
+        Ok(Form::Hold(number(operand)?))
+    } else if name == b"open".as_slice() {
+        Ok(Form::Open(number(operand)?))
+    } else if name == b"clear".as_slice() {
+        Ok(Form::Clear(number(operand)?))
+    } else if name == b"wipe".as_slice() {
+        Ok(Form::Wipe(number(operand)?))
+    } else if name == b"undirty".as_slice() {
+        Ok(Form::Undirty(number(operand)?))
+    } else if name == b"unblack".as_slice() {
+        Ok(Form::Unblack(number(operand)?))
+    } else {
+        look(name, &[operand])
+    }
+}
+
+/// An event of two words behind its name.
+fn two_operands(name: &[u8], first: &[u8], second: &[u8]) -> Result<Form, TextKind>
+    ensures { result ≡ spec.two_operands name.now first.now second.now }
+{
+    if name == b"tally".as_slice() {
+        tally_form(first, second)
+    } else if name == b"head".as_slice() {
+        Ok(Form::Head {
+            page: number(first)?,
+            value: number(second)?,
+        })
+    } else if name == b"used".as_slice() {
+        Ok(Form::Used {
+            page: number(first)?,
+            value: number(second)?,
+        })
+    } else if name == b"quar".as_slice() {
+        Ok(Form::Quar {
+            page: number(first)?,
+            value: number(second)?,
+        })
+    } else if name == b"mark".as_slice() {
+        Ok(Form::Mark {
+            page: number(first)?,
+            value: number(second)?,
+        })
+    } else if name == b"black".as_slice() {
+        Ok(Form::Black {
+            page: number(first)?,
+            value: number(second)?,
+        })
+    } else if name == b"claim".as_slice() {
+        Ok(Form::Claim {
+            page: number(first)?,
+            cell: number(second)?,
+        })
+    } else {
+        look(name, &[first, second])
+    }
+}
+
+fn tally_form(name: &[u8], operand: &[u8]) -> Result<Form, TextKind>
+    ensures { result ≡ spec.tally_form name.now operand.now }
+{
+    let tally = listed(&TALLIES, name)?;
+    let value = number(operand)?;
+    Ok(Form::Tally { tally, value })
+}
+
+/// An event that looks at a word of the table.
+fn look(name: &[u8], operands: &[&[u8]]) -> Result<Form, TextKind>
+    ensures { result ≡ spec.with_table_word (spec.among spec.forms_of_word name.now) (texts_of operands.now) }
+{
+    if name == b"look".as_slice() {
+        Ok(Form::Look(table_word(operands)?))
+    } else if name == b"mlook".as_slice() {
+        Ok(Form::Mlook(table_word(operands)?))
+    } else {
+        Err(TextKind::Word)
+    }
+}
+
+/// A word of the table, by its words.
+fn table_word(words: &[&[u8]]) -> Result<Word, TextKind>
+    ensures { result ≡ spec.table_word (texts_of words.now) }
+{
+    match words {
+        [name] => listed(&PLAIN_WORDS, name),
+        [name, operand] => word_of_number(name, operand),
+        [name, caller, register] => register_word(name, caller, register),
+        _ => Err(TextKind::Word),
+    }
+}
+
+fn register_word(name: &[u8], caller: &[u8], register: &[u8]) -> Result<Word, TextKind>
+    ensures { result ≡ spec.table_word (name.now ∷ caller.now ∷ register.now ∷ []) }
+{
+    if name != b"reg".as_slice() {
+        return Err(TextKind::Word);
+    }
+    let caller = number(caller)?;
+    let register = number(register)?;
+    Ok(Word::Reg { caller, register })
+}
+
+/// A word of the table with one number behind its name.
+fn word_of_number(name: &[u8], operand: &[u8]) -> Result<Word, TextKind>
+    ensures { result ≡ spec.with_number (spec.among spec.words_of_number name.now) operand.now }
+{
+    if name == b"gate".as_slice() {
+        Ok(Word::Gate(number(operand)?))
+    } else if name == b"global".as_slice() {
+        Ok(Word::Global(number(operand)?))
+    } else if name == b"head".as_slice() {
+        Ok(Word::Head(number(operand)?))
+    } else if name == b"used".as_slice() {
+        Ok(Word::Used(number(operand)?))
+    } else if name == b"quar".as_slice() {
+        Ok(Word::Quar(number(operand)?))
+    } else if name == b"mark".as_slice() {
+        Ok(Word::Mark(number(operand)?))
+    } else if name == b"black".as_slice() {
+        Ok(Word::Black(number(operand)?))
+    } else if name == b"dirty".as_slice() {
+        Ok(Word::Dirty(number(operand)?))
+    } else if name == b"heap".as_slice() {
+        Ok(Word::Heap(number(operand)?))
+    } else {
+        Err(TextKind::Word)
+    }
+}
