@@ -1,5 +1,5 @@
 -- What a command writes on an input, and the status that it ends with where nothing fails.
-use Rattle.std.specs.Prelude.{◌≡◌, ℕ, List, [], Bool, true, false, if◌then◌else◌, Option, Some, None, IfSome, Ok as Accepted, Err as Refused, ◌⊎◌}
+use Rattle.std.specs.Prelude.{◌≡◌, ℕ, List, [], if◌then◌else◌, Option, Some, None, IfSome, Ok as Accepted, Err as Refused, ◌⊎◌}
 use Rattle.std.specs.declared.result.Result.{Result}
 use lib.Chars.{codes}
 use Rattle.mk_script.specs.declared.items.Item.{Item}
