@@ -1,5 +1,5 @@
-//! What no clause can say is right: events that come next and their answers, and events that are
-//! refused with the condition that they fail. Each is worked out by hand.
+//! Whether the definitions say what is meant: schedules with their answers, and events with the
+//! condition that refuses them, all worked out by hand.
 ghost use Rattle.std.specs.Prelude.{◌≡◌, ◌≤◌, [], ◌∷◌, length, All, IfOk};
 ghost use Rattle.mk_core.specs.Config.{IsBetween, IsTypeAmong};
 ghost use Rattle.mk_never.specs.declared.types.Kind.TheVariants.{Num, To};
@@ -131,23 +131,28 @@ const M1: Seat = Seat::Marker(1);
 
 const HOST: Seat = Seat::Host;
 
-/// Header words: a block of objects of two words, and a leaf block of objects of 32.
+/// The header word of a block of objects of two words.
 const PAIRS: u64 = 1;
 
+/// That of a leaf block of objects of 32 words.
 const NUMBERS: u64 = 13 + 16 * 7;
 
-/// Header words of a run of two pages: its head, leaf or not, and its later page.
+/// That of the head page of a run of two pages.
 const RUN: u64 = 9 + 16 * 2;
 
+/// That of the head page of such a leaf run.
 const LEAF_RUN: u64 = 14 + 16 * 2;
 
+/// That of the later page of both.
 const LATER: u64 = 10 + 16;
 
-/// The same, once the run is unmapped.
+/// That of the head page of such a run, once it is unmapped.
 const UNMAPPED: u64 = 11 + 16 * 2;
 
+/// That of its later page.
 const UNMAPPED_LATER: u64 = 12 + 16;
 
+/// A seat, steps that it makes, and steps that are then refused it.
 #[derive(Clone, Copy)]
 struct Row<'a> {
     seat: Seat,

@@ -22,15 +22,17 @@ fn heap(alloc: Global, pages: u64, callers: u64) -> Result<Core, NoMemory>
 /// The first step of each sort of call.
 const STARTS: &[Step] = steps![clear!(0); new!(0, 0); free!(0)];
 
-/// The other kinds of callers, of the turn's holder and of markers.
+/// The kinds that follow in a call without the turn.
 const CALLS: &[Step] = steps![Leave; Reg; Probe; Read; Write; Cas; Getg; Setg; Dirty];
 
+/// The kinds of the turn's holder.
 const TURNS: &[Step] = steps![
     Give; Look(Word::Phase); head!(0, PAIRS); used!(0, 1); quar!(0, 1, 0); Grant; held!(0); Hold(1);
     Open(1); Clear(0); mark!(0, 1); Wipe(0); Full; Begin; Close; Release; End; Want; Undirty(0);
     black!(0, 1); Unblack(0)
 ];
 
+/// The kinds of markers.
 const MARKS: &[Step] = steps![Attend; Quit; Mlook(Word::Phase); claim!(0, 0); Mload; Mmark; Mblack];
 
 #[test]

@@ -34,6 +34,7 @@ const FREED: &[Row] = rows![
     [C0: free!(1); Reg; quar!(0, 3, 1); fresh!(32); Give =>]
 ];
 
+/// No register points to either, and the cycle releases.
 const CLEARED: &[Row] = rows![
     [C0: clear!(0); Reg; Leave =>]
     [C0: clear!(1); Reg; Leave =>]
@@ -84,18 +85,20 @@ fn a_page_that_is_made_in_a_cycle_is_marked_first(rt: HostRuntime) -> Result<(),
     Ok(())
 }
 
-/// Three objects. The second points to the third, which has a number.
+/// Three objects.
 const THREE: &[Row] = rows![
     [C0: new!(0, 0); head!(0, PAIRS); used!(0, 1); Grant; held!(2); Give =>]
     [C0: new!(1, 0); used!(0, 3); Grant; held!(4); Give =>]
     [C0: new!(2, 0); used!(0, 7); Grant; held!(6); Give =>]
 ];
 
+/// The second points to the third.
 const POINTER: &[Row] = rows![[C0: set_ptr!(1, 0, 2); Reg; Reg; Probe; Write; Dirty; Leave =>]];
 
+/// The third has a number.
 const NUMBER: &[Row] = rows![[C0: set_num!(2, 1, 7); Reg; Probe; Write; Dirty; Leave =>]];
 
-/// The third is freed and a cycle begins. A marker blackens the first.
+/// The third is freed, and a cycle begins. A marker makes the first black.
 const BEGUN: &[Row] = rows![
     [C0: free!(2); Reg; quar!(0, 4, 0); Undirty(0); quar!(0, 4, 4); Begin; Look(reg!(0, 0));
         mark!(0, 1); Give =>]
@@ -113,6 +116,7 @@ const MOVED: &[Row] = rows![
     [C0: clear!(2); Reg; Leave =>]
 ];
 
+/// All is stopped, and is to be closed.
 const STOP: &[Row] = rows![[HOST: Take(None); Hold(0); Want =>]];
 
 const STOPPED: &[&[Row]] = &[THREE, POINTER, NUMBER, BEGUN, QUIT, MOVED, STOP];
