@@ -1,5 +1,5 @@
 -- A text of a script part and a schedule: its program and the events, or its first fault.
-use Rattle.std.specs.Prelude.{ℕ, ◌+◌, Bool, true, false, ◌&&◌, nat_le, ◌==◌, if◌then◌else◌, List, [], ◌∷◌, ◌++◌, length, map, Option, Some, None, Ok, Err}
+use Rattle.std.specs.Prelude.{ℕ, ◌+◌, Bool, false, ◌&&◌, nat_le, ◌==◌, if◌then◌else◌, List, [], ◌∷◌, ◌++◌, length, map, Option, Some, None, Ok, Err}
 use Rattle.std.specs.declared.result.Result.{Result}
 use Rattle.std.specs.Str.{bytes_eq}
 use lib.Chars.{codes}
@@ -14,7 +14,7 @@ use Rattle.mk_script.specs.Grammar.{items_of_lines}
 use Rattle.mk_core.specs.declared.events.Seat.{Seat}
 use Rattle.mk_replay.specs.declared.schedule.Form.{Form}
 use Rattle.mk_replay.specs.declared.schedule.Entry.{Entry}
-use Rattle.mk_replay.specs.Forms.{both, on_ok, form_of, seat_of}
+use Rattle.mk_replay.specs.Forms.{both, form_of, seat_of}
 
 -- a byte in front of the first piece
 abbrev pub in_front : ℕ → List (List ℕ) → List (List ℕ)
