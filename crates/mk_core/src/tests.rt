@@ -63,6 +63,12 @@ macro_rules! set_num {
     };
 }
 
+macro_rules! cas {
+    ($q:expr, $i:expr, $p:expr, $r:expr) => {
+        Enter(Op::CasPtr { q: $q, i: $i, p: $p, r: $r })
+    };
+}
+
 macro_rules! head {
     ($page:expr, $value:expr) => {
         Head { page: $page, value: $value }
@@ -237,4 +243,18 @@ fn pair(alloc: Global) -> Result<Vec<Kind>, NoMemory>
     [Kind::To { ty: 0, offset: 0 }, Kind::Num]
         .to_vec(alloc)
         .map_err(|_| NoMemory)
+}
+
+/// Types 0 to 3: a pointer and a number, 32 numbers, 65 numbers, and 65 pointers.
+fn heap(alloc: Global, pages: u64, callers: u64) -> Result<Core, NoMemory>
+    requires pages { IsBetween 1 4096 pages }
+    requires callers { IsBetween 1 16 callers }
+{
+    let to = Kind::To { ty: 0, offset: 0 };
+    let mut types = TypeTable::new(alloc);
+    types.add(pair(alloc)?)?;
+    types.add(all(alloc, Kind::Num, 32)?)?;
+    types.add(all(alloc, Kind::Num, 65)?)?;
+    types.add(all(alloc, to, 65)?)?;
+    started(alloc, pages, callers, types)
 }

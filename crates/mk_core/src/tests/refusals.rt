@@ -1,23 +1,7 @@
 //! Events that are refused, by the first of the seven conditions that they fail.
-ghost use Rattle.mk_core.specs.Config.{IsBetween};
 
 use super::*;
-use mk_never::NoMemory;
 use std::test::Fail;
-
-/// Types 0 to 3: a pointer and a number, 32 numbers, 65 numbers, and 65 pointers.
-fn heap(alloc: Global, pages: u64, callers: u64) -> Result<Core, NoMemory>
-    requires pages { IsBetween 1 4096 pages }
-    requires callers { IsBetween 1 16 callers }
-{
-    let to = Kind::To { ty: 0, offset: 0 };
-    let mut types = TypeTable::new(alloc);
-    types.add(pair(alloc)?)?;
-    types.add(all(alloc, Kind::Num, 32)?)?;
-    types.add(all(alloc, Kind::Num, 65)?)?;
-    types.add(all(alloc, to, 65)?)?;
-    started(alloc, pages, callers, types)
-}
 
 /// The first step of each sort of call.
 const STARTS: &[Step] = steps![clear!(0); new!(0, 0); free!(0)];
@@ -103,8 +87,8 @@ fn steps_come_in_the_order_of_their_call(rt: HostRuntime) -> Result<(), Fail> {
 #[test]
 fn numbers_are_in_range(rt: HostRuntime) -> Result<(), Fail> {
     const ROWS: &[Row] = rows![
-        [C0: => get_num!(8, 0); set_ptr!(0, 0, 8); Enter(Op::CasPtr { q: 0, i: 0, p: 0, r: 8 });
-            clear!(8); Enter(Op::GetGlobal { d: 0, g: 64 }); new!(8, 0); new!(0, 4); free!(8)]
+        [C0: => get_num!(8, 0); set_ptr!(0, 0, 8); cas!(0, 0, 0, 8); clear!(8);
+            Enter(Op::GetGlobal { d: 0, g: 64 }); new!(8, 0); new!(0, 4); free!(8)]
         [HOST: Take(None) => Look(Word::Gate(2)); Look(reg!(2, 0)); Look(reg!(0, 8));
             Look(Word::Global(64)); Look(Word::Head(3)); Look(Word::Used(3)); Look(Word::Quar(3));
             Look(Word::Mark(3)); Look(Word::Black(3)); Look(Word::Dirty(3)); Look(Word::Heap(192))]
@@ -303,11 +287,16 @@ fn full_comes_behind_a_cycle_of_its_own(rt: HostRuntime) -> Result<(), Fail> {
         [C0: Clear(0) => Begin]
         [C0: Unblack(0); Begin; Look(reg!(0, 0)); mark!(0, 1); Look(reg!(0, 1)); mark!(0, 2);
             Want =>]
-        [C0: black!(0, 1); black!(0, 2); Close; Release; End; Full; Unblack(0) => Begin]
+    ];
+    const END: &[Step] = steps![black!(0, 1); black!(0, 2); Close; Release; End; Full];
+    const DECIDED: &[Row] = rows![
+        [C0: Unblack(0) => Begin]
         [C0: Give =>]
     ];
     let mut core = heap(rt.alloc(), 1, 1)?;
     assert_eq!(rt; walk(&mut core, 7, ROWS), None);
+    assert_eq!(rt; run(&mut core, C0, END), Ok(Some(Answer::Full)));
+    assert_eq!(rt; walk(&mut core, 7, DECIDED), None);
     Ok(())
 }
 

@@ -1,8 +1,58 @@
-//! Worked schedules of one cycle or two, and what makes them go wrong.
+//! What calls answer, and worked schedules of one cycle or two with what makes them go wrong.
 
 use super::*;
-use mk_never::NoMemory;
 use std::test::Fail;
+
+/// Calls, each `[steps => answer]`.
+macro_rules! answers {
+    ($([$($step:expr);* => $answer:expr])*) => { &[$((&[$($step),*], $answer)),*] };
+}
+
+#[test]
+fn calls_answer_what_they_find(rt: HostRuntime) -> Result<(), Fail> {
+    // Register 0 points to an object, 1 to a freed run, and the others are null.
+    const MADE: &[Row] = rows![
+        [C0: new!(0, 0); head!(0, PAIRS); used!(0, 1); Grant; held!(2); Give =>]
+        [C0: new!(1, 2); head!(1, LEAF_RUN); head!(2, LATER); used!(1, 1); Grant; held!(130);
+            Give =>]
+        [C0: free!(1); Reg; quar!(1, 1, 0); head!(1, UNMAPPED); head!(2, UNMAPPED_LATER); held!(2);
+            Give =>]
+    ];
+    const CALLS: &[(&[Step], Answer)] = answers![
+        [set_num!(0, 1, 5); Reg; Probe; Write; Dirty; Leave => Answer::Done]
+        [get_num!(0, 1); Reg; Probe; Read; Leave => Answer::Num(5)]
+        [get_num!(1, 64); Reg; Probe; Leave => Answer::Fault]
+        [set_ptr!(1, 0, 0); Reg; Reg; Probe; Leave => Answer::Fault]
+        [get_num!(2, 0); Reg; Leave => Answer::Null]
+        [Enter(Op::Lea { d: 3, q: 0, i: 1 }); Reg; Reg; Leave => Answer::Done]
+        [get_num!(3, 0); Reg; Probe; Read; Leave => Answer::Num(5)]
+        [Enter(Op::Same { p: 3, q: 0 }); Reg; Reg; Leave => Answer::Num(0)]
+        [Enter(Op::Move { d: 4, q: 0 }); Reg; Reg; Leave => Answer::Done]
+        [Enter(Op::Same { p: 4, q: 0 }); Reg; Reg; Leave => Answer::Num(1)]
+        // What can't be loaded or reached leaves null.
+        [get_ptr!(4, 1, 0); Reg; Probe; Reg; Leave => Answer::Fault]
+        [Enter(Op::IsNull { p: 4 }); Reg; Leave => Answer::Num(1)]
+        [Enter(Op::Lea { d: 5, q: 0, i: 0 }); Reg; Reg; Leave => Answer::Done]
+        [Enter(Op::Lea { d: 5, q: 2, i: 1 }); Reg; Reg; Leave => Answer::Null]
+        [Enter(Op::IsNull { p: 5 }); Reg; Leave => Answer::Num(1)]
+        [cas!(0, 0, 2, 0); Reg; Reg; Reg; Probe; Cas; Dirty; Leave => Answer::Num(1)]
+        [cas!(0, 0, 2, 3); Reg; Reg; Reg; Probe; Cas; Dirty; Leave => Answer::Num(0)]
+        [get_ptr!(5, 0, 0); Reg; Probe; Read; Reg; Leave => Answer::Word(65536)]
+        [Enter(Op::SetGlobal { g: 7, p: 5 }); Reg; Setg; Leave => Answer::Done]
+        [Enter(Op::GetGlobal { d: 6, g: 7 }); Getg; Reg; Leave => Answer::Word(65536)]
+        [Enter(Op::IsNull { p: 6 }); Reg; Leave => Answer::Num(0)]
+        [clear!(6); Reg; Leave => Answer::Done]
+        [Enter(Op::IsNull { p: 6 }); Reg; Leave => Answer::Num(1)]
+        [free!(1); Reg; Look(Word::Quar(1)); Give => Answer::Double]
+        [free!(6); Reg; Give => Answer::Done]
+    ];
+    let mut core = heap(rt.alloc(), 3, 1)?;
+    assert_eq!(rt; walk(&mut core, 7, MADE), None);
+    for &(steps, answer) in CALLS {
+        assert_eq!(rt; run(&mut core, C0, steps), Ok(Some(answer)), "{steps:?}");
+    }
+    Ok(())
+}
 
 /// A page, and objects of 32 numbers.
 fn numbers(alloc: Global) -> Result<Core, NoMemory> {
