@@ -12,7 +12,7 @@ use Rattle.mk_core.specs.declared.seats.Presence.TheVariants.{Attending}
 use Rattle.mk_core.specs.Words.{Words, header_at, used_at}
 use Rattle.mk_core.specs.Tests.{all_below, without}
 use Rattle.mk_core.specs.Cells.{header_in, head_page, cells_under, cell_bits, has_no_pointers, pointed_cell, is_marked, points_well, words_point_well, none_is_released}
-use Rattle.mk_core.specs.NewPlaces.{object_made, is_small_object, bits_made}
+use Rattle.mk_core.specs.NewPlaces.{object_made, bits_made}
 use Rattle.mk_core.specs.TurnConditions.{place_now}
 use Rattle.mk_core.specs.Moments.{Moment, is_phase}
 
@@ -32,12 +32,11 @@ abbrev pub marks_by_hand : ℕ → Words → Option Hand → ℕ → ℕ → Boo
 marks_by_hand pages w None page value = false
 marks_by_hand pages w (Some hand) page value = is_bit_of (pointed_cell pages w hand.value) page value
 
--- `mark` (b): the bits of the cells that the place's page gets. A block's page has no header yet.
+-- `mark` (b): the bits of the cells that the place's first page gets, which has no header yet.
 abbrev pub marks_place : Config → Moment → Flight → Option Place → ℕ → ℕ → Bool
 marks_place c m f None page value = false
 marks_place c m f (Some place) page value =
-    is_phase m.words 1 && (page == place.page) && (value == bits_made (object_made c f.op))
-    && (not (is_small_object (object_made c f.op)) || (header_at m.words page == 0))
+    is_phase m.words 1 && (page == place.page) && (header_at m.words page == 0) && (value == bits_made (object_made c f.op))
 
 abbrev pub may_mark : Config → Moment → Flight → ℕ → ℕ → Bool
 may_mark c m f page value =

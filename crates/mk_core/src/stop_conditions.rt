@@ -8,7 +8,7 @@ ghost use Rattle.mk_core.specs.StopConditions.{is_attending, none_attends, is_bi
 ghost use Rattle.mk_core.specs.TurnConditions.{place_now};
 
 use crate::cells::{cells_under, has_no_pointers, is_bit, without};
-use crate::placing::{bits_made, is_small};
+use crate::placing::bits_made;
 use crate::table::Table;
 use crate::{Core, Flight, Marker, Presence};
 use mk_geom::Cell;
@@ -163,18 +163,18 @@ impl Core {
         }
     }
 
-    /// Whether the value is the bits of the cells that the page of the place of a `New` gets.
+    /// Whether the value is the bits of the cells that the first page of the place of a `New` gets, and the
+    /// page has no header yet.
     pub(crate) fn marks_place(&self, flight: Flight, page: u64, value: u64) -> bool
         ensures { result ≡ marks_place self.now.config self.now.now flight (place_now self.now.config self.now.now flight) page value }
     {
         let Some(place) = self.place_now(flight) else {
             return false;
         };
-        let object = self.object_made(flight.op);
         self.table.phase() == 1
             && page == place.page
-            && value == bits_made(object)
-            && (!is_small(object) || self.table.header(page) == 0)
+            && self.table.header(page) == 0
+            && value == bits_made(self.object_made(flight.op))
     }
 
     pub(crate) fn may_mark(&self, flight: Flight, page: u64, value: u64) -> bool
