@@ -6,6 +6,14 @@ use Rattle.mk_geom.specs.declared.headers.Header.TheVariants.{Free, Block, Run, 
 use Rattle.mk_geom.specs.Classes.{class_words_of, cells_of}
 use Rattle.mk_geom.specs.Headers.{header_of}
 
+-- the address of a heap word
+abbrev pub address_of : ℕ → ℕ
+address_of word = 65536 + 8 * word
+
+-- the heap word that an address is in, in whole numbers
+abbrev pub heap_word_at : ℕ → ℕ
+heap_word_at address = (address - 65536) / 8
+
 -- inside a heap of so many pages
 abbrev pub is_heap_address : ℕ → ℕ → Bool
 is_heap_address pages address = nat_le 65536 address && nat_lt address (65536 + 512 * pages)

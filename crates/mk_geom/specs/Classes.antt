@@ -1,5 +1,5 @@
 -- The sizes of objects: the classes of the small ones, and the pages of the large ones. A page has 64 words.
-use Rattle.std.specs.Prelude.{ℕ, ◌+◌, ◌/◌, Option, None, List, [], ◌∷◌, nat_le, ◌==◌, slice_index, position, if◌then◌else◌}
+use Rattle.std.specs.Prelude.{ℕ, ◌+◌, ◌/◌, Bool, Option, None, List, [], ◌∷◌, nat_le, ◌==◌, slice_index, position, if◌then◌else◌}
 
 -- the words of a cell, by class
 abbrev pub class_sizes : List ℕ
@@ -11,6 +11,10 @@ class_words_of class = slice_index class_sizes class
 -- the cells of a block, which is one page: no cell is cut off by its end
 abbrev pub cells_of : ℕ → ℕ
 cells_of class = 64 / class_words_of class
+
+-- An object of so many words is small: it takes a cell, and a large one whole pages.
+abbrev pub is_small_size : ℕ → Bool
+is_small_size words = nat_le words 32
 
 -- the least class whose cells hold so many words
 abbrev pub class_for : ℕ → Option ℕ

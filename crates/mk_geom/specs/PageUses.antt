@@ -1,9 +1,9 @@
 -- What stands on the pages of a heap, where an object goes by first fit, and the counts.
-use Rattle.std.specs.Prelude.{ℕ, ◌+◌, max, Bool, true, false, not, ◌&&◌, ◌==◌, nat_le, nat_lt, if◌then◌else◌, List, [], ◌∷◌, ◌++◌, map, sum_by, count_by, Option, Some, None, option_map, option_and_then}
+use Rattle.std.specs.Prelude.{ℕ, ◌+◌, ◌*◌, max, Bool, true, false, not, ◌&&◌, ◌==◌, nat_le, nat_lt, if◌then◌else◌, List, [], ◌∷◌, ◌++◌, map, sum_by, count_by, Option, Some, None, option_map, option_and_then}
 use Rattle.std.specs.List.{range_with_len}
 use Rattle.mk_geom.specs.declared.pages.Place.{Place}
 use Rattle.mk_geom.specs.declared.pages.Census.{Census}
-use Rattle.mk_geom.specs.Classes.{class_for, run_pages_of}
+use Rattle.mk_geom.specs.Classes.{class_for, class_words_of, is_small_size, run_pages_of}
 
 -- What stands on a page: nothing, cells of one class and sort, of which these are taken, or a part of a run.
 pub data PageUse : Type 0 where
@@ -83,13 +83,22 @@ large_place limit count pages =
 -- First fit: where an object of so many words goes, leaf or not, where so many pages may be resident.
 abbrev pub place_among : ℕ → ℕ → Bool → List PageUse → Option Place
 place_among limit words leaf pages =
-    if nat_le words 32
+    if is_small_size words
     then option_and_then (λ class. small_place limit class leaf pages) (class_for words)
     else large_place limit (run_pages_of words) pages
 
 abbrev pub longest_free_range : List PageUse → ℕ
 longest_free_range [] = 0
 longest_free_range (page ∷ pages) = max (free_range (page ∷ pages)) (longest_free_range pages)
+
+-- the words of the cells that are taken, or of a page of a mapped run
+abbrev pub words_held_by : PageUse → ℕ
+words_held_by Nothing = 0
+words_held_by (Cells class leaf taken) = class_words_of class * count_by (λ cell. cell) taken
+words_held_by (PartOfRun mapped) = if mapped then 64 else 0
+
+abbrev pub words_held_among : List PageUse → ℕ
+words_held_among pages = sum_by words_held_by pages
 
 abbrev pub free_cells_among : Bool → List PageUse → ℕ → ℕ
 free_cells_among leaf pages class = sum_by (λ page. count_by not (cells_taken class leaf page)) pages

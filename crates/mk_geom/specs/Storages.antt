@@ -6,7 +6,7 @@ use Rattle.mk_geom.specs.declared.pages.Place.{Place}
 use Rattle.mk_geom.specs.declared.pages.Census.{Census}
 use Rattle.mk_geom.specs.declared.headers.Header.{Header}
 use Rattle.mk_geom.specs.declared.headers.Header.TheVariants.{Block, Run, Later, LeafBlock, LeafRun}
-use Rattle.mk_geom.specs.Classes.{class_for, class_words_of, cells_of}
+use Rattle.mk_geom.specs.Classes.{class_for, class_words_of, cells_of, is_small_size}
 use Rattle.mk_geom.specs.Headers.{word_of}
 use Rattle.mk_geom.specs.PageUses.{PageUse, Nothing, Cells, PartOfRun, place_among, census_among}
 
@@ -19,7 +19,7 @@ pub record Storage : Type 0 where
   pub leaf : Bool
 
 abbrev pub is_small : Storage → Bool
-is_small s = nat_le s.words 32
+is_small s = is_small_size s.words
 
 -- the page that it begins on, and the one that it ends on
 abbrev pub first_page : Storage → ℕ
