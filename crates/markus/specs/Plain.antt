@@ -4,7 +4,7 @@ use Rattle.mk_never.specs.declared.operations.Op.{Op}
 use Rattle.mk_never.specs.declared.operations.Op.TheVariants.{New, GetNum, SetNum}
 use Rattle.mk_core.specs.declared.events.Answer.{Answer}
 use Rattle.mk_core.specs.declared.events.Answer.TheVariants.{Done, Num as Number, Full, Fault, Null}
-use Rattle.mk_core.specs.Image.{address_of}
+use Rattle.mk_geom.specs.Addresses.{address_of}
 
 -- the heap's words, the words of an object, the words granted so far, and the one pointer register
 pub record PlainHeap : Type 0 where

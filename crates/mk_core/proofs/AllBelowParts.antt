@@ -1,7 +1,7 @@
 -- Tests of each number below a sum.
 use Rattle.std.proofs.Common.{◌≡◌, ℕ, zero, suc, ◌+◌, ◌-◌, ◌≤◌, Bool, false, ◌&&◌, refl, sym, ◌∙◌, ap, arith, add-suc}
 use Rattle.std.proofs.Math.Bool.{and_assoc, and-false, and-true}
-use Rattle.mk_core.specs.Tests.{all_below}
+use Rattle.mk_core.specs.Bounded.{all_below}
 
 -- so many, and so many behind them
 pub all_below-add : (a b : ℕ) (test : ℕ → Bool) → all_below (a + b) test ≡ (all_below a test && all_below b (λ i. test (a + i)))

@@ -1,24 +1,20 @@
 -- What each condition says of an enabled event.
 use Rattle.std.proofs.Common.{◌≡◌, ℕ, Bool, true, false, refl, subst, arith}
-use Rattle.std.specs.Prelude.{if◌then◌else◌}
+use Rattle.std.specs.Prelude.{◌&&◌, if◌then◌else◌}
 use Rattle.mk_core.specs.declared.config.Config.{Config}
 use Rattle.mk_core.specs.declared.events.Event.{Event}
 use Rattle.mk_core.specs.Words.{phase_of}
-use Rattle.mk_core.specs.Moments.{Moment, flight_of, marker_of}
+use Rattle.mk_core.specs.Moments.{Moment, flight_of, marker_of, marker_at}
 use Rattle.mk_core.specs.Order.{seat_exists, group_of, is_open_to, is_in_order}
 use Rattle.mk_core.specs.Ranges.{is_in_range, has_gates, has_phase}
 use Rattle.mk_core.specs.declared.events.Seat.{Seat}
 use Rattle.mk_core.specs.declared.events.Seat.TheVariants as seat
-use Rattle.mk_core.specs.Enabled.{marker_may, meets_own, IsEnabled}
+use Rattle.mk_core.specs.Enabled.{marker_may, holder_may, meets_own, IsEnabled, MeetsAll, EnabledEventsMeetAll}
 
-pub record MeetsAll (c : Config) (m : Moment) (e : Event) : Type 0 where
-  pub seat : seat_exists c e.seat ≡ true
-  pub kind : is_open_to e.seat (group_of e.step) ≡ true
-  pub order : is_in_order c m e.seat e.step ≡ true
-  pub range : is_in_range c e.seat (flight_of m e.seat) e.step ≡ true
-  pub gates : has_gates c m.words e.seat (flight_of m e.seat) e.step ≡ true
-  pub phase : has_phase (phase_of m.words) e.step ≡ true
-  pub own : meets_own c m e.seat e.step ≡ true
+and_parts : (a b : Bool) → (a && b) ≡ true → (a ≡ true) × (b ≡ true)
+and_parts true true h = (refl, refl)
+and_parts true false h = cc
+and_parts false b h = cc
 
 all_hold : (a b c d e f g : Bool)
     → ◌≡◌ {A = ℕ} (if a then (if b then (if c then (if d then (if e then (if f then (if g then 0 else 7) else 6) else 5) else 4) else 3) else 2) else 1) 0
@@ -36,9 +32,15 @@ pub enabled_meets : (c : Config) (m : Moment) (e : Event) → IsEnabled c m e �
 enabled_meets c m e h =
     let all = all_hold (seat_exists c e.seat) (is_open_to e.seat (group_of e.step)) (is_in_order c m e.seat e.step) (is_in_range c e.seat (flight_of m e.seat) e.step)
     (has_gates c m.words e.seat (flight_of m e.seat) e.step) (has_phase (phase_of m.words) e.step) (meets_own c m e.seat e.step) h in
-    record { seat = all.0; kind = all.1; order = all.2; range = all.3; gates = all.4; phase = all.5; own = all.6 }
+    let own = and_parts (marker_may c (marker_at m e.seat) e.step) (holder_may c m (flight_of m e.seat) e.step) all.6 in
+    record { seat = all.0; kind = all.1; order = all.2; range = all.3; gates = all.4; phase = all.5; marker = own.0; holder = own.1 }
+
+pub meets_enabled : (c : Config) (m : Moment) (e : Event) → MeetsAll c m e → IsEnabled c m e
+meets_enabled c m e h = rw (h.seat, h.kind, h.order, h.range, h.gates, h.phase, h.marker, h.holder) refl
 
 -- a marker's own condition
 pub marker_meets : (c : Config) (m : Moment) (e : Event) (k : ℕ) → IsEnabled c m e → e.seat ≡ seat.Marker k → marker_may c (marker_of m k) e.step ≡ true
-unfolding meets_own
-marker_meets c m e k h is = subst (λ (s : Seat). meets_own c m s e.step ≡ true) is (enabled_meets c m e h).own
+marker_meets c m e k h is = subst (λ (s : Seat). marker_may c (marker_at m s) e.step ≡ true) is (enabled_meets c m e h).marker
+
+pub enabled_events_meet_all : EnabledEventsMeetAll
+enabled_events_meet_all c m e = (enabled_meets c m e, meets_enabled c m e)

@@ -1,27 +1,50 @@
--- Histories with one event more.
+-- Histories in two parts.
 use Rattle.std.proofs.Common.{◌≡◌, List, [], ◌∷◌, ◌++◌, refl, sym, ◌∙◌, ap, append_assoc, append-nil}
 use Rattle.mk_core.specs.declared.config.Config.{Config}
 use Rattle.mk_core.specs.declared.events.Event.{Event}
 use Rattle.mk_core.specs.Enabled.{IsEnabled}
-use Rattle.mk_core.specs.History.{World, world_behind, left_from, AreEnabledFrom, Decided, call_decided, calls_from}
+use Rattle.mk_core.specs.Decided.{Decided}
+use Rattle.mk_core.specs.History.{World, world_behind, left_from, AreEnabledFrom, call_decided, calls_from}
+
+pub left_append : (c : Config) (w : World) (xs ys : List Event) → left_from c w (xs ++ ys) ≡ left_from c (left_from c w xs) ys
+unfolding left_from
+left_append c w [] ys = refl
+left_append c w (x ∷ xs) ys = left_append c (world_behind c w x) xs ys
+
+pub enabled_append : (c : Config) (w : World) (xs ys : List Event)
+    → AreEnabledFrom c w xs → AreEnabledFrom c (left_from c w xs) ys → AreEnabledFrom c w (xs ++ ys)
+unfolding left_from AreEnabledFrom
+enabled_append c w [] ys h k = k
+enabled_append c w (x ∷ xs) ys h k = (h.0, enabled_append c (world_behind c w x) xs ys h.1 k)
+
+pub enabled_parts : (c : Config) (w : World) (xs ys : List Event)
+    → AreEnabledFrom c w (xs ++ ys) → AreEnabledFrom c w xs × AreEnabledFrom c (left_from c w xs) ys
+unfolding left_from AreEnabledFrom
+enabled_parts c w [] ys h = (tt, h)
+enabled_parts c w (x ∷ xs) ys h = let parts = enabled_parts c (world_behind c w x) xs ys h.1 in ((h.0, parts.0), parts.1)
+
+pub calls_append : (c : Config) (w : World) (xs ys : List Event) → calls_from c w (xs ++ ys) ≡ calls_from c w xs ++ calls_from c (left_from c w xs) ys
+unfolding left_from calls_from
+calls_append c w [] ys = refl
+calls_append c w (x ∷ xs) ys =
+    ap (λ (zs : List Decided). call_decided c w.now x ++ zs) (calls_append c (world_behind c w x) xs ys)
+    ∙ sym (append_assoc (call_decided c w.now x) _ _)
+
+-- with one event more
 
 pub left_more : (c : Config) (w : World) (es : List Event) (e : Event) → left_from c w (es ++ e ∷ []) ≡ world_behind c (left_from c w es) e
 unfolding left_from
-left_more c w [] e = refl
-left_more c w (x ∷ es) e = left_more c (world_behind c w x) es e
+left_more c w es e = left_append c w es (e ∷ [])
 
 pub enabled_more : (c : Config) (w : World) (es : List Event) (e : Event) → AreEnabledFrom c w es → IsEnabled c (left_from c w es).now e → AreEnabledFrom c w (es ++ e ∷ [])
-unfolding left_from AreEnabledFrom
-enabled_more c w [] e h x = (x, tt)
-enabled_more c w (y ∷ es) e h x = (h.0, enabled_more c (world_behind c w y) es e h.1 x)
+unfolding AreEnabledFrom
+enabled_more c w es e h x = enabled_append c w es (e ∷ []) h (x, tt)
 
 -- the last event was enabled behind the others
 pub last_enabled : (c : Config) (w : World) (es : List Event) (e : Event) → AreEnabledFrom c w (es ++ e ∷ []) → IsEnabled c (left_from c w es).now e
-unfolding left_from AreEnabledFrom
-last_enabled c w [] e h = h.0
-last_enabled c w (y ∷ es) e h = last_enabled c (world_behind c w y) es e h.1
+unfolding AreEnabledFrom
+last_enabled c w es e h = (enabled_parts c w es (e ∷ []) h).1.0
 
 pub calls_more : (c : Config) (w : World) (es : List Event) (e : Event) → calls_from c w (es ++ e ∷ []) ≡ calls_from c w es ++ call_decided c (left_from c w es).now e
-unfolding left_from calls_from
-calls_more c w [] e = append-nil _
-calls_more c w (y ∷ es) e = ap (λ (xs : List Decided). call_decided c w.now y ++ xs) (calls_more c (world_behind c w y) es e) ∙ sym (append_assoc (call_decided c w.now y) _ _)
+unfolding calls_from
+calls_more c w es e = calls_append c w es (e ∷ []) ∙ ap (λ (zs : List Decided). calls_from c w es ++ zs) (append-nil _)

@@ -9,7 +9,7 @@ use Rattle.mk_core.specs.declared.events.Word.{Word}
 use Rattle.mk_core.specs.declared.events.Word.TheVariants as word
 use Rattle.mk_core.specs.declared.accesses.TableWord.{TableWord}
 use Rattle.mk_core.specs.declared.accesses.TableWord.TheVariants.{Turn, Named}
-use Rattle.mk_core.specs.Words.{Words, quarantine_word, word_in, with_word}
+use Rattle.mk_core.specs.Words.{Words, quarantine_word, word_in, with_table_word}
 use Rattle.mk_core.specs.Layout.{index_of, IsOfTable, quarantine_words, regions, joined, in_order, AreOfPages}
 
 -- how many words stand before a region
@@ -148,7 +148,7 @@ quarantine_whole : (v : ℕ) → quarantine_word (v % 2 ^ 32) (v / 2 ^ 32) ≡ v
 quarantine_whole v = mod-add-div v (2 ^ 32)
 
 named_changes : (pages : ℕ) (w : Words) (x : Word) (v : ℕ) → AreOfPages pages w → Begins pages w → IsOfTable pages (Named x)
-    → in_order (with_word w (Named x) v) ≡ slice_set (in_order w) (index_of pages (Named x)) v
+    → in_order (with_table_word w (Named x) v) ≡ slice_set (in_order w) (index_of pages (Named x)) v
 unfolding with_pages with_quarantine
 named_changes pages w word.Phase v h b t = refl
 named_changes pages w word.Held v h b t = refl
@@ -179,6 +179,6 @@ named_changes pages w (word.Dirty p) v h b t = let l = h.dirty in set_at w 9 p (
 named_changes pages w (word.Heap n) v h b t = let l = h.heap in set_at w 10 n (215 + 6 * pages + n) (215 + 6 * pages) v b.heap refl (omega arith)
 
 pub words_change : (pages : ℕ) (w : Words) (x : TableWord) (v : ℕ) → AreOfPages pages w → IsOfTable pages x
-    → in_order (with_word w x v) ≡ slice_set (in_order w) (index_of pages x) v
+    → in_order (with_table_word w x v) ≡ slice_set (in_order w) (index_of pages x) v
 words_change pages w Turn v h t = refl
 words_change pages w (Named x) v h t = named_changes pages w x v h (begins pages w h) t

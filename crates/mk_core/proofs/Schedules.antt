@@ -12,11 +12,12 @@ use Rattle.mk_core.specs.declared.events.Step.{Step}
 use Rattle.mk_core.specs.declared.events.Step.TheVariants as step
 use Rattle.mk_core.specs.declared.events.Answer.TheVariants as answer
 use Rattle.mk_core.specs.declared.events.Event.{Event}
-use Rattle.mk_core.specs.Tests.{all_below}
+use Rattle.mk_core.specs.Bounded.{all_below}
 use Rattle.mk_core.specs.Cells.{pointed_cell}
 use Rattle.mk_core.specs.StopConditions.{may_turn_black}
 use Rattle.mk_core.specs.Enabled.{meets_own, failing}
-use Rattle.mk_core.specs.History.{World, first_world, world_behind, left_from, calls_from, calls, answered}
+use Rattle.mk_core.specs.History.{World, first_world, world_behind, left_from, calls_from, calls}
+use Rattle.mk_core.specs.Decided.{answered}
 
 by : Seat → List Step → List Event
 by s steps = map (λ (x : Step). record { seat = s; step = x }) steps

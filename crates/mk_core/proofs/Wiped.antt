@@ -2,7 +2,8 @@
 use Rattle.std.proofs.Common.{◌≡◌, ℕ, ◌+◌, ◌*◌, ◌<◌, true, false, ◌&&◌, ◌||◌, not, ◌∙◌, ap, arith, slice_index}
 use Rattle.std.specs.Prelude.{◌==◌}
 use Rattle.mk_core.specs.Words.{Words}
-use Rattle.mk_core.specs.Tests.{all_below, has_bit}
+use Rattle.mk_core.specs.Bits.{has_bit}
+use Rattle.mk_core.specs.Bounded.{all_below}
 use Rattle.mk_core.specs.Cells.{words_are_zero, first_word, cell_words}
 use Rattle.mk_core.specs.TurnConditions.{are_wiped}
 use Rattle.mk_core.proofs.AllBelow.{all_below_not_is}

@@ -22,13 +22,13 @@ use Rattle.mk_core.specs.declared.seats.Placing.{Placing}
 use Rattle.mk_core.specs.declared.seats.Placing.TheVariants.{Used}
 use Rattle.mk_core.specs.declared.seats.Scan.{Scan}
 use Rattle.mk_core.specs.declared.seats.Marker.{Marker}
-use Rattle.mk_core.specs.Image.{address_of}
+use Rattle.mk_geom.specs.Addresses.{address_of}
 use Rattle.mk_core.specs.Words.{word_in}
-use Rattle.mk_core.specs.Tests.{bit_for}
+use Rattle.mk_core.specs.Bits.{bit_for}
 use Rattle.mk_core.specs.Calls.{q_of, p_of, r_of, d_of, g_of, word_met, page_met, value_for, value_written}
 use Rattle.mk_core.specs.NewPlaces.{object_made, base_made}
 use Rattle.mk_core.specs.MarkerConditions.{cell_seen}
-use Rattle.mk_core.specs.Moments.{Moment, flight_of, marker_of, outside, holder_number}
+use Rattle.mk_core.specs.Moments.{Moment, flight_of, marker_at, holder_number}
 
 abbrev pub caller_number : Seat → ℕ
 caller_number (seat.Caller k) = k
@@ -156,11 +156,6 @@ access_by c n f placing x step.Mmark = Or (seen_bit (cell_seen c x.seen x.hand))
 access_by c n f placing x step.Mblack = Or (scan_bit x.scan)
 access_by c n f placing x step.Over = Add 5
 access_by c n f placing x _ = Load
-
--- what a seat is at as a marker; another is outside
-abbrev pub marker_at : Moment → Seat → Marker
-marker_at m (seat.Marker k) = marker_of m k
-marker_at m _ = outside
 
 abbrev pub reached : Config → Moment → Event → TableWord
 reached c m e = word_reached c (caller_number e.seat) (flight_of m e.seat) (marker_at m e.seat) e.step

@@ -1,7 +1,8 @@
 -- The calls of callers: the operands and the steps of each operation, and what a step makes of the call in flight.
-use Rattle.std.specs.Prelude.{ℕ, ◌+◌, ◌-◌, ◌*◌, ◌/◌, ◌%◌, ◌^◌, Bool, true, false, ◌&&◌, nat_lt, ◌==◌, List, [], ◌∷◌, length, Option, Some, None, if◌then◌else◌}
+use Rattle.std.specs.Prelude.{ℕ, ◌+◌, ◌*◌, ◌/◌, ◌%◌, ◌^◌, Bool, true, false, ◌&&◌, nat_lt, ◌==◌, List, [], ◌∷◌, length, Option, Some, None, if◌then◌else◌}
 use Rattle.mk_never.specs.declared.operations.Op.{Op}
 use Rattle.mk_never.specs.declared.operations.Op.TheVariants as op
+use Rattle.mk_geom.specs.Addresses.{heap_word_at}
 use Rattle.mk_core.specs.declared.config.Config.{Config}
 use Rattle.mk_core.specs.declared.events.Answer.{Answer}
 use Rattle.mk_core.specs.declared.events.Answer.TheVariants as answer
@@ -91,23 +92,24 @@ steps_of (op.IsNull p) = LoadP ∷ Leave ∷ []
 steps_of (op.New d ty full) = Turn ∷ Give ∷ []
 steps_of (op.Free p) = LoadP ∷ Turn ∷ Give ∷ []
 
-abbrev pub number_of_stage : Stage → ℕ
-number_of_stage Idle = 0
-number_of_stage LoadQ = 1
-number_of_stage LoadP = 2
-number_of_stage LoadR = 3
-number_of_stage Probe = 4
-number_of_stage Read = 5
-number_of_stage Write = 6
-number_of_stage Cas = 7
-number_of_stage Getg = 8
-number_of_stage Setg = 9
-number_of_stage Store = 10
-number_of_stage Put = 11
-number_of_stage Dirty = 12
-number_of_stage Leave = 13
-number_of_stage Turn = 14
-number_of_stage Give = 15
+abbrev pub is_same_stage : Stage → Stage → Bool
+is_same_stage Idle Idle = true
+is_same_stage LoadQ LoadQ = true
+is_same_stage LoadP LoadP = true
+is_same_stage LoadR LoadR = true
+is_same_stage Probe Probe = true
+is_same_stage Read Read = true
+is_same_stage Write Write = true
+is_same_stage Cas Cas = true
+is_same_stage Getg Getg = true
+is_same_stage Setg Setg = true
+is_same_stage Store Store = true
+is_same_stage Put Put = true
+is_same_stage Dirty Dirty = true
+is_same_stage Leave Leave = true
+is_same_stage Turn Turn = true
+is_same_stage Give Give = true
+is_same_stage _ _ = false
 
 abbrev pub first_of : List Stage → Stage
 first_of [] = Idle
@@ -116,7 +118,7 @@ first_of (s ∷ ss) = s
 -- the stage behind this one
 abbrev pub stage_behind : Stage → List Stage → Stage
 stage_behind stage [] = Idle
-stage_behind stage (s ∷ ss) = if number_of_stage s == number_of_stage stage then first_of ss else stage_behind stage ss
+stage_behind stage (s ∷ ss) = if is_same_stage s stage then first_of ss else stage_behind stage ss
 
 -- the stage behind a refusal: a register that would have been loaded becomes null first
 abbrev pub stage_refused : Op → Stage
@@ -133,7 +135,7 @@ begun o = record { stage = first_of (steps_of o); op = o; q = 0; p = 0; r = 0; l
 
 -- the heap word that an access meets, in whole numbers, and its page
 abbrev pub word_met : Flight → ℕ
-word_met f = (f.q - 65536) / 8 + i_of f.op
+word_met f = heap_word_at f.q + i_of f.op
 
 abbrev pub page_met : Flight → ℕ
 page_met f = word_met f / 64

@@ -1,14 +1,17 @@
 -- Cells and runs as the words show them.
-use Rattle.std.specs.Prelude.{ℕ, ◌+◌, ◌-◌, ◌*◌, ◌/◌, ◌^◌, Bool, true, false, ◌&&◌, ◌||◌, not, ◌==◌, nat_le, nat_lt, Option, Some, None, slice_index, bit_and}
+use Rattle.std.specs.Prelude.{ℕ, ◌+◌, ◌-◌, ◌*◌, ◌/◌, ◌^◌, Bool, true, false, ◌&&◌, ◌||◌, not, ◌==◌, nat_le, nat_lt, List, Option, Some, None, slice_index, slice_index_or}
 use Rattle.mk_geom.specs.declared.addresses.Cell.{Cell}
 use Rattle.mk_geom.specs.declared.headers.Header.{Header}
 use Rattle.mk_geom.specs.declared.headers.Header.TheVariants.{Block, Run, Later, LeafBlock, LeafRun}
+use Rattle.mk_geom.specs.declared.pages.Page.{Page}
+use Rattle.mk_geom.specs.Storages.{free_page}
 use Rattle.mk_geom.specs.Classes.{cells_of, class_words_of}
 use Rattle.mk_geom.specs.Headers.{header_of}
 use Rattle.mk_geom.specs.Addresses.{cell_at, page_at_address}
 use Rattle.mk_core.specs.declared.seats.RunPages.{RunPages}
 use Rattle.mk_core.specs.Words.{Words, header_at, used_at}
-use Rattle.mk_core.specs.Tests.{all_below, has_bit, without}
+use Rattle.mk_core.specs.Bits.{has_bit, without}
+use Rattle.mk_core.specs.Bounded.{all_below, is_none_or}
 use Rattle.mk_core.specs.Moments.{is_phase}
 
 -- how many cells there are under a header; a run is one, at its head page
@@ -71,9 +74,9 @@ first_word w cell = 64 * cell.page + cell.index * words_under (header_in w cell.
 abbrev pub cell_words : Words → Cell → ℕ
 cell_words w cell = words_under (header_in w cell.page)
 
--- What a value points into, by lookup, in a heap of so many pages.
-unfoldable pub pointed_cell : ℕ → Words → ℕ → Option Cell
-pointed_cell pages w value = cell_at pages (header_at w (page_at_address value)) value
+-- What a value points into, by lookup, in a heap of so many pages, which these are.
+unfoldable pub pointed_cell : ℕ → List Page → ℕ → Option Cell
+pointed_cell count pages value = cell_at count (slice_index_or pages (page_at_address value) free_page).header value
 
 abbrev pub is_used : Words → Cell → Bool
 is_used w cell = has_bit (used_at w cell.page) cell.index
@@ -88,13 +91,9 @@ is_marked w cell = has_bit (slice_index w.marks cell.page) cell.index
 abbrev pub has_no_pointers : Option Header → Bool
 has_no_pointers header = is_leaf_header header || is_unmapped_header header
 
-abbrev pub is_marked_cell : Words → Option Cell → Bool
-is_marked_cell w (Some cell) = is_marked w cell
-is_marked_cell w None = true
-
 -- The value points into nothing, or into a marked cell.
 abbrev pub points_well : ℕ → Words → ℕ → Bool
-points_well pages w value = is_marked_cell w (pointed_cell pages w value)
+points_well pages w value = is_none_or (is_marked w) (pointed_cell pages w.pages value)
 
 abbrev pub word_points_well : ℕ → Words → ℕ → Bool
 word_points_well pages w n = points_well pages w (slice_index w.heap n)
@@ -105,23 +104,24 @@ words_point_well pages w cell = all_below (cell_words w cell) (λ i. word_points
 abbrev pub words_are_zero : Words → ℕ → ℕ → Bool
 words_are_zero w first count = all_below count (λ i. slice_index w.heap (first + i) == 0)
 
--- A released cell, while the phase is releasing: in the snapshot, and not marked.
+-- the cells of a page that are in the snapshot and have no mark, as bits: those that a `release` releases
+abbrev pub left_unmarked : Words → ℕ → ℕ
+left_unmarked w p = without (slice_index w.snapshot p) (slice_index w.marks p)
+
+abbrev pub is_left_unmarked : Words → Cell → Bool
+is_left_unmarked w cell = has_bit (left_unmarked w cell.page) cell.index
+
+-- of a page's cells these, as bits, are all left unmarked
+abbrev pub are_left_unmarked : Words → ℕ → ℕ → Bool
+are_left_unmarked w p bits = without bits (left_unmarked w p) == 0
+
+-- no cell of the page is
+abbrev pub none_is_left_unmarked : Words → ℕ → Bool
+none_is_left_unmarked w p = left_unmarked w p == 0
+
+-- A released cell is one of them while the phase is releasing.
 abbrev pub is_released : Words → Cell → Bool
-is_released w cell =
-    is_phase w 4 && has_bit (slice_index w.snapshot cell.page) cell.index && not (is_marked w cell)
-
-abbrev pub is_released_cell : Words → Option Cell → Bool
-is_released_cell w (Some cell) = is_released w cell
-is_released_cell w None = false
-
--- of a page's cells these, as bits, are all released
-abbrev pub are_released : Words → ℕ → ℕ → Bool
-are_released w p bits =
-    (without bits (slice_index w.snapshot p) == 0) && (bit_and bits (slice_index w.marks p) == 0)
-
--- no cell of the page is released
-abbrev pub none_is_released : Words → ℕ → Bool
-none_is_released w p = without (slice_index w.snapshot p) (slice_index w.marks p) == 0
+is_released w cell = is_phase w 4 && is_left_unmarked w cell
 
 abbrev pub is_in_run : RunPages → ℕ → Bool
 is_in_run run n = nat_le run.page (n / 64) && nat_lt (n / 64 - run.page) run.count

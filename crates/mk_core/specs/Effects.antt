@@ -1,5 +1,5 @@
 -- What each event does: to the word that it reaches, and to what its seat is in the middle of.
-use Rattle.std.specs.Prelude.{ℕ, ◌+◌, ◌-◌, ◌*◌, ◌%◌, ◌^◌, Bool, true, false, ◌&&◌, not, min, ◌==◌, slice_set, Option, Some, None, option_and_then, if◌then◌else◌}
+use Rattle.std.specs.Prelude.{ℕ, ◌+◌, ◌-◌, ◌*◌, ◌%◌, ◌^◌, Bool, false, ◌&&◌, not, min, ◌==◌, List, slice_set, Option, Some, None, is_none, option_map, option_and_then, unwrap_or, if◌then◌else◌}
 use Rattle.mk_never.specs.declared.operations.Op.{Op}
 use Rattle.mk_geom.specs.declared.addresses.Cell.{Cell}
 use Rattle.mk_geom.specs.declared.pages.Place.{Place}
@@ -31,12 +31,13 @@ use Rattle.mk_core.specs.declared.seats.Scan.{Scan}
 use Rattle.mk_core.specs.declared.seats.SeenHeader.{SeenHeader}
 use Rattle.mk_core.specs.declared.seats.Presence.TheVariants.{Visiting, Attending}
 use Rattle.mk_core.specs.declared.seats.Marker.{Marker}
-use Rattle.mk_core.specs.Image.{address_of}
+use Rattle.mk_geom.specs.Addresses.{address_of}
 use Rattle.mk_core.specs.Words.{Words, accessed}
-use Rattle.mk_core.specs.Tests.{has_bit}
+use Rattle.mk_core.specs.Bits.{has_bit}
 use Rattle.mk_core.specs.Calls.{at_rest, begun, onward, still, refused, progress_reg, progress_read, progress_cas, progress_getg}
+use Rattle.mk_core.specs.Bounded.{is_some_and}
 use Rattle.mk_core.specs.Cells.{header_in, run_headed, heads_run, has_no_pointers, is_unmapped_header, pointed_cell, is_used, is_freed, is_marked, words_under}
-use Rattle.mk_core.specs.NewPlaces.{target}
+use Rattle.mk_core.specs.NewPlaces.{object_made, target}
 use Rattle.mk_core.specs.TurnConditions.{place_now, cell_freed}
 use Rattle.mk_core.specs.StopConditions.{marks_place}
 use Rattle.mk_core.specs.Moments.{Moment, Seats, nothing_done, outside, flight_of, marker_of, others_are_held, is_phase}
@@ -55,8 +56,8 @@ progress_probe f header = if is_unmapped_header (header_of header) then refused 
 
 -- a look at the quarantine word of an undecided Free's target, where it is freed already
 abbrev pub sees_double : Words → Option Cell → Word → Bool
-sees_double w (Some cell) (word.Quar p) = (p == cell.page) && is_freed w cell
-sees_double w _ _ = false
+sees_double w cell (word.Quar p) = is_some_and (λ (x : Cell). (p == x.page) && is_freed w x) cell
+sees_double w cell _ = false
 
 abbrev pub progress_look : Config → Words → Flight → Word → Progress
 progress_look c w f x = if sees_double w (target c.pages w f) x then decided f answer.Double else still f
@@ -114,7 +115,7 @@ hand_given c m s (word.Reg j r) value = Some (record { value = value; source = R
 hand_given c m s (word.Global g) value = Some (record { value = value; source = Root })
 hand_given c m s (word.Heap n) value =
     option_and_then (λ (cell : Cell). hand_of_cell m.words (is_in_stop c.callers m.words s) m.seats.holding.placing cell value)
-    (pointed_cell c.pages m.words (address_of n))
+    (pointed_cell c.pages m.words.pages (address_of n))
 hand_given c m s _ value = None
 
 -- The first step that serves the new object fixes its place.
@@ -127,8 +128,7 @@ taken placing (Some place) = Used place
 taken placing None = placing
 
 abbrev pub run_of_cell : Words → Option Cell → Option RunPages
-run_of_cell w (Some cell) = run_headed (header_in w cell.page) cell.page
-run_of_cell w None = None
+run_of_cell w cell = option_and_then (λ (x : Cell). run_headed (header_in w x.page) x.page) cell
 
 abbrev pub cycle_ended : OwnCycle → OwnCycle
 cycle_ended Begun = Ended
@@ -147,7 +147,7 @@ holding_behind c m s f found (step.Quar p v) h =
     record h { freed = or_else (run_of_cell m.words (cell_freed c.pages m.words f p v)) h.freed }
 holding_behind c m s f found step.Grant h = record h { placing = Granted }
 holding_behind c m s f found (step.Mark p v) h =
-    record h { placing = if marks_place c m f (place_now c m f) p v then chosen h.placing (place_now c m f) else h.placing }
+    record h { placing = if marks_place m.words (object_made c f.op) (place_now c m f) p v then chosen h.placing (place_now c m f) else h.placing }
 holding_behind c m s f found step.Begin h = record h { hand = None; cycle = Begun }
 holding_behind c m s f found step.End h = record h { cycle = cycle_ended h.cycle }
 holding_behind c m s f found _ h = h
@@ -160,11 +160,7 @@ open_hand c value = if is_heap_address c.pages value then Some value else None
 abbrev pub hand_behind_look : Config → ℕ → ℕ → Option ℕ → Option ℕ
 hand_behind_look c page header None = None
 hand_behind_look c page header (Some value) =
-    if (page == page_at_address value) && nothing_at (cell_at c.pages header value) then None else Some value
-  where
-    nothing_at : Option Cell → Bool
-    nothing_at (Some cell) = false
-    nothing_at None = true
+    if (page == page_at_address value) && is_none (cell_at c.pages header value) then None else Some value
 
 abbrev pub behind_mlook : Config → ℕ → Word → Marker → Marker
 behind_mlook c found (word.Head p) x =
@@ -203,8 +199,8 @@ marker_behind c found _ x = x
 
 -- the storage of a small object that is freed; a run is no longer mapped
 abbrev pub words_freed : Words → Option Cell → ℕ
-words_freed w (Some cell) = if heads_run (header_in w cell.page) then 0 else words_under (header_in w cell.page)
-words_freed w None = 0
+words_freed w cell =
+    unwrap_or (option_map (λ (x : Cell). if heads_run (header_in w x.page) then 0 else words_under (header_in w x.page)) cell) 0
 
 -- The count of fresh words stands still at 2^64 - 1.
 abbrev pub fresh_behind : Config → Moment → Flight → Step → ℕ
@@ -212,17 +208,23 @@ fresh_behind c m f (step.Quar p v) = min (m.fresh_words + words_freed m.words (c
 fresh_behind c m f step.Begin = 0
 fresh_behind c m f _ = m.fresh_words
 
+-- A step of a caller's changes its own call alone, and one of a marker's what this marker is at.
+abbrev pub flights_behind : Config → Moment → Seat → ℕ → Step → List Flight
+flights_behind c m (seat.Caller k) found s =
+    slice_set m.seats.flights k (progress c m (flight_of m (seat.Caller k)) found s).flight
+flights_behind c m _ found s = m.seats.flights
+
+abbrev pub markers_behind : Config → Moment → Seat → ℕ → Step → List Marker
+markers_behind c m (seat.Marker k) found s = slice_set m.seats.markers k (marker_behind c found s (marker_of m k))
+markers_behind c m _ found s = m.seats.markers
+
 abbrev pub seats_behind : Config → Moment → Seat → ℕ → Step → Seats
-seats_behind c m (seat.Caller k) found s =
+seats_behind c m seat found s =
     record {
-      flights = slice_set m.seats.flights k (progress c m (flight_of m (seat.Caller k)) found s).flight;
-      holding = holding_behind c m (seat.Caller k) (flight_of m (seat.Caller k)) found s m.seats.holding;
-      markers = m.seats.markers;
+      flights = flights_behind c m seat found s;
+      holding = holding_behind c m seat (flight_of m seat) found s m.seats.holding;
+      markers = markers_behind c m seat found s;
     }
-seats_behind c m (seat.Marker k) found s =
-    record { flights = m.seats.flights; holding = m.seats.holding; markers = slice_set m.seats.markers k (marker_behind c found s (marker_of m k)) }
-seats_behind c m seat.Host found s =
-    record { flights = m.seats.flights; holding = holding_behind c m seat.Host at_rest found s m.seats.holding; markers = m.seats.markers }
 
 -- what an event leaves
 abbrev pub moment_behind : Config → Moment → Event → Moment

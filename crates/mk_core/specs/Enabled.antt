@@ -1,15 +1,14 @@
 -- Which event may come next: the first of the seven conditions that fails, or 0.
-use Rattle.std.specs.Prelude.{◌≡◌, ℕ, Bool, true, not, if◌then◌else◌}
+use Rattle.std.specs.Prelude.{◌≡◌, ◌↔◌, ℕ, Bool, true, ◌&&◌, not, if◌then◌else◌}
 use Rattle.mk_core.specs.declared.config.Config.{Config}
 use Rattle.mk_core.specs.declared.events.Seat.{Seat}
-use Rattle.mk_core.specs.declared.events.Seat.TheVariants.{Caller, Marker, Host}
 use Rattle.mk_core.specs.declared.events.Step.{Step}
 use Rattle.mk_core.specs.declared.events.Step.TheVariants as step
 use Rattle.mk_core.specs.declared.events.Event.{Event}
 use Rattle.mk_core.specs.declared.seats.Flight.{Flight}
 use Rattle.mk_core.specs.declared.seats.Marker.{Marker as MarkerState}
 use Rattle.mk_core.specs.Words.{phase_of}
-use Rattle.mk_core.specs.Moments.{Moment, flight_of, marker_of}
+use Rattle.mk_core.specs.Moments.{Moment, flight_of, marker_at}
 use Rattle.mk_core.specs.Order.{seat_exists, group_of, is_open_to, is_in_order}
 use Rattle.mk_core.specs.Ranges.{is_in_range, has_gates, has_phase}
 use Rattle.mk_core.specs.NewPlaces.{is_run_gone}
@@ -48,10 +47,9 @@ holder_may c m f (step.Unblack p) = may_unblack m
 holder_may c m f step.Over = may_end_all c m
 holder_may c m f _ = true
 
-unfoldable pub meets_own : Config → Moment → Seat → Step → Bool
-meets_own c m (Marker k) s = marker_may c (marker_of m k) s
-meets_own c m (Caller k) s = holder_may c m (flight_of m (Caller k)) s
-meets_own c m Host s = holder_may c m (flight_of m Host) s
+-- condition 7: each of the two is true of the other's kinds
+abbrev pub meets_own : Config → Moment → Seat → Step → Bool
+meets_own c m seat s = marker_may c (marker_at m seat) s && holder_may c m (flight_of m seat) s
 
 -- the first of conditions 4 to 7 that fails, or 0
 abbrev pub failing_in_order : Config → Moment → Event → ℕ
@@ -73,3 +71,17 @@ failing c m e =
 
 abbrev pub IsEnabled : Config → Moment → Event → Type 0
 IsEnabled c m e = failing c m e ≡ 0
+
+-- What an enabled event tells: it meets each of the seven conditions. The last is in two parts, of which one is true.
+pub record MeetsAll (c : Config) (m : Moment) (e : Event) : Type 0 where
+  pub seat : seat_exists c e.seat ≡ true
+  pub kind : is_open_to e.seat (group_of e.step) ≡ true
+  pub order : is_in_order c m e.seat e.step ≡ true
+  pub range : is_in_range c e.seat (flight_of m e.seat) e.step ≡ true
+  pub gates : has_gates c m.words e.seat (flight_of m e.seat) e.step ≡ true
+  pub phase : has_phase (phase_of m.words) e.step ≡ true
+  pub marker : marker_may c (marker_at m e.seat) e.step ≡ true
+  pub holder : holder_may c m (flight_of m e.seat) e.step ≡ true
+
+abbrev pub EnabledEventsMeetAll : Type 0
+EnabledEventsMeetAll = (c : Config) (m : Moment) (e : Event) → IsEnabled c m e ↔ MeetsAll c m e

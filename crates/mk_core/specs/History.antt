@@ -1,24 +1,22 @@
 -- Histories: lists of events, oldest first. What they leave, which are enabled, and the calls that they decide.
-use Rattle.std.specs.Prelude.{◌≡◌, ℕ, true, false, List, [], ◌∷◌, ◌++◌, map, Option, Some, None, ⊤}
-use Rattle.mk_never.specs.declared.operations.Op.{Op}
-use Rattle.mk_never.specs.declared.operations.Op.TheVariants as op
-use Rattle.mk_never.specs.NeverHeap.{Call, start_of, replies_of}
+use Rattle.std.specs.Prelude.{◌≡◌, ℕ, List, [], ◌∷◌, ◌++◌, map, ⊤}
+use Rattle.mk_never.specs.NeverHeap.{NeverState, start_of, after_calls, replies_of}
 use Rattle.mk_never.specs.Admitted.{AreAdmitted}
 use Rattle.mk_core.specs.declared.config.Config.{Config}
-use Rattle.mk_core.specs.declared.events.Answer.{Answer}
-use Rattle.mk_core.specs.declared.events.Answer.TheVariants as answer
 use Rattle.mk_core.specs.declared.events.Event.{Event}
+use Rattle.mk_core.specs.Config.{IsWithinLimits}
 use Rattle.mk_core.specs.Image.{answers_of}
 use Rattle.mk_core.specs.Moments.{Moment, first_moment, flight_of}
 use Rattle.mk_core.specs.Enabled.{IsEnabled}
 use Rattle.mk_core.specs.Accesses.{caller_number}
 use Rattle.mk_core.specs.Effects.{moment_behind, answer_decided}
-use Rattle.mk_core.specs.Allocations.{Allocation, allocations_behind}
+use Rattle.mk_core.specs.Allocations.{PlacedAllocation, allocations_behind}
+use Rattle.mk_core.specs.Decided.{Decided, entry_of, asked, answered}
 
 -- All that events leave: the moment behind them, and the allocations.
 pub record World : Type 0 where
   pub now : Moment
-  pub allocations : List Allocation
+  pub allocations : List PlacedAllocation
 
 abbrev pub first_world : Config → World
 first_world c = record { now = first_moment c; allocations = [] }
@@ -42,22 +40,6 @@ AreEnabledFrom c w (e ∷ es) = IsEnabled c w.now e × AreEnabledFrom c (world_b
 abbrev pub AreEnabled : Config → List Event → Type 0
 AreEnabled c es = AreEnabledFrom c (first_world c) es
 
--- A decided call: its caller, its operation and its answer.
-pub record Decided : Type 0 where
-  pub caller : ℕ
-  pub op : Op
-  pub answer : Answer
-
--- Whether a New is full says its answer.
-abbrev pub flagged : Op → Answer → Op
-flagged (op.New d ty full) answer.Full = op.New d ty true
-flagged (op.New d ty full) _ = op.New d ty false
-flagged o _ = o
-
-abbrev pub entry_of : ℕ → Op → Option Answer → List Decided
-entry_of caller o (Some a) = record { caller = caller; op = flagged o a; answer = a } ∷ []
-entry_of caller o None = []
-
 -- the call that an event decides, if it decides one
 abbrev pub call_decided : Config → Moment → Event → List Decided
 call_decided c m e = entry_of (caller_number e.seat) (flight_of m e.seat).op (answer_decided c m e)
@@ -70,15 +52,23 @@ calls_from c w (e ∷ es) = call_decided c w.now e ++ calls_from c (world_behind
 abbrev pub calls : Config → List Event → List Decided
 calls c es = calls_from c (first_world c) es
 
-abbrev pub asked : List Decided → List Call
-asked cs = map (λ (x : Decided). record { caller = x.caller; op = x.op }) cs
+-- the heap that never reuses storage, before any operation and behind the calls of a history
+abbrev pub never_first : Config → NeverState
+never_first c = start_of c.types c.callers
 
-abbrev pub answered : List Decided → List Answer
-answered cs = map (λ (x : Decided). x.answer) cs
+abbrev pub never_behind : Config → List Event → NeverState
+never_behind c es = after_calls (never_first c) (asked (calls c es))
 
--- The heap that never reuses storage is asked for nothing that isn't admitted.
+-- That heap is asked for nothing that isn't admitted.
 abbrev pub CallsAreAdmitted : Config → List Event → Type 0
-CallsAreAdmitted c es = AreAdmitted c.globals (start_of c.types c.callers) (asked (calls c es))
+CallsAreAdmitted c es = AreAdmitted c.globals (never_first c) (asked (calls c es))
+
+-- A list of events is a history of a heap of this configuration. Without the limits what holds of every history fails:
+-- with 17 callers a register lies behind the table's 128.
+pub record IsHistory (c : Config) (es : List Event) : Type 0 where
+  pub within_limits : IsWithinLimits c
+  pub enabled : AreEnabled c es
+  pub admitted : CallsAreAdmitted c es
 
 -- an event that is enabled behind a list, and one that is admitted
 abbrev pub IsEnabledBehind : Config → List Event → Event → Type 0
@@ -88,10 +78,10 @@ abbrev pub IsAdmittedBehind : Config → List Event → Event → Type 0
 IsAdmittedBehind c es e = CallsAreAdmitted c (es ++ e ∷ [])
 
 -- where each allocation stands: the first heap word, whose address its grant stored
-abbrev pub bases_of : List Allocation → List ℕ
-bases_of xs = map (λ (a : Allocation). a.base) xs
+abbrev pub bases_of : List PlacedAllocation → List ℕ
+bases_of xs = map (λ (a : PlacedAllocation). a.base) xs
 
 -- The answers are the images of the replies of the heap that never reuses storage.
 abbrev pub RefinesNever : Config → List Event → Type 0
 RefinesNever c es =
-    answered (calls c es) ≡ answers_of (bases_of (left c es).allocations) (replies_of (start_of c.types c.callers) (asked (calls c es)))
+    answered (calls c es) ≡ answers_of (bases_of (left c es).allocations) (replies_of (never_first c) (asked (calls c es)))

@@ -9,7 +9,7 @@ use Rattle.mk_core.specs.declared.accesses.TableWord.TheVariants.{Turn, Named}
 use Rattle.mk_core.specs.declared.config.Config.{Config}
 use Rattle.mk_core.specs.declared.events.Event.{Event}
 use Rattle.mk_core.specs.History.{left}
-use Rattle.mk_core.specs.Words.{Words, quarantine_word, word_in, with_word}
+use Rattle.mk_core.specs.Words.{Words, quarantine_word, word_in, with_table_word}
 
 -- the index of a word by its name, in a table of so many pages
 abbrev pub index_of_named : ℕ → Word → ℕ
@@ -116,4 +116,4 @@ WordsStandAtTheirIndexes =
 abbrev pub ChangesStandAtTheirIndexes : Type 0
 ChangesStandAtTheirIndexes =
     (pages : ℕ) (w : Words) (x : TableWord) (value : ℕ) → AreOfPages pages w → IsOfTable pages x
-    → in_order (with_word w x value) ≡ slice_set (in_order w) (index_of pages x) value
+    → in_order (with_table_word w x value) ≡ slice_set (in_order w) (index_of pages x) value

@@ -1,8 +1,11 @@
 pub mod Accesses
 pub mod Allocations
+pub mod Bits
+pub mod Bounded
 pub mod Calls
 pub mod Cells
 pub mod Config
+pub mod Decided
 pub mod Effects
 pub mod Enabled
 pub mod History
@@ -16,6 +19,5 @@ pub mod PageHeaders
 pub mod Ranges
 pub mod Standing
 pub mod StopConditions
-pub mod Tests
 pub mod TurnConditions
 pub mod Words

@@ -11,7 +11,7 @@ use Rattle.mk_core.specs.declared.seats.Marker.{Marker as MarkerState}
 use Rattle.mk_core.specs.declared.seats.Presence.TheVariants.{Out}
 use Rattle.mk_core.specs.Words.{Words, zero_words_of, phase_of}
 use Rattle.mk_core.specs.Calls.{at_rest}
-use Rattle.mk_core.specs.Tests.{all_below}
+use Rattle.mk_core.specs.Bounded.{all_below}
 
 -- each caller's call, what the turn's holder has done, and the markers
 pub record Seats : Type 0 where
@@ -48,6 +48,11 @@ flight_of m Host = at_rest
 
 abbrev pub marker_of : Moment → ℕ → MarkerState
 marker_of m k = slice_index_or m.seats.markers k outside
+
+-- what a seat is at as a marker; another is outside
+abbrev pub marker_at : Moment → Seat → MarkerState
+marker_at m (Marker k) = marker_of m k
+marker_at m _ = outside
 
 -- the number by which the turn names its holder
 abbrev pub holder_number : Config → Seat → ℕ

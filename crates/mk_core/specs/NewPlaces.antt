@@ -8,7 +8,7 @@ use Rattle.mk_never.specs.declared.operations.Op.TheVariants as op
 use Rattle.mk_never.specs.Types.{kinds_of}
 use Rattle.mk_geom.specs.declared.addresses.Cell.{Cell}
 use Rattle.mk_geom.specs.declared.pages.Place.{Place}
-use Rattle.mk_geom.specs.Classes.{class_for, class_words_of, cells_of, run_pages_of}
+use Rattle.mk_geom.specs.Classes.{class_for, class_words_of, cells_of, is_small_size, run_pages_of}
 use Rattle.mk_geom.specs.Headers.{word_of}
 use Rattle.mk_geom.specs.PageUses.{place_among}
 use Rattle.mk_geom.specs.PageWords.{uses_of_pages}
@@ -22,7 +22,7 @@ use Rattle.mk_core.specs.declared.seats.Placing.TheVariants.{Unplaced, Chosen, U
 use Rattle.mk_core.specs.declared.seats.RunPages.{RunPages}
 use Rattle.mk_core.specs.declared.seats.Object.{Object}
 use Rattle.mk_core.specs.Words.{Words, header_at}
-use Rattle.mk_core.specs.Tests.{all_below}
+use Rattle.mk_core.specs.Bounded.{all_below, is_none_or}
 use Rattle.mk_core.specs.Cells.{pointed_cell, words_are_zero}
 
 abbrev pub is_number : Kind → Bool
@@ -57,7 +57,7 @@ abbrev pub class_made : Object → ℕ
 class_made o = unwrap_or (class_for o.words) 0
 
 abbrev pub is_small_object : Object → Bool
-is_small_object o = nat_le o.words 32
+is_small_object o = is_small_size o.words
 
 -- how many pages an object's cell or run has from its place's page on
 abbrev pub pages_made : Object → ℕ
@@ -102,24 +102,25 @@ is_run_unmapped w run = all_below run.count (stands w run.page (unmapped_header 
 
 -- The run that a call freed, if it freed one, is unmapped and wiped.
 abbrev pub is_run_gone : Words → Option RunPages → Bool
-is_run_gone w None = true
-is_run_gone w (Some run) = is_run_unmapped w run && words_are_zero w (64 * run.page) (64 * run.count)
+is_run_gone w freed =
+    is_none_or (λ (run : RunPages). is_run_unmapped w run && words_are_zero w (64 * run.page) (64 * run.count)) freed
 
 -- before the step that decides a New, or a Free whose register is loaded
+
+abbrev pub is_new_at : Stage → Op → Bool
+is_new_at Turn (op.New d ty full) = true
+is_new_at _ _ = false
+
+abbrev pub is_free_at : Stage → Op → Bool
+is_free_at Turn (op.Free p) = true
+is_free_at _ _ = false
+
 abbrev pub is_undecided_new : Flight → Bool
 is_undecided_new f = is_new_at f.stage f.op
-  where
-    is_new_at : Stage → Op → Bool
-    is_new_at Turn (op.New d ty full) = true
-    is_new_at _ _ = false
 
 abbrev pub is_undecided_free : Flight → Bool
 is_undecided_free f = is_free_at f.stage f.op
-  where
-    is_free_at : Stage → Op → Bool
-    is_free_at Turn (op.Free p) = true
-    is_free_at _ _ = false
 
 -- the cell that a Free frees: what its register points into
 abbrev pub target : ℕ → Words → Flight → Option Cell
-target pages w f = if is_undecided_free f then pointed_cell pages w f.p else None
+target pages w f = if is_undecided_free f then pointed_cell pages w.pages f.p else None

@@ -69,16 +69,16 @@ is_open_to Host group.Turn = true
 is_open_to Host group.Host = true
 is_open_to _ _ = false
 
+abbrev pub is_of_turn : Group → Bool
+is_of_turn group.Turn = true
+is_of_turn _ = false
+
 -- The step is one of the turn's holder, whatever it holds the turn for.
 abbrev pub is_of_any_holder : Step → Bool
 is_of_any_holder (step.Take o) = false
 is_of_any_holder step.Grant = false
 is_of_any_holder step.Full = false
 is_of_any_holder s = is_of_turn (group_of s)
-  where
-    is_of_turn : Group → Bool
-    is_of_turn group.Turn = true
-    is_of_turn _ = false
 
 -- the steps that decide a New, besides those of any holder
 abbrev pub may_decide : Op → Step → Bool

@@ -1,5 +1,5 @@
 -- Conditions 4, 5 and 6: the arguments are in range, and the gates and the phase are as the kind asks.
-use Rattle.std.specs.Prelude.{ℕ, ◌*◌, Bool, true, false, ◌&&◌, ◌||◌, not, nat_lt, nat_le, ◌==◌, Option, Some, None}
+use Rattle.std.specs.Prelude.{ℕ, ◌*◌, Bool, true, ◌&&◌, ◌||◌, not, nat_lt, nat_le, ◌==◌, Option, Some}
 use Rattle.mk_geom.specs.declared.addresses.Cell.{Cell}
 use Rattle.mk_geom.specs.Headers.{header_of}
 use Rattle.mk_core.specs.declared.config.Config.{Config}
@@ -10,6 +10,7 @@ use Rattle.mk_core.specs.declared.events.Step.{Step}
 use Rattle.mk_core.specs.declared.events.Step.TheVariants as step
 use Rattle.mk_core.specs.declared.seats.Flight.{Flight}
 use Rattle.mk_core.specs.Words.{Words}
+use Rattle.mk_core.specs.Bounded.{is_some_and}
 use Rattle.mk_core.specs.Calls.{has_operands, word_met}
 use Rattle.mk_core.specs.Cells.{header_in, heads_run, is_unmapped_header}
 use Rattle.mk_core.specs.NewPlaces.{target}
@@ -62,8 +63,7 @@ is_in_range c seat f _ = true
 
 -- An undecided Free whose register points into a run is of a large object.
 abbrev pub is_run_cell : Words → Option Cell → Bool
-is_run_cell w (Some cell) = heads_run (header_in w cell.page)
-is_run_cell w None = false
+is_run_cell w cell = is_some_and (λ (x : Cell). heads_run (header_in w x.page)) cell
 
 -- condition 5
 abbrev pub has_gates : Config → Words → Seat → Flight → Step → Bool

@@ -9,6 +9,6 @@ pub record CoreState : Type 0 where
   pub config : Config
   pub now : Moment
 
-pub record StandsFor (core : CoreState) (events : List Event) : Type 0 where
+pub record CoreStandsFor (core : CoreState) (events : List Event) : Type 0 where
   pub enabled : AreEnabled core.config events
   pub now : core.now ≡ (left core.config events).now

@@ -1,5 +1,5 @@
 -- Condition 7 for the kinds of the turn's holder that mark, begin, close and end a cycle.
-use Rattle.std.specs.Prelude.{ℕ, ◌^◌, Bool, true, false, ◌&&◌, ◌||◌, not, nat_lt, ◌==◌, List, Option, Some, None, slice_index, bit_and}
+use Rattle.std.specs.Prelude.{ℕ, ◌^◌, Bool, true, false, ◌&&◌, ◌||◌, not, nat_lt, ◌==◌, List, Option, slice_index, bit_and}
 use Rattle.std.specs.List.{list_all}
 use Rattle.mk_geom.specs.declared.addresses.Cell.{Cell}
 use Rattle.mk_geom.specs.declared.pages.Place.{Place}
@@ -10,8 +10,10 @@ use Rattle.mk_core.specs.declared.seats.Marker.{Marker}
 use Rattle.mk_core.specs.declared.seats.Presence.{Presence}
 use Rattle.mk_core.specs.declared.seats.Presence.TheVariants.{Attending}
 use Rattle.mk_core.specs.Words.{Words, header_at, used_at}
-use Rattle.mk_core.specs.Tests.{all_below, without}
-use Rattle.mk_core.specs.Cells.{header_in, head_page, cells_under, cell_bits, has_no_pointers, pointed_cell, is_marked, points_well, words_point_well, none_is_released}
+use Rattle.mk_core.specs.Bits.{without}
+use Rattle.mk_core.specs.Bounded.{all_below, is_some_and}
+use Rattle.mk_core.specs.Cells.{header_in, head_page, cells_under, cell_bits, has_no_pointers, pointed_cell, is_marked, points_well, words_point_well, none_is_left_unmarked}
+use Rattle.mk_core.specs.declared.seats.Object.{Object}
 use Rattle.mk_core.specs.NewPlaces.{object_made, bits_made}
 use Rattle.mk_core.specs.TurnConditions.{place_now}
 use Rattle.mk_core.specs.Moments.{Moment, is_phase}
@@ -25,22 +27,22 @@ none_attends markers = list_all (λ (marker : Marker). not (is_attending marker.
 
 -- `mark` (a): the one bit of the cell into which the hand points
 abbrev pub is_bit_of : Option Cell → ℕ → ℕ → Bool
-is_bit_of None page value = false
-is_bit_of (Some cell) page value = (page == cell.page) && (value == 2 ^ cell.index)
+is_bit_of cell page value = is_some_and (λ (x : Cell). (page == x.page) && (value == 2 ^ x.index)) cell
 
 abbrev pub marks_by_hand : ℕ → Words → Option Hand → ℕ → ℕ → Bool
-marks_by_hand pages w None page value = false
-marks_by_hand pages w (Some hand) page value = is_bit_of (pointed_cell pages w hand.value) page value
+marks_by_hand pages w hand page value =
+    is_some_and (λ (x : Hand). is_bit_of (pointed_cell pages w.pages x.value) page value) hand
 
 -- `mark` (b): the bits of the cells that the place's first page gets, which has no header yet.
-abbrev pub marks_place : Config → Moment → Flight → Option Place → ℕ → ℕ → Bool
-marks_place c m f None page value = false
-marks_place c m f (Some place) page value =
-    is_phase m.words 1 && (page == place.page) && (header_at m.words page == 0) && (value == bits_made (object_made c f.op))
+abbrev pub marks_place : Words → Object → Option Place → ℕ → ℕ → Bool
+marks_place w o place page value =
+    is_some_and
+    (λ (x : Place). is_phase w 1 && (page == x.page) && (header_at w page == 0) && (value == bits_made o))
+    place
 
 abbrev pub may_mark : Config → Moment → Flight → ℕ → ℕ → Bool
 may_mark c m f page value =
-    marks_by_hand c.pages m.words m.seats.holding.hand page value || marks_place c m f (place_now c m f) page value
+    marks_by_hand c.pages m.words m.seats.holding.hand page value || marks_place m.words (object_made c f.op) (place_now c m f) page value
 
 -- `begin`: no mark is left, the snapshot is taken, and no object is fresh
 abbrev pub has_clean_page : Words → ℕ → Bool
@@ -64,7 +66,7 @@ may_close c m = none_attends m.seats.markers && all_below c.pages (has_closed_pa
 -- `end`: no released cell is left, and each page with a header has a used cell, a run's at its head
 abbrev pub has_settled_page : Words → ℕ → Bool
 has_settled_page w p =
-    none_is_released w p && ((header_at w p == 0) || not (used_at w (head_page w p) == 0))
+    none_is_left_unmarked w p && ((header_at w p == 0) || not (used_at w (head_page w p) == 0))
 
 abbrev pub may_end : ℕ → Words → Bool
 may_end pages w = all_below pages (has_settled_page w)

@@ -1,5 +1,5 @@
 -- Condition 7 for the kinds of the turn's holder that change objects: each kind's own condition.
-use Rattle.std.specs.Prelude.{ℕ, ◌+◌, ◌-◌, ◌*◌, ◌/◌, ◌%◌, ◌^◌, Bool, true, false, ◌&&◌, ◌||◌, not, ◌==◌, Option, Some, None, if◌then◌else◌, slice_index, sum_by, count_by, bit_and, is_none}
+use Rattle.std.specs.Prelude.{ℕ, ◌+◌, ◌-◌, ◌*◌, ◌/◌, ◌%◌, ◌^◌, Bool, true, false, ◌&&◌, ◌||◌, not, ◌==◌, Option, None, if◌then◌else◌, slice_index, sum_by, count_by, bit_and, is_none}
 use Rattle.mk_core.specs.declared.seats.Object.{Object}
 use Rattle.mk_geom.specs.declared.addresses.Cell.{Cell}
 use Rattle.mk_geom.specs.declared.pages.Place.{Place}
@@ -15,10 +15,11 @@ use Rattle.mk_core.specs.declared.seats.Placing.TheVariants.{Unplaced, Used}
 use Rattle.mk_core.specs.declared.seats.OwnCycle.{OwnCycle}
 use Rattle.mk_core.specs.declared.seats.OwnCycle.TheVariants.{Ended}
 use Rattle.mk_core.specs.declared.seats.RunPages.{RunPages}
-use Rattle.mk_core.specs.Image.{address_of}
+use Rattle.mk_geom.specs.Addresses.{address_of}
 use Rattle.mk_core.specs.Words.{Words, used_at, quarantine_word}
-use Rattle.mk_core.specs.Tests.{all_below, has_bit, without}
-use Rattle.mk_core.specs.Cells.{head_page, pointed_cell, is_freed, are_released, is_released_cell, words_are_zero, first_word, cell_words, is_in_run}
+use Rattle.mk_core.specs.Bits.{has_bit, without}
+use Rattle.mk_core.specs.Bounded.{all_below, is_some_and}
+use Rattle.mk_core.specs.Cells.{head_page, pointed_cell, is_freed, are_left_unmarked, is_released, words_are_zero, first_word, cell_words, is_in_run}
 use Rattle.mk_core.specs.NewPlaces.{object_made, first_fit, place_in, pages_made, header_made, bits_made, is_next_header, place_stands, unmapped_header, is_run_unmapped, is_run_gone, is_undecided_new, target}
 use Rattle.mk_core.specs.Moments.{Moment, is_phase}
 
@@ -33,16 +34,16 @@ is_marked_first w o place =
     not (is_phase w 1) || (without (bits_made o) (slice_index w.marks place.page) == 0)
 
 -- `head` (a) and (b): a page of the place gets its header
-abbrev pub carves : Config → Moment → Flight → Option Place → ℕ → ℕ → Bool
-carves c m f None page value = false
-carves c m f (Some place) page value =
-    is_next_header m.words place.page (pages_made (object_made c f.op)) (header_made (object_made c f.op)) page value
-    && is_marked_first m.words (object_made c f.op) place
+abbrev pub carves : Words → Object → Option Place → ℕ → ℕ → Bool
+carves w o place page value =
+    is_some_and
+    (λ (x : Place). is_next_header w x.page (pages_made o) (header_made o) page value && is_marked_first w o x)
+    place
 
 -- `head` (c): a page of the run that the call freed is unmapped
 abbrev pub unmaps : Words → Option RunPages → ℕ → ℕ → Bool
-unmaps w None page value = false
-unmaps w (Some run) page value = is_next_header w run.page run.count (unmapped_header run.count) page value
+unmaps w freed page value =
+    is_some_and (λ (run : RunPages). is_next_header w run.page run.count (unmapped_header run.count) page value) freed
 
 -- `head` (d): a page with nothing on it is free. A later page of a run is asked for its head's words.
 abbrev pub empties : Words → ℕ → ℕ → Bool
@@ -54,14 +55,15 @@ abbrev pub may_head : Config → Moment → Flight → ℕ → ℕ → Bool
 may_head c m f page value =
     if is_phase m.words 4
     then empties m.words page value
-    else carves c m f (place_now c m f) page value || unmaps m.words m.seats.holding.freed page value
+    else carves m.words (object_made c f.op) (place_now c m f) page value || unmaps m.words m.seats.holding.freed page value
 
 -- `used` (a): the cell of the place is taken, once, behind all its headers
-abbrev pub takes_cell : Config → Moment → Flight → Option Place → ℕ → ℕ → Bool
-takes_cell c m f None page value = false
-takes_cell c m f (Some place) page value =
-    (page == place.page) && place_stands m.words (object_made c f.op) place
-    && not (has_bit (used_at m.words page) place.index) && (value == used_at m.words page + 2 ^ place.index)
+abbrev pub takes_cell : Words → Object → Option Place → ℕ → ℕ → Bool
+takes_cell w o place page value =
+    is_some_and
+    (λ (x : Place). (page == x.page) && place_stands w o x && not (has_bit (used_at w page) x.index)
+    && (value == used_at w page + 2 ^ x.index))
+    place
 
 abbrev pub is_used_once : Placing → Bool
 is_used_once (Used place) = true
@@ -75,21 +77,22 @@ are_wiped w page bits =
 -- `used` (b): released cells whose words are 0 are given back
 abbrev pub gives_back : Words → ℕ → ℕ → Bool
 gives_back w page value =
-    (bit_and value (used_at w page) == value) && are_released w page (used_at w page - value)
+    (bit_and value (used_at w page) == value) && are_left_unmarked w page (used_at w page - value)
     && are_wiped w page (used_at w page - value)
 
 abbrev pub may_use : Config → Moment → Flight → ℕ → ℕ → Bool
 may_use c m f page value =
     if is_phase m.words 4
     then gives_back m.words page value
-    else not (is_used_once m.seats.holding.placing) && takes_cell c m f (place_now c m f) page value
+    else not (is_used_once m.seats.holding.placing) && takes_cell m.words (object_made c f.op) (place_now c m f) page value
 
 -- `quar` (a): the freed bit of the target, which wasn't set
 abbrev pub frees : Words → Option Cell → ℕ → ℕ → Bool
-frees w None page value = false
-frees w (Some cell) page value =
-    (page == cell.page) && not (is_freed w cell)
-    && (value == quarantine_word (slice_index w.freed page + 2 ^ cell.index) (slice_index w.snapshot page))
+frees w cell page value =
+    is_some_and
+    (λ (x : Cell). (page == x.page) && not (is_freed w x)
+    && (value == quarantine_word (slice_index w.freed page + 2 ^ x.index) (slice_index w.snapshot page)))
+    cell
 
 -- the cell that a `quar` frees
 abbrev pub cell_freed : ℕ → Words → Flight → ℕ → ℕ → Option Cell
@@ -105,7 +108,7 @@ takes_snapshot w page value =
 abbrev pub drops : Words → ℕ → ℕ → ℕ → Bool
 drops w page freed snapshot =
     (bit_and snapshot (slice_index w.snapshot page) == snapshot)
-    && are_released w page (slice_index w.snapshot page - snapshot)
+    && are_left_unmarked w page (slice_index w.snapshot page - snapshot)
     && (bit_and (used_at w page) (slice_index w.snapshot page - snapshot) == 0)
     && (freed == without (slice_index w.freed page) (slice_index w.snapshot page - snapshot))
 
@@ -142,10 +145,9 @@ is_full c w f _ _ = false
 
 -- a word of the run whose pages this call unmapped
 abbrev pub is_in_gone_run : Words → Option RunPages → ℕ → Bool
-is_in_gone_run w None n = false
-is_in_gone_run w (Some run) n = is_in_run run n && is_run_unmapped w run
+is_in_gone_run w freed n = is_some_and (λ (run : RunPages). is_in_run run n && is_run_unmapped w run) freed
 
 -- `wipe`
 abbrev pub may_wipe : Config → Moment → ℕ → Bool
 may_wipe c m n =
-    is_released_cell m.words (pointed_cell c.pages m.words (address_of n)) || is_in_gone_run m.words m.seats.holding.freed n
+    is_some_and (is_released m.words) (pointed_cell c.pages m.words.pages (address_of n)) || is_in_gone_run m.words m.seats.holding.freed n

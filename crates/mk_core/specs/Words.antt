@@ -65,13 +65,13 @@ used_at w p = (page_of w p).used
 abbrev pub quarantine_word : ℕ → ℕ → ℕ
 quarantine_word freed snapshot = freed + 2 ^ 32 * snapshot
 
-abbrev pub register_at : Words → ℕ → ℕ → ℕ
-register_at w caller r = slice_index w.registers (8 * caller + r)
+abbrev pub register_word : Words → ℕ → ℕ → ℕ
+register_word w caller r = slice_index w.registers (8 * caller + r)
 
 abbrev pub named_word : Words → Word → ℕ
 named_word w word.Phase = w.phase
 named_word w (word.Gate caller) = slice_index w.gates caller
-named_word w (word.Reg caller r) = register_at w caller r
+named_word w (word.Reg caller r) = register_word w caller r
 named_word w (word.Global g) = slice_index w.globals g
 named_word w (word.Head p) = header_at w p
 named_word w (word.Used p) = used_at w p
@@ -108,9 +108,9 @@ with_named w word.Cycles value = record w { cycles = value }
 with_named w word.Released value = record w { released = value }
 with_named w word.Full value = record w { full = value }
 
-abbrev pub with_word : Words → TableWord → ℕ → Words
-with_word w Turn value = record w { turn = value }
-with_word w (Named name) value = with_named w name value
+abbrev pub with_table_word : Words → TableWord → ℕ → Words
+with_table_word w Turn value = record w { turn = value }
+with_table_word w (Named name) value = with_named w name value
 
 -- what an access makes of the word that it finds
 abbrev pub becomes : Access → ℕ → ℕ
@@ -124,11 +124,11 @@ becomes (Sub n) found = (found + (2 ^ 64 - n)) % 2 ^ 64
 -- the words behind an access to one of them
 abbrev pub accessed : Words → TableWord → Access → Words
 accessed w name Load = w
-accessed w name (Store value) = with_word w name value
-accessed w name (Exchange old new) = with_word w name (becomes (Exchange old new) (word_in w name))
-accessed w name (Or bits) = with_word w name (becomes (Or bits) (word_in w name))
-accessed w name (Add n) = with_word w name (becomes (Add n) (word_in w name))
-accessed w name (Sub n) = with_word w name (becomes (Sub n) (word_in w name))
+accessed w name (Store value) = with_table_word w name value
+accessed w name (Exchange old new) = with_table_word w name (becomes (Exchange old new) (word_in w name))
+accessed w name (Or bits) = with_table_word w name (becomes (Or bits) (word_in w name))
+accessed w name (Add n) = with_table_word w name (becomes (Add n) (word_in w name))
+accessed w name (Sub n) = with_table_word w name (becomes (Sub n) (word_in w name))
 
 -- The phase word has the phase in its low three bits, and the markers that are in above them.
 abbrev pub phase_of : Words → ℕ

@@ -2,9 +2,10 @@
 ghost use Rattle.std.specs.Prelude.{◌≡◌, ℕ, ◌+◌, ◌-◌, ◌*◌, ◌^◌, ◌<◌, ◌≤◌, ◌==◌, IfSome, IfNone, slice_index};
 ghost use Rattle.mk_core.specs.Words.{header_at, used_at};
 ghost use Rattle.mk_geom.specs.Headers.{header_of};
-ghost use Rattle.mk_core.specs.Image.{address_of};
-ghost use Rattle.mk_core.specs.Tests.{all_below, has_bit, without};
-ghost use Rattle.mk_core.specs.Cells.{cells_under, words_under, run_headed, heads_run, is_leaf_header, is_unmapped_header, has_no_pointers, head_page, head_behind, cell_bits, first_word, cell_words, pointed_cell, is_used, is_freed, is_marked, is_marked_cell, points_well, word_points_well, words_point_well, words_are_zero, is_released, is_released_cell, are_released, none_is_released, is_in_run};
+ghost use Rattle.mk_geom.specs.Addresses.{address_of};
+ghost use Rattle.mk_core.specs.Bits.{has_bit, without};
+ghost use Rattle.mk_core.specs.Bounded.{all_below};
+ghost use Rattle.mk_core.specs.Cells.{cells_under, words_under, run_headed, heads_run, is_leaf_header, is_unmapped_header, has_no_pointers, head_page, head_behind, cell_bits, first_word, cell_words, pointed_cell, is_used, is_freed, is_marked, points_well, word_points_well, words_point_well, words_are_zero, left_unmarked, is_left_unmarked, are_left_unmarked, none_is_left_unmarked, is_released, is_in_run};
 
 use crate::geometry::{HEAP_START, PAGE_WORDS, WORD_BYTES, page_at};
 use crate::table::Table;
@@ -171,7 +172,7 @@ impl Table {
     /// What a value points into, in a heap of so many pages.
     #[tactic(auto, unfolding(crate::specs::Cells::pointed_cell))]
     pub(crate) fn pointed_cell(&self, pages: u64, value: u64) -> Option<Cell>
-        ensures { result ≡ pointed_cell pages self.now value }
+        ensures { result ≡ pointed_cell pages self.now.pages value }
     {
         lookup(pages, self.header(page_at(value)), value)
     }
@@ -239,28 +240,33 @@ impl Table {
         true
     }
 
-    /// Whether the cell is released: the phase is releasing, and the cell is in the snapshot and not
-    /// marked.
+    /// The cells of a page that are in the snapshot and have no mark, as bits.
+    fn left_unmarked(&self, page: u64) -> u64
+        ensures { result ≡ left_unmarked self.now page }
+    {
+        without(self.snapshot(page) as u64, self.mark(page))
+    }
+
+    /// Whether these cells of a page, as bits, are all in the snapshot and have no mark.
+    pub(crate) fn are_left_unmarked(&self, page: u64, bits: u64) -> bool
+        ensures { result ≡ are_left_unmarked self.now page bits }
+    {
+        without(bits, self.left_unmarked(page)) == 0
+    }
+
+    /// Whether no cell of the page is in the snapshot and has no mark.
+    pub(crate) fn none_is_left_unmarked(&self, page: u64) -> bool
+        ensures { result ≡ none_is_left_unmarked self.now page }
+    {
+        self.left_unmarked(page) == 0
+    }
+
+    /// Whether the cell is released: the phase is releasing, and the cell is in the snapshot and has no
+    /// mark.
     pub(crate) fn is_released(&self, cell: Cell) -> bool
         ensures { result ≡ is_released self.now cell }
     {
-        self.phase() == 4
-            && has_bit(self.snapshot(cell.page) as u64, cell.index)
-            && !self.is_marked(cell)
-    }
-
-    /// Whether these cells of a page, as bits, are all in the snapshot and none is marked.
-    pub(crate) fn are_released(&self, page: u64, bits: u64) -> bool
-        ensures { result ≡ are_released self.now page bits }
-    {
-        without(bits, self.snapshot(page) as u64) == 0 && bits & self.mark(page) == 0
-    }
-
-    /// Whether no cell of the page is in the snapshot and unmarked.
-    pub(crate) fn none_is_released(&self, page: u64) -> bool
-        ensures { result ≡ none_is_released self.now page }
-    {
-        without(self.snapshot(page) as u64, self.mark(page)) == 0
+        self.phase() == 4 && has_bit(self.left_unmarked(cell.page), cell.index)
     }
 }
 
@@ -268,7 +274,7 @@ impl Core {
     /// The cell or run that has a heap word.
     #[tactic(auto, unfolding(crate::specs::Cells::pointed_cell))]
     pub(crate) fn cell_of_word(&self, word: u64) -> Option<Cell>
-        ensures { result ≡ pointed_cell self.now.config.pages self.now.now.words (address_of word) }
+        ensures { result ≡ pointed_cell self.now.config.pages self.now.now.words.pages (address_of word) }
     {
         self.is_within_limits();
         let pages = self.config.pages;

@@ -2,11 +2,11 @@
 //! count of fresh words.
 ghost use Rattle.std.specs.Prelude.{◌≡◌, ◌<◌, ◌%◌, ◌==◌, if◌then◌else◌, IsTrue};
 ghost use Rattle.mk_geom.specs.Addresses.{page_at_address};
-ghost use Rattle.mk_core.specs.Image.{address_of};
+ghost use Rattle.mk_geom.specs.Addresses.{address_of};
 ghost use Rattle.mk_core.specs.Calls.{at_rest};
 ghost use Rattle.mk_core.specs.Cells.{pointed_cell};
 ghost use Rattle.mk_core.specs.Ranges.{is_in_range};
-ghost use Rattle.mk_core.specs.NewPlaces.{target};
+ghost use Rattle.mk_core.specs.NewPlaces.{object_made, target};
 ghost use Rattle.mk_core.specs.TurnConditions.{place_now, cell_freed};
 ghost use Rattle.mk_core.specs.StopConditions.{marks_place};
 ghost use Rattle.mk_core.specs.Moments.{marker_of, is_phase};
@@ -323,7 +323,7 @@ impl Core {
 
     /// The place of the object that a `mark` may serve.
     fn placing_marked(&self, flight: Flight, page: u64, value: u64) -> Placing
-        ensures { result ≡ (if marks_place self.now.config self.now.now flight (place_now self.now.config self.now.now flight) page value then chosen self.now.now.seats.holding.placing (place_now self.now.config self.now.now flight) else self.now.now.seats.holding.placing) }
+        ensures { result ≡ (if marks_place self.now.now.words (object_made self.now.config flight.op) (place_now self.now.config self.now.now flight) page value then chosen self.now.now.seats.holding.placing (place_now self.now.config self.now.now flight) else self.now.now.seats.holding.placing) }
     {
         if self.marks_place(flight, page, value) {
             chosen(self.holding.placing, self.place_now(flight))

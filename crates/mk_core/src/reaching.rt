@@ -1,15 +1,15 @@
 //! Which word each event reaches, and how.
 ghost use Rattle.std.specs.Prelude.{◌≡◌, ◌+◌, ◌%◌, ◌^◌, IsTrue};
 ghost use Rattle.mk_core.specs.declared.events.Word.TheVariants as word;
-ghost use Rattle.mk_core.specs.Image.{address_of};
-ghost use Rattle.mk_core.specs.Tests.{bit_for};
+ghost use Rattle.mk_geom.specs.Addresses.{address_of};
+ghost use Rattle.mk_core.specs.Bits.{bit_for};
 ghost use Rattle.mk_core.specs.Calls.{word_met};
 ghost use Rattle.mk_core.specs.Order.{seat_exists};
 ghost use Rattle.mk_core.specs.Ranges.{is_in_range, is_word_met};
 ghost use Rattle.mk_core.specs.NewPlaces.{object_made, base_made};
 ghost use Rattle.mk_core.specs.MarkerConditions.{cell_seen};
-ghost use Rattle.mk_core.specs.Moments.{flight_of, holder_number};
-ghost use Rattle.mk_core.specs.Accesses.{caller_number, register_met, reg_access, tally_word, granted_base, next_word, scan_page, scan_bit, seen_page, seen_bit, marker_at, reached, access};
+ghost use Rattle.mk_core.specs.Moments.{flight_of, marker_at, holder_number};
+ghost use Rattle.mk_core.specs.Accesses.{caller_number, register_met, reg_access, tally_word, granted_base, next_word, scan_page, scan_bit, seen_page, seen_bit, reached, access};
 
 use crate::calls::{
     global_of, page_met, register_d, register_p, register_q, register_r, value_for, value_written,
@@ -116,7 +116,7 @@ fn register_word(caller: u64, register: u8) -> Word
 
 impl Core {
     /// What a seat is at as a marker; another is outside.
-    fn marker_at(&self, seat: Seat) -> Marker
+    pub(crate) fn marker_at(&self, seat: Seat) -> Marker
         ensures { result ≡ marker_at self.now.now seat }
     {
         match seat {

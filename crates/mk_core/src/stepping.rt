@@ -2,14 +2,15 @@
 ghost use Rattle.std.specs.Prelude.{◌≡◌, ◌≢◌, ◌↔◌, ℕ, ◌<◌, ◌≤◌, List, [], ◌∷◌, ◌++◌, IsTrue, MatchResult, IsOk, IfOk, IfErr, OnOk, OnErr, replicate};
 ghost use Rattle.mk_core.specs.Config.{IsWithinLimits};
 ghost use Rattle.mk_core.specs.Calls.{at_rest};
-ghost use Rattle.mk_core.specs.Moments.{first_moment, flight_of, outside};
+ghost use Rattle.mk_core.specs.Moments.{first_moment, flight_of, marker_at, outside};
 ghost use Rattle.mk_core.specs.Order.{seat_exists};
 ghost use Rattle.mk_core.specs.Ranges.{is_in_range};
-ghost use Rattle.mk_core.specs.Enabled.{holder_may, meets_own, failing_in_order, failing, IsEnabled};
+ghost use Rattle.mk_core.specs.Enabled.{marker_may, holder_may, meets_own, failing_in_order, failing, IsEnabled};
 ghost use Rattle.mk_core.specs.Accesses.{caller_number};
 ghost use Rattle.mk_core.specs.Effects.{seats_behind, moment_behind, answer_by, answer_decided};
-ghost use Rattle.mk_core.specs.History.{left, AreEnabled, calls, entry_of};
-ghost use Rattle.mk_core.specs.Standing.{CoreState, StandsFor};
+ghost use Rattle.mk_core.specs.History.{left, AreEnabled, calls};
+ghost use Rattle.mk_core.specs.Decided.{entry_of};
+ghost use Rattle.mk_core.specs.Standing.{CoreState, CoreStandsFor};
 ghost use Rattle.mk_core.specs.declared.events.Event.{Event};
 
 use crate::machine::{AT_REST, NOTHING_DONE, OUTSIDE};
@@ -53,7 +54,7 @@ impl Core {
         requires within_limits { IsWithinLimits config.now }
         ensures config { IfOk result (λ core. core.config ≡ config.now) }
         ensures now { IfOk result (λ core. core.now ≡ first_moment config.now) }
-        ensures stands { IfOk result (λ core. StandsFor core []) }
+        ensures stands { IfOk result (λ core. CoreStandsFor core []) }
     {
         Core::of(alloc, config.try_clone(alloc)?)
     }
@@ -84,14 +85,11 @@ impl Core {
     }
 
     /// Whether the event meets its kind's own condition.
-    #[tactic(auto, unfolding(crate::specs::Enabled::meets_own))]
     fn meets_own(&self, event: Event) -> bool
         ensures { result ≡ meets_own self.now.config self.now.now event.seat event.step }
     {
-        match event.seat {
-            Seat::Marker(marker) => self.marker_may(self.marker(marker), event.step),
-            Seat::Caller(_) | Seat::Host => self.holder_may(self.flight(event.seat), event.step),
-        }
+        self.marker_may(self.marker_at(event.seat), event.step)
+            && self.holder_may(self.flight(event.seat), event.step)
     }
 
     /// The first of conditions 4 to 7 that fails, or 0.
@@ -135,10 +133,10 @@ impl Core {
         ensures answer { result ≡ answer_by self.old.config self.old.now event.seat found event.step }
     {
         let flight = self.flight(event.seat);
-        match event.seat {
+        let holding = self.holding_behind(event.seat, flight, found, event.step);
+        let answer = match event.seat {
             Seat::Caller(caller) => {
                 let progress = self.progress(flight, found, event.step);
-                self.holding = self.holding_behind(event.seat, flight, found, event.step);
                 if let Some(slot) = self.flights.get_mut(caller as usize) {
                     *slot = progress.flight;
                 }
@@ -151,11 +149,10 @@ impl Core {
                 }
                 None
             }
-            Seat::Host => {
-                self.holding = self.holding_behind(event.seat, flight, found, event.step);
-                None
-            }
-        }
+            Seat::Host => None,
+        };
+        self.holding = holding;
+        answer
     }
 
     /// One event, where it is enabled.
@@ -183,9 +180,9 @@ impl Core {
     /// that the event decides, and None where it decides none. A compare and exchange that finds another
     /// value is an event too: it changes nothing, and decides nothing but in a `cas`.
     pub fn step(&mut self, event: Event) -> Result<Option<Answer>, NotEnabled>
-        ensures exact { (events : List Event) → StandsFor self.old events → (IsOk result ↔ AreEnabled self.old.config (events ++ event ∷ [])) }
-        ensures answer { (events : List Event) → StandsFor self.old events → IfOk result (λ a. calls self.old.config (events ++ event ∷ []) ≡ calls self.old.config events ++ entry_of (caller_number event.seat) (flight_of (left self.old.config events).now event.seat).op a) }
-        ensures stands { (events : List Event) → StandsFor self.old events → OnOk result (StandsFor self.new (events ++ event ∷ [])) }
+        ensures exact { (events : List Event) → CoreStandsFor self.old events → (IsOk result ↔ AreEnabled self.old.config (events ++ event ∷ [])) }
+        ensures answer { (events : List Event) → CoreStandsFor self.old events → IfOk result (λ a. calls self.old.config (events ++ event ∷ []) ≡ calls self.old.config events ++ entry_of (caller_number event.seat) (flight_of (left self.old.config events).now event.seat).op a) }
+        ensures stands { (events : List Event) → CoreStandsFor self.old events → OnOk result (CoreStandsFor self.new (events ++ event ∷ [])) }
         ensures not_enabled { IfErr result (λ r. (failing self.old.config self.old.now event ≡ r.condition) × (1 ≤ r.condition)) }
         ensures config { self.new.config ≡ self.old.config }
         ensures unchanged { OnErr result (self.new ≡ self.old) }

@@ -1,9 +1,9 @@
 //! What the turn's holder may do to objects: the own condition of each kind of step that changes them.
 ghost use Rattle.std.specs.Prelude.{◌≡◌, ◌&&◌, ◌<◌, sum_by};
 ghost use Rattle.mk_geom.specs.PageWords.{uses_of_pages};
-ghost use Rattle.mk_core.specs.Image.{address_of};
+ghost use Rattle.mk_geom.specs.Addresses.{address_of};
 ghost use Rattle.mk_core.specs.Cells.{pointed_cell, first_word, cell_words, words_are_zero};
-ghost use Rattle.mk_core.specs.NewPlaces.{pages_made, header_made, is_next_header};
+ghost use Rattle.mk_core.specs.NewPlaces.{object_made, pages_made, header_made, is_next_header};
 ghost use Rattle.mk_core.specs.TurnConditions.{is_marked_first, carves, unmaps, empties, may_head, takes_cell, is_used_once, are_wiped, gives_back, may_use, takes_snapshot, drops, may_quarantine, words_held_by, is_decided, may_give, is_full, is_in_gone_run, may_wipe, place_now};
 
 use crate::cells::{has_bit, without};
@@ -80,7 +80,7 @@ impl Table {
     {
         let used = self.used(page);
         let gone = used.saturating_sub(value);
-        value & used == value && self.are_released(page, gone) && self.are_wiped(page, gone)
+        value & used == value && self.are_left_unmarked(page, gone) && self.are_wiped(page, gone)
     }
 
     /// Whether the freed cells become the snapshot.
@@ -98,7 +98,7 @@ impl Table {
         let before = self.snapshot(page) as u64;
         let gone = before.saturating_sub(snapshot);
         snapshot & before == snapshot
-            && self.are_released(page, gone)
+            && self.are_left_unmarked(page, gone)
             && self.used(page) & gone == 0
             && freed == without(self.freed(page) as u64, gone)
     }
@@ -107,7 +107,7 @@ impl Table {
 impl Core {
     /// Whether a page of the place gets its header.
     fn carves(&self, flight: Flight, page: u64, value: u64) -> bool
-        ensures { result ≡ carves self.now.config self.now.now flight (place_now self.now.config self.now.now flight) page value }
+        ensures { result ≡ carves self.now.now.words (object_made self.now.config flight.op) (place_now self.now.config self.now.now flight) page value }
     {
         match self.place_now(flight) {
             Some(place) => {
@@ -144,7 +144,7 @@ impl Core {
 
     /// Whether the cell of the place is taken, behind all its headers.
     fn takes_cell(&self, flight: Flight, page: u64, value: u64) -> bool
-        ensures { result ≡ takes_cell self.now.config self.now.now flight (place_now self.now.config self.now.now flight) page value }
+        ensures { result ≡ takes_cell self.now.now.words (object_made self.now.config flight.op) (place_now self.now.config self.now.now flight) page value }
     {
         match self.place_now(flight) {
             Some(place) => {

@@ -1,5 +1,6 @@
 use Rattle.std.proofs.Common.{◌≡◌, true, ◌||◌, not}
-use Rattle.mk_core.specs.Tests.{all_below, has_bit}
+use Rattle.mk_core.specs.Bits.{has_bit}
+use Rattle.mk_core.specs.Bounded.{all_below}
 use Rattle.mk_core.specs.Cells.{first_word, cell_words, words_are_zero}
 use Rattle.mk_core.proofs.table.Table.are_wiped.Given as goal
 

@@ -1,6 +1,6 @@
 use Rattle.std.proofs.Common.{◌≡◌, true}
 use Rattle.std.specs.Prelude.{not}
-use Rattle.mk_core.specs.Tests.{all_below}
+use Rattle.mk_core.specs.Bounded.{all_below}
 use Rattle.mk_core.specs.StopConditions.{blackens}
 use Rattle.mk_core.proofs.table.Table.blackens_none.Given as goal
 

@@ -1,6 +1,6 @@
 use Rattle.std.proofs.Common.{◌≡◌, ◌+◌, true, slice_index}
 use Rattle.std.specs.Prelude.{◌==◌}
-use Rattle.mk_core.specs.Tests.{all_below}
+use Rattle.mk_core.specs.Bounded.{all_below}
 use Rattle.mk_core.proofs.table.Table.words_are_zero.Given as goal
 
 abbrev pub invariant-loop-i : goal.invariant-loop-i

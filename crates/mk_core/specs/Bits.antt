@@ -1,11 +1,6 @@
--- Tests over many numbers and over the bits of words.
-use Rattle.std.specs.Prelude.{ℕ, zero, suc, ◌-◌, ◌%◌, ◌^◌, Bool, true, ◌&&◌, ◌==◌, bit_and}
+-- The bits of words.
+use Rattle.std.specs.Prelude.{ℕ, ◌-◌, ◌%◌, ◌^◌, Bool, ◌==◌, bit_and}
 use Rattle.std.specs.Int.{bit_at}
-
--- the test holds of each number below n
-unfoldable pub all_below : ℕ → (ℕ → Bool) → Bool
-all_below zero test = true
-all_below (suc n) test = all_below n test && test n
 
 abbrev pub has_bit : ℕ → ℕ → Bool
 has_bit word k = bit_at word k == 1
