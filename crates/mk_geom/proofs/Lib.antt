@@ -6,11 +6,5 @@ pub mod Standing
 pub mod TakenCells
 pub mod StoredWords
 pub mod Bridge
-pub mod Layouts
-pub mod CellAdded
 pub mod FirstFit
-pub mod RunAdded
-pub mod CellRemoved
-pub mod RunChanged
-pub mod StorageForms
 pub mod Start

@@ -5,5 +5,4 @@ pub mod PageWords
 pub mod Storages
 pub mod Addresses
 pub mod Places
-pub mod Changes
 pub mod Laws
