@@ -27,7 +27,7 @@ shows_header h used in_range =
     let is : header_of (word_of h) ≡ Some h = header_of-word_of h in_range in
     (subst (λ (o : Option Header). IsSome o) (sym is) refl, ap (λ o. use_under o used) is)
 
-block_in_range : (class : ℕ) (leaf : Bool) → class < 8 → IsInRange (block_header class leaf)
+pub block_in_range : (class : ℕ) (leaf : Bool) → class < 8 → IsInRange (block_header class leaf)
 block_in_range class true known = known
 block_in_range class false known = known
 
@@ -40,7 +40,7 @@ block_shows class leaf taken known long =
     let shown = shows_header (block_header class leaf) (used_word taken) (block_in_range class leaf known) in
     (shown.0, shown.1 ∙ block_use class leaf (used_word taken) ∙ ap (Cells class leaf) (bits_of-used_word taken (cells_of class) long))
 
-run_in_range : (pages : ℕ) (mapped leaf : Bool) (distance : ℕ) → 1 ≤ pages → pages ≤ 64 → distance ≤ 63 → IsInRange (run_header pages mapped leaf distance)
+pub run_in_range : (pages : ℕ) (mapped leaf : Bool) (distance : ℕ) → 1 ≤ pages → pages ≤ 64 → distance ≤ 63 → IsInRange (run_header pages mapped leaf distance)
 run_in_range pages mapped leaf zero some most near = elim (cases_Bool (leaf && mapped)) [
   | inl both ↦ subst IsInRange (sym (cond-true (leaf && mapped) _ _ both)) (some, most)
   | inr not_both ↦ subst IsInRange (sym (cond-false (leaf && mapped) _ _ not_both)) (some, most)

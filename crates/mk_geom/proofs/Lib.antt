@@ -8,3 +8,4 @@ pub mod StoredWords
 pub mod Bridge
 pub mod FirstFit
 pub mod Start
+pub mod PointedCells

@@ -1,12 +1,14 @@
 -- The laws of pages and storages. Each holds of all pages and all storages that they stand for.
-use Rattle.std.specs.Prelude.{◌≡◌, ℕ, ◌+◌, ◌<◌, ◌≤◌, Bool, true, false, List, [], ◌∷◌, ◌++◌, length, slice_get, replicate, slice_set, slice_index_or, remove, Some}
+use Rattle.std.specs.Prelude.{◌≡◌, ℕ, ◌+◌, ◌*◌, ◌<◌, ◌≤◌, Bool, true, false, List, [], ◌∷◌, ◌++◌, length, slice_get, replicate, slice_set, slice_index_or, remove, Some}
 use Rattle.mk_geom.specs.declared.pages.Page.{Page}
 use Rattle.mk_geom.specs.declared.pages.Place.{Place}
 use Rattle.mk_geom.specs.Classes.{cells_of, class_for, run_pages_of}
+use Rattle.mk_geom.specs.Addresses.{page_at_address, cell_at}
 use Rattle.mk_geom.specs.PageUses.{place_among, census_among}
 use Rattle.mk_geom.specs.PageWords.{use_of_page, uses_of_pages, HaveHeaderWords}
 use Rattle.mk_geom.specs.Places.{MayTakeCell, AreFree, IsCellPlace, IsRunPlace}
-use Rattle.mk_geom.specs.Storages.{Storage, uses_of_storages, place_of, census_of, free_page, run_page, PagesStandFor}
+use Rattle.mk_geom.specs.Storages.{Storage, uses_of_storages, place_of, census_of, free_page, IsStorage, PagesStandFor}
+use Rattle.mk_geom.specs.StorageWords.{PointsInto, cell_of_storage, ShowsStorage}
 
 -- Pages show what stands on them,
 abbrev pub PagesShowUses : Type 0
@@ -30,6 +32,19 @@ PagesShowCensus =
 -- Each header of such pages is a header word.
 abbrev pub PagesHaveHeaderWords : Type 0
 PagesHaveHeaderWords = (pages : List Page) (storages : List Storage) → PagesStandFor pages storages → HaveHeaderWords pages
+
+-- A value that points into a storage, on a page that shows it, points into its cell.
+abbrev pub PointsIntoCell : Type 0
+PointsIntoCell =
+    (pages header u : ℕ) (s : Storage)
+    → IsStorage pages s → ShowsStorage s (page_at_address u) header → PointsInto u s
+    → cell_at pages header u ≡ Some (cell_of_storage s)
+
+-- That cell begins at the storage's first word.
+abbrev pub CellHasFirstWord : Type 0
+CellHasFirstWord =
+    (pages : ℕ) (s : Storage)
+    → IsStorage pages s → 64 * (cell_of_storage s).page + (cell_of_storage s).index * s.words ≡ s.first
 
 -- Free pages stand for no storage.
 abbrev pub FreePagesStandForNothing : Type 0

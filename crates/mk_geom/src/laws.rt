@@ -1,6 +1,6 @@
 //! Laws of pages and the storages that they stand for: facts alone, with no code. A proof that needs a
 //! law calls its function, or cites the lemma that proves it.
-ghost use Rattle.mk_geom.specs.Laws.{PagesShowUses, PagesShowPlaces, PagesShowCensus, PagesHaveHeaderWords, FreePagesStandForNothing, FoundCellIsPlace, FoundRunIsPlace};
+ghost use Rattle.mk_geom.specs.Laws.{PagesShowUses, PagesShowPlaces, PagesShowCensus, PagesHaveHeaderWords, FreePagesStandForNothing, PointsIntoCell, CellHasFirstWord, FoundCellIsPlace, FoundRunIsPlace};
 
 /// Place, fits and census may be read off the pages as they are.
 pub fn pages_show_what_stands_there()
@@ -8,6 +8,12 @@ pub fn pages_show_what_stands_there()
     ensures places { PagesShowPlaces }
     ensures census { PagesShowCensus }
     ensures header_words { PagesHaveHeaderWords }
+{}
+
+/// What points into a storage is known by the header of its page.
+pub fn a_storage_has_its_cell()
+    ensures points_into { PointsIntoCell }
+    ensures first_word { CellHasFirstWord }
 {}
 
 /// The pages of a new heap.

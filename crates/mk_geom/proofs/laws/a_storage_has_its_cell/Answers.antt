@@ -1,0 +1,8 @@
+use Rattle.mk_geom.proofs.PointedCells.{points_into_cell, cell_first}
+use Rattle.mk_geom.proofs.laws.a_storage_has_its_cell.Goals as goal
+
+pub returns-clause-points_into : goal.returns-clause-points_into
+returns-clause-points_into c = points_into_cell
+
+pub returns-clause-first_word : goal.returns-clause-first_word
+returns-clause-first_word c = cell_first
