@@ -1,13 +1,13 @@
 -- The laws of pages and storages. Each holds of all pages and all storages that they stand for.
-use Rattle.std.specs.Prelude.{◌≡◌, ℕ, ◌+◌, ◌*◌, ◌<◌, ◌≤◌, Bool, true, false, List, [], ◌∷◌, ◌++◌, length, slice_get, replicate, slice_set, slice_index_or, remove, Some}
+use Rattle.std.specs.Prelude.{◌≡◌, ℕ, ◌+◌, ◌*◌, ◌<◌, ◌≤◌, Bool, true, false, List, [], ◌∷◌, ◌++◌, length, slice_get, replicate, slice_set, slice_index_or, remove, Some, Contains}
 use Rattle.mk_geom.specs.declared.pages.Page.{Page}
 use Rattle.mk_geom.specs.declared.pages.Place.{Place}
-use Rattle.mk_geom.specs.Classes.{cells_of, class_for, run_pages_of}
+use Rattle.mk_geom.specs.Classes.{class_words_of, cells_of, class_for, run_pages_of}
 use Rattle.mk_geom.specs.Addresses.{page_at_address, cell_at}
 use Rattle.mk_geom.specs.PageUses.{place_among, census_among}
 use Rattle.mk_geom.specs.PageWords.{use_of_page, uses_of_pages, HaveHeaderWords}
 use Rattle.mk_geom.specs.Places.{MayTakeCell, AreFree, IsCellPlace, IsRunPlace}
-use Rattle.mk_geom.specs.Storages.{Storage, uses_of_storages, place_of, census_of, free_page, IsStorage, PagesStandFor}
+use Rattle.mk_geom.specs.Storages.{Storage, uses_of_storages, place_of, census_of, taken_cells, used_word, free_page, block_page, run_page, words_of_storages, IsStorage, AreLaidOut, PagesStandFor}
 use Rattle.mk_geom.specs.StorageWords.{PointsInto, cell_of_storage, ShowsStorage}
 
 -- Pages show what stands on them,
@@ -32,6 +32,23 @@ PagesShowCensus =
 -- Each header of such pages is a header word.
 abbrev pub PagesHaveHeaderWords : Type 0
 PagesHaveHeaderWords = (pages : List Page) (storages : List Storage) → PagesStandFor pages storages → HaveHeaderWords pages
+
+-- The words of the page of a cell that is one of storages that are laid out,
+abbrev pub CellPageHasWords : Type 0
+CellPageHasWords =
+    (pages : ℕ) (storages : List Storage) (s : Storage)
+    → AreLaidOut pages storages → Contains storages s
+    → (page class index : ℕ) → class < 8 → index < cells_of class
+    → s.first ≡ 64 * page + index * class_words_of class → s.words ≡ class_words_of class
+    → words_of_storages storages page ≡ block_page class s.leaf (used_word (taken_cells storages page class))
+
+-- and of the pages of a run.
+abbrev pub RunPageHasWords : Type 0
+RunPageHasWords =
+    (pages : ℕ) (storages : List Storage) (s : Storage)
+    → AreLaidOut pages storages → Contains storages s
+    → (first count distance : ℕ) → s.first ≡ 64 * first → s.words ≡ 64 * count → distance < count
+    → words_of_storages storages (first + distance) ≡ run_page count s.mapped s.leaf distance
 
 -- A value that points into a storage, on a page that shows it, points into its cell.
 abbrev pub PointsIntoCell : Type 0

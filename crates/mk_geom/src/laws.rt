@@ -1,6 +1,6 @@
 //! Laws of pages and the storages that they stand for: facts alone, with no code. A proof that needs a
 //! law calls its function, or cites the lemma that proves it.
-ghost use Rattle.mk_geom.specs.Laws.{PagesShowUses, PagesShowPlaces, PagesShowCensus, PagesHaveHeaderWords, FreePagesStandForNothing, PointsIntoCell, CellHasFirstWord, FoundCellIsPlace, FoundRunIsPlace};
+ghost use Rattle.mk_geom.specs.Laws.{PagesShowUses, PagesShowPlaces, PagesShowCensus, PagesHaveHeaderWords, FreePagesStandForNothing, CellPageHasWords, RunPageHasWords, PointsIntoCell, CellHasFirstWord, FoundCellIsPlace, FoundRunIsPlace};
 
 /// Place, fits and census may be read off the pages as they are.
 pub fn pages_show_what_stands_there()
@@ -8,6 +8,12 @@ pub fn pages_show_what_stands_there()
     ensures places { PagesShowPlaces }
     ensures census { PagesShowCensus }
     ensures header_words { PagesHaveHeaderWords }
+{}
+
+/// What stands on a page may be read off any storage that stands there.
+pub fn a_storage_says_the_words_of_its_pages()
+    ensures cell { CellPageHasWords }
+    ensures run { RunPageHasWords }
 {}
 
 /// What points into a storage is known by the header of its page.
