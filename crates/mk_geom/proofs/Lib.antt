@@ -9,3 +9,4 @@ pub mod Bridge
 pub mod FirstFit
 pub mod Start
 pub mod PointedCells
+pub mod CellsOnPages

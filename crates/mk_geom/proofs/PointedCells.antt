@@ -18,7 +18,7 @@ use Rattle.mk_geom.proofs.HeaderLemmas.{header_of-word_of}
 use Rattle.mk_geom.proofs.Standing.{has_words, small_is_cell, large_is_run, class_of_cell, cell_stands_at, stands_parts, stands_from}
 
 -- a heap address whose page has this header
-looked_up : (pages header u : ℕ) (h : Header) → 65536 ≤ u → page_at_address u < pages → header_of header ≡ Some h → cell_at pages header u ≡ cell_under h (page_at_address u) (word_at_address u)
+pub looked_up : (pages header u : ℕ) (h : Header) → 65536 ≤ u → page_at_address u < pages → header_of header ≡ Some h → cell_at pages header u ≡ cell_under h (page_at_address u) (word_at_address u)
 looked_up pages header u h low within is =
     let high : u < 65536 + 512 * pages = omega arith in
     let inside : is_heap_address pages u ≡ true = and_from (nat_le 65536 u) (nat_lt u (65536 + 512 * pages)) (le-leb 65536 u low) (lt-ltb u (65536 + 512 * pages) high) in
@@ -67,6 +67,9 @@ module _ (pages header u : ℕ) (s : Storage) (is : IsStorage pages s) (low : 65
       ∙ run_under (s.words / 64) shows.0 s.leaf (page - first_page s) page (word_at_address u)
       ∙ run_found (page - first_page s) page (omega arith) ∙ ap (λ (p : ℕ). Some (record { page = p; index = 0 })) back
 
+pub class_has_words : (s : Storage) → IsCell s → class_words_of (class_of_storage s) ≡ s.words
+class_has_words s cell = ap class_words_of (class_of_cell s cell) ∙ sym cell.words
+
 -- the cell of a small storage
 pub cell_index : (s : Storage) (cell : IsCell s) → s.first % 64 / s.words ≡ cell.index
 cell_index s cell =
@@ -76,6 +79,11 @@ cell_index s cell =
 
 pub small_cell_of : (s : Storage) → is_small s ≡ true → cell_of_storage s ≡ record { page = first_page s; index = s.first % 64 / s.words }
 small_cell_of s small = ap (λ (n : ℕ). record { page = first_page s; index = n }) (cond-true (is_small s) (s.first % 64 / s.words) 0 small)
+
+small_cell_is : (s : Storage) (cell : IsCell s) (page : ℕ) → is_small s ≡ true → page ≡ first_page s → Some (record { page = page; index = cell.index }) ≡ Some (cell_of_storage s)
+small_cell_is s cell page small at =
+    ap (λ (p : ℕ). Some (record { page = p; index = cell.index })) at ∙ ap (λ (n : ℕ). Some (record { page = first_page s; index = n })) (sym (cell_index s cell))
+    ∙ ap (λ (k : Cell). Some k) (sym (small_cell_of s small))
 
 pub large_cell_of : (s : Storage) → is_small s ≡ false → cell_of_storage s ≡ record { page = first_page s; index = 0 }
 large_cell_of s large = ap (λ (n : ℕ). record { page = first_page s; index = n }) (cond-false (is_small s) (s.first % 64 / s.words) 0 large)
@@ -96,26 +104,29 @@ cell_first pages s is = elim (cases_Bool (is_small s)) [
 pub stands_at_address : (u : ℕ) (s : Storage) → PointsInto u s → stands_on (page_at_address u) s ≡ true
 stands_at_address u s (low, (from, to)) = stands_from (page_at_address u) s (omega arith) (omega arith)
 
--- the cell that has a word of a small storage
+-- the cell of a block that has one of its words
+block_cell : (class page index offset word : ℕ) → index < cells_of class → offset < class_words_of class → word ≡ index * class_words_of class + offset
+    → cell_of_block class page word ≡ Some (record { page = page; index = index })
+block_cell class page index offset word within inside is =
+    let w = class_words_of class in
+    let below : word < cells_of class * w = omega (arith, mul-le (suc index) w (cells_of class) w within (le_refl w)) in
+    let at : word / w ≡ index = ap (λ (n : ℕ). n / w) is ∙ div-mul-add index w offset inside in
+    cond-true (nat_lt word (cells_of class * w)) (Some (record { page = page; index = word / w })) None (lt-ltb word (cells_of class * w) below)
+    ∙ ap (λ (n : ℕ). Some (record { page = page; index = n })) at
+
 small_cell_at : (u : ℕ) (s : Storage) (cell : IsCell s) → is_small s ≡ true → PointsInto u s → cell_of_block (class_of_storage s) (page_at_address u) (word_at_address u) ≡ Some (cell_of_storage s)
 small_cell_at u s cell small into =
-    let words : class_words_of cell.class ≡ s.words = sym cell.words in
-    let w = class_words_of cell.class in
-    let at : s.first / 64 ≡ page_at_address u = cell_stands_at s (page_at_address u) cell (stands_at_address u s into) in
-    let ends = cell_ends cell.index w cell.within in
+    let at : page_at_address u ≡ first_page s = sym (cell_stands_at s (page_at_address u) cell (stands_at_address u s into)) in
+    let words = class_has_words s cell in
+    let within : cell.index < cells_of (class_of_storage s) = subst (λ (c : ℕ). cell.index < cells_of c) (sym (class_of_cell s cell)) cell.within in
+    let ends = cell_ends cell.index (class_words_of (class_of_storage s)) within in
+    let first : s.first % 64 ≡ cell.index * class_words_of (class_of_storage s) = cell.first ∙ ap (λ (c : ℕ). cell.index * class_words_of c) (sym (class_of_cell s cell)) in
     let low = into.1.0 in
     let high = into.1.1 in
-    let offset : heap_word_at u - s.first < w = omega arith in
-    let word : word_at_address u ≡ cell.index * w + (heap_word_at u - s.first) = omega (arith, cell.first) in
-    let below : cell.index * w + (heap_word_at u - s.first) < cells_of cell.class * w = omega (arith, mul-le (suc cell.index) w (cells_of cell.class) w cell.within (le_refl w)) in
-    let index : (cell.index * w + (heap_word_at u - s.first)) / w ≡ cell.index = div-mul-add cell.index w (heap_word_at u - s.first) offset in
-    ap (λ (c : ℕ). cell_of_block c (page_at_address u) (word_at_address u)) (class_of_cell s cell)
-    ∙ ap (cell_of_block cell.class (page_at_address u)) word
-    ∙ cond-true (nat_lt (cell.index * w + (heap_word_at u - s.first)) (cells_of cell.class * w)) (Some (record { page = page_at_address u; index = (cell.index * w + (heap_word_at u - s.first)) / w })) None
-    (lt-ltb (cell.index * w + (heap_word_at u - s.first)) (cells_of cell.class * w) below)
-    ∙ ap (λ (n : ℕ). Some (record { page = page_at_address u; index = n })) (index ∙ sym (cell_index s cell))
-    ∙ ap (λ (p : ℕ). Some (record { page = p; index = s.first % 64 / s.words })) (sym at)
-    ∙ ap (λ (k : Cell). Some k) (sym (small_cell_of s small))
+    let offset : heap_word_at u - s.first < class_words_of (class_of_storage s) = omega arith in
+    let word : word_at_address u ≡ cell.index * class_words_of (class_of_storage s) + (heap_word_at u - s.first) = omega arith in
+    block_cell (class_of_storage s) (page_at_address u) cell.index (heap_word_at u - s.first) (word_at_address u) within offset word
+    ∙ small_cell_is s cell (page_at_address u) small at
 
 pub points_into_cell : (pages header u : ℕ) (s : Storage) → IsStorage pages s → ShowsStorage s (page_at_address u) header → PointsInto u s → cell_at pages header u ≡ Some (cell_of_storage s)
 points_into_cell pages header u s is shows into =
