@@ -10,3 +10,4 @@ pub mod FirstFit
 pub mod Start
 pub mod PointedCells
 pub mod CellsOnPages
+pub mod PageSums

@@ -77,6 +77,9 @@ cell_index s cell =
     let first : s.first % 64 ≡ cell.index * s.words + 0 = omega (arith, cell.first, ap (λ (n : ℕ). cell.index * n) cell.words) in
     ap (λ (n : ℕ). n / s.words) first ∙ div-mul-add cell.index s.words 0 (omega (arith, cell.words))
 
+same_cell : (j k : Cell) → j.page ≡ k.page → j.index ≡ k.index → j ≡ k
+same_cell j k page index = λ i. record { page = page i; index = index i }
+
 pub small_cell_of : (s : Storage) → is_small s ≡ true → cell_of_storage s ≡ record { page = first_page s; index = s.first % 64 / s.words }
 small_cell_of s small = ap (λ (n : ℕ). record { page = first_page s; index = n }) (cond-true (is_small s) (s.first % 64 / s.words) 0 small)
 
@@ -84,6 +87,14 @@ small_cell_is : (s : Storage) (cell : IsCell s) (page : ℕ) → is_small s ≡ 
 small_cell_is s cell page small at =
     ap (λ (p : ℕ). Some (record { page = p; index = cell.index })) at ∙ ap (λ (n : ℕ). Some (record { page = first_page s; index = n })) (sym (cell_index s cell))
     ∙ ap (λ (k : Cell). Some k) (sym (small_cell_of s small))
+
+pub cell_from_first : (s : Storage) (page index : ℕ) → is_small s ≡ true → 1 ≤ s.words → index * s.words + s.words ≤ 64 → s.first ≡ 64 * page + index * s.words
+    → cell_of_storage s ≡ record { page = page; index = index }
+cell_from_first s page index small some ends first =
+    let at : first_page s ≡ page = omega arith in
+    let offset : s.first % 64 ≡ index * s.words + 0 = omega arith in
+    let is : s.first % 64 / s.words ≡ index = ap (λ (n : ℕ). n / s.words) offset ∙ div-mul-add index s.words 0 some in
+    small_cell_of s small ∙ same_cell (record { page = first_page s; index = s.first % 64 / s.words }) (record { page = page; index = index }) at is
 
 pub large_cell_of : (s : Storage) → is_small s ≡ false → cell_of_storage s ≡ record { page = first_page s; index = 0 }
 large_cell_of s large = ap (λ (n : ℕ). record { page = first_page s; index = n }) (cond-false (is_small s) (s.first % 64 / s.words) 0 large)

@@ -1,5 +1,7 @@
 -- The laws of pages and storages. Each holds of all pages and all storages that they stand for.
-use Rattle.std.specs.Prelude.{◌≡◌, ℕ, ◌+◌, ◌*◌, ◌<◌, ◌≤◌, Bool, true, false, List, [], ◌∷◌, ◌++◌, length, slice_get, replicate, slice_set, slice_index_or, remove, Some, Contains}
+use Rattle.std.specs.Prelude.{◌≡◌, ℕ, ◌+◌, ◌*◌, ◌<◌, ◌≤◌, Bool, true, false, List, [], ◌∷◌, ◌++◌, length, slice_get, replicate, slice_set, slice_index_or, remove, ◌==◌, ◌↔◌, Some, Contains}
+use Rattle.std.specs.Int.{bit_at}
+use Rattle.mk_geom.specs.declared.addresses.Cell.{Cell}
 use Rattle.mk_geom.specs.declared.pages.Page.{Page}
 use Rattle.mk_geom.specs.declared.pages.Place.{Place}
 use Rattle.mk_geom.specs.Classes.{class_words_of, cells_of, class_for, run_pages_of}
@@ -8,7 +10,7 @@ use Rattle.mk_geom.specs.PageUses.{place_among, census_among}
 use Rattle.mk_geom.specs.PageWords.{use_of_page, uses_of_pages, HaveHeaderWords}
 use Rattle.mk_geom.specs.Places.{MayTakeCell, AreFree, IsCellPlace, IsRunPlace}
 use Rattle.mk_geom.specs.Storages.{Storage, uses_of_storages, place_of, census_of, taken_cells, used_word, free_page, block_page, run_page, words_of_storages, IsStorage, AreLaidOut, PagesStandFor}
-use Rattle.mk_geom.specs.StorageWords.{PointsInto, cell_of_storage, ShowsStorage}
+use Rattle.mk_geom.specs.StorageWords.{PointsInto, cell_of_storage, ShowsStorage, cell_on}
 
 -- Pages show what stands on them,
 abbrev pub PagesShowUses : Type 0
@@ -57,7 +59,24 @@ PointsIntoCell =
     → IsStorage pages s → ShowsStorage s (page_at_address u) header → PointsInto u s
     → cell_at pages header u ≡ Some (cell_of_storage s)
 
--- That cell begins at the storage's first word.
+-- On pages that stand for storages a value points into one of them exactly where it points into its cell.
+abbrev pub PointersHitCells : Type 0
+PointersHitCells =
+    (pages : List Page) (storages : List Storage)
+    → PagesStandFor pages storages
+    → (u : ℕ) (s : Storage) → Contains storages s
+    → PointsInto u s ↔ (cell_on pages u ≡ Some (cell_of_storage s))
+
+-- A cell there that a value points into is that of a storage, where its used bit is set.
+abbrev pub UsedCellHasStorage : Type 0
+UsedCellHasStorage =
+    (pages : List Page) (storages : List Storage)
+    → PagesStandFor pages storages
+    → (u : ℕ) (k : Cell) → cell_on pages u ≡ Some k
+    → (bit_at (slice_index_or pages k.page free_page).used k.index == 1) ≡ true
+    → (s : Storage) × Contains storages s × (cell_of_storage s ≡ k)
+
+-- The cell of a storage begins at its first word.
 abbrev pub CellHasFirstWord : Type 0
 CellHasFirstWord =
     (pages : ℕ) (s : Storage)

@@ -1,6 +1,6 @@
 //! Laws of pages and the storages that they stand for: facts alone, with no code. A proof that needs a
 //! law calls its function, or cites the lemma that proves it.
-ghost use Rattle.mk_geom.specs.Laws.{PagesShowUses, PagesShowPlaces, PagesShowCensus, PagesHaveHeaderWords, FreePagesStandForNothing, CellPageHasWords, RunPageHasWords, PointsIntoCell, CellHasFirstWord, FoundCellIsPlace, FoundRunIsPlace};
+ghost use Rattle.mk_geom.specs.Laws.{PagesShowUses, PagesShowPlaces, PagesShowCensus, PagesHaveHeaderWords, FreePagesStandForNothing, CellPageHasWords, RunPageHasWords, PointsIntoCell, PointersHitCells, UsedCellHasStorage, CellHasFirstWord, FoundCellIsPlace, FoundRunIsPlace};
 
 /// Place, fits and census may be read off the pages as they are.
 pub fn pages_show_what_stands_there()
@@ -16,9 +16,11 @@ pub fn a_storage_says_the_words_of_its_pages()
     ensures run { RunPageHasWords }
 {}
 
-/// What points into a storage is known by the header of its page.
+/// What points into a storage points into its cell, and on pages that stand for storages nothing else does.
 pub fn a_storage_has_its_cell()
     ensures points_into { PointsIntoCell }
+    ensures on_pages { PointersHitCells }
+    ensures used { UsedCellHasStorage }
     ensures first_word { CellHasFirstWord }
 {}
 
