@@ -10,7 +10,7 @@ use Rattle.mk_geom.specs.Classes.{cells_of}
 use Rattle.mk_geom.specs.Headers.{IsInRange, IsHeaderWord, word_of, header_of}
 use Rattle.mk_geom.specs.PageUses.{PageUse, Cells, PartOfRun, place_among, census_among}
 use Rattle.mk_geom.specs.PageWords.{bits_of, use_under, use_of_page, uses_of_pages, HaveHeaderWords}
-use Rattle.mk_geom.specs.Storages.{Storage, is_small, first_page, stands_on, class_of_storage, taken_cells, use_by, use_of_storages, uses_of_storages, place_of, census_of, block_header, run_header, run_used, free_page, block_page, run_page, used_word, words_by, words_of_storages, IsRun, IsStorage, AreLaidOut, StandFor}
+use Rattle.mk_geom.specs.Storages.{Storage, is_small, first_page, stands_on, class_of_storage, taken_cells, use_by, use_of_storages, uses_of_storages, place_of, census_of, block_header, run_header, run_used, free_page, block_page, run_page, used_word, words_by, words_of_storages, IsRun, IsStorage, AreLaidOut, PagesStandFor}
 use Rattle.mk_geom.proofs.HeaderLemmas.{header_of-word_of}
 use Rattle.mk_geom.proofs.ListSearch.{find_cases}
 use Rattle.mk_geom.proofs.Standing.{small_is_cell, large_is_run, class_of_cell, stands_parts}
@@ -27,7 +27,7 @@ shows_header h used in_range =
     let is : header_of (word_of h) ≡ Some h = header_of-word_of h in_range in
     (subst (λ (o : Option Header). IsSome o) (sym is) refl, ap (λ o. use_under o used) is)
 
-block_in_range : (class : ℕ) (leaf : Bool) → class < 8 → IsInRange (block_header class leaf)
+pub block_in_range : (class : ℕ) (leaf : Bool) → class < 8 → IsInRange (block_header class leaf)
 block_in_range class true known = known
 block_in_range class false known = known
 
@@ -40,7 +40,7 @@ block_shows class leaf taken known long =
     let shown = shows_header (block_header class leaf) (used_word taken) (block_in_range class leaf known) in
     (shown.0, shown.1 ∙ block_use class leaf (used_word taken) ∙ ap (Cells class leaf) (bits_of-used_word taken (cells_of class) long))
 
-run_in_range : (pages : ℕ) (mapped leaf : Bool) (distance : ℕ) → 1 ≤ pages → pages ≤ 64 → distance ≤ 63 → IsInRange (run_header pages mapped leaf distance)
+pub run_in_range : (pages : ℕ) (mapped leaf : Bool) (distance : ℕ) → 1 ≤ pages → pages ≤ 64 → distance ≤ 63 → IsInRange (run_header pages mapped leaf distance)
 run_in_range pages mapped leaf zero some most near = elim (cases_Bool (leaf && mapped)) [
   | inl both ↦ subst IsInRange (sym (cond-true (leaf && mapped) _ _ both)) (some, most)
   | inr not_both ↦ subst IsInRange (sym (cond-false (leaf && mapped) _ _ not_both)) (some, most)
@@ -84,10 +84,10 @@ shown n page xs laid = elim (find_cases (stands_on page) xs) [
   | inr (none, others) ↦ subst (λ (o : Option Storage). Shows (words_by xs page o) (use_by xs page o)) (sym none) (refl, refl)
 ]
 
-pub page_shows : (pages : List Page) (storages : List Storage) → StandFor pages storages → (page : ℕ) (d : Page) → page < length pages → Shows (slice_index_or pages page d) (use_of_storages storages page)
+pub page_shows : (pages : List Page) (storages : List Storage) → PagesStandFor pages storages → (page : ℕ) (d : Page) → page < length pages → Shows (slice_index_or pages page d) (use_of_storages storages page)
 page_shows pages storages stand page d within = subst (λ (p : Page). Shows p (use_of_storages storages page)) (sym (stand.words page d within)) (shown (length pages) page storages stand.laid_out)
 
-pub same_uses : (pages : List Page) (storages : List Storage) → StandFor pages storages → uses_of_pages pages ≡ uses_of_storages (length pages) storages
+pub same_uses : (pages : List Page) (storages : List Storage) → PagesStandFor pages storages → uses_of_pages pages ≡ uses_of_storages (length pages) storages
 same_uses pages storages stand = same_lists _ _ (shown_length ∙ sym said_length) each
   where
     shown_length : length (uses_of_pages pages) ≡ length pages
@@ -102,12 +102,12 @@ same_uses pages storages stand = same_lists _ _ (shown_length ∙ sym said_lengt
         get_or-map use_of_page pages k free_page d within ∙ (page_shows pages storages stand k free_page within).1
         ∙ sym (get_or-map-range_with_len (use_of_storages storages) 0 (length pages) k k d within (omega arith))
 
-pub same_places : (pages : List Page) (storages : List Storage) (limit words : ℕ) (leaf : Bool) → StandFor pages storages
+pub same_places : (pages : List Page) (storages : List Storage) (limit words : ℕ) (leaf : Bool) → PagesStandFor pages storages
     → place_among limit words leaf (uses_of_pages pages) ≡ place_of (length pages) limit words leaf storages
 same_places pages storages limit words leaf stand = ap (place_among limit words leaf) (same_uses pages storages stand)
 
-pub same_census : (pages : List Page) (storages : List Storage) → StandFor pages storages → census_among (uses_of_pages pages) ≡ census_of (length pages) storages
+pub same_census : (pages : List Page) (storages : List Storage) → PagesStandFor pages storages → census_among (uses_of_pages pages) ≡ census_of (length pages) storages
 same_census pages storages stand = ap census_among (same_uses pages storages stand)
 
-pub have_header_words : (pages : List Page) (storages : List Storage) → StandFor pages storages → HaveHeaderWords pages
+pub have_header_words : (pages : List Page) (storages : List Storage) → PagesStandFor pages storages → HaveHeaderWords pages
 have_header_words pages storages stand k d within = (page_shows pages storages stand k d within).0

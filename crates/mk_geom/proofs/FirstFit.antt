@@ -10,7 +10,7 @@ use Rattle.mk_geom.specs.Classes.{cells_of, class_for, run_pages_of}
 use Rattle.mk_geom.specs.PageUses.{PageUse, Nothing, Cells, PartOfRun, is_free_page, resident_pages, is_same_sort, cells_taken, first_where, or_else, page_behind, cell_place, carved, small_place, free_range, range_start, large_place, place_among}
 use Rattle.mk_geom.specs.PageWords.{use_of_page, uses_of_pages}
 use Rattle.mk_geom.specs.Places.{MayTakeCell, AreFree, IsCellPlace, IsRunPlace}
-use Rattle.mk_geom.specs.Storages.{Storage, place_of, StandFor}
+use Rattle.mk_geom.specs.Storages.{Storage, place_of, PagesStandFor}
 use Rattle.mk_geom.proofs.Bridge.{same_places}
 use Rattle.mk_geom.proofs.ClassTable.{class_words_within, class_for-some, some_cells}
 
@@ -197,12 +197,12 @@ run_place_is limit words leaf pages place large is =
       has_room = leb-true (resident_pages uses + count) limit room;
     }
 
-pub cell_place_found : (pages : List Page) (storages : List Storage) (limit words class : ℕ) (leaf : Bool) (place : Place) → StandFor pages storages → class_for words ≡ Some class
+pub cell_place_found : (pages : List Page) (storages : List Storage) (limit words class : ℕ) (leaf : Bool) (place : Place) → PagesStandFor pages storages → class_for words ≡ Some class
     → place_of (length pages) limit words leaf storages ≡ Some place → IsCellPlace limit class leaf pages place
 cell_place_found pages storages limit words class leaf place stand class_is is =
     cell_place_is limit words class leaf pages place class_is (same_places pages storages limit words leaf stand ∙ is)
 
-pub run_place_found : (pages : List Page) (storages : List Storage) (limit words : ℕ) (leaf : Bool) (place : Place) → StandFor pages storages → 32 < words
+pub run_place_found : (pages : List Page) (storages : List Storage) (limit words : ℕ) (leaf : Bool) (place : Place) → PagesStandFor pages storages → 32 < words
     → place_of (length pages) limit words leaf storages ≡ Some place → IsRunPlace limit (run_pages_of words) pages place
 run_place_found pages storages limit words leaf place stand large is =
     run_place_is limit words leaf pages place large (same_places pages storages limit words leaf stand ∙ is)

@@ -6,11 +6,8 @@ pub mod Standing
 pub mod TakenCells
 pub mod StoredWords
 pub mod Bridge
-pub mod Layouts
-pub mod CellAdded
 pub mod FirstFit
-pub mod RunAdded
-pub mod CellRemoved
-pub mod RunChanged
-pub mod StorageForms
 pub mod Start
+pub mod PointedCells
+pub mod CellsOnPages
+pub mod PageSums

@@ -1,12 +1,13 @@
 -- The words of a page, by any storage that stands on it.
-use Rattle.std.proofs.Common.{◌≡◌, ℕ, ◌-◌, ◌/◌, ◌<◌, true, false, List, Some, All, Contains, inl, inr, refl, sym, ◌∙◌, ap, arith, unwrap_or}
-use Rattle.std.proofs.lemmas.Bool.{cases_Bool, false≢true, false_from_ne_true, cond-true, cond-false}
+use Rattle.std.proofs.Common.{◌≡◌, ℕ, ◌+◌, ◌-◌, ◌*◌, ◌/◌, ◌<◌, true, false, List, Option, Some, All, Contains, inl, inr, refl, sym, ◌∙◌, ap, arith, unwrap_or, le-leb}
+use Rattle.std.proofs.lemmas.Bool.{cases_Bool, false≢true, false_from_ne_true, cond-true, cond-false, lt-leb}
 use Rattle.std.proofs.lemmas.List.Elements.{All-contains}
-use Rattle.mk_geom.specs.Classes.{class_for}
+use Rattle.mk_geom.specs.Classes.{class_words_of, class_for, cells_of}
 use Rattle.mk_geom.specs.Storages.{Storage, is_small, first_page, stands_on, class_of_storage, taken_cells, used_word, free_page, block_page, run_page, words_by, words_of_storages, IsStorage, AreLaidOut}
+use Rattle.mk_geom.proofs.ClassTable.{class_words_within, class_for-class_words_of, cell_ends}
 use Rattle.mk_geom.proofs.ListSearch.{find_cases}
 use Rattle.mk_geom.proofs.TakenCells.{Carries, taken_same}
-use Rattle.mk_geom.proofs.Standing.{small_is_cell, class_of_cell, AreAlike, same_or_alike}
+use Rattle.mk_geom.proofs.Standing.{small_is_cell, class_of_cell, AreAlike, same_or_alike, stands_at_first, stands_from}
 
 pub words_by_small : (page : ℕ) (xs : List Storage) (s : Storage) → is_small s ≡ true → words_by xs page (Some s) ≡ block_page (class_of_storage s) s.leaf (used_word (taken_cells xs page (class_of_storage s)))
 words_by_small page xs s small = cond-true (is_small s) _ _ small
@@ -45,6 +46,28 @@ words_at n page xs s laid inside stands = elim (find_cases (stands_on page) xs) 
       ]
   | inr (none, others) ↦ absurd (false≢true (sym (others s inside) ∙ stands))
 ]
+
+-- The words of a page, where a storage stands on it: `words_at` reads them off any storage there is, and these two say
+-- them of a cell and of a run that the list has, each by its numbers.
+module _ (n : ℕ) (xs : List Storage) (s : Storage) (laid : AreLaidOut n xs) (inside : Contains xs s) where
+  pub cell_page_words : (page class index : ℕ) → class < 8 → index < cells_of class → s.first ≡ 64 * page + index * class_words_of class → s.words ≡ class_words_of class
+      → words_of_storages xs page ≡ block_page class s.leaf (used_word (taken_cells xs page class))
+  cell_page_words page class index known within first words =
+      let range = class_words_within class known in
+      let ends = cell_ends index (class_words_of class) within in
+      let small : is_small s ≡ true = le-leb s.words 32 (omega arith) in
+      let class_is : class_of_storage s ≡ class = ap (λ (w : ℕ). unwrap_or (class_for w) 0) words ∙ ap (λ (o : Option ℕ). unwrap_or o 0) (class_for-class_words_of class known) in
+      words_at n page xs s laid inside (stands_at_first n s page (All-contains (IsStorage n) xs s laid.each inside) (omega arith)) ∙ words_by_small page xs s small
+      ∙ ap (λ (c : ℕ). block_page c s.leaf (used_word (taken_cells xs page c))) class_is
+
+  pub run_page_words : (first count distance : ℕ) → s.first ≡ 64 * first → s.words ≡ 64 * count → distance < count
+      → words_of_storages xs (first + distance) ≡ run_page count s.mapped s.leaf distance
+  run_page_words first count distance begins words near =
+      let large : is_small s ≡ false = lt-leb s.words 32 (omega arith) in
+      let pages : s.words / 64 ≡ count = omega arith in
+      let behind : first + distance - first_page s ≡ distance = omega arith in
+      words_at n (first + distance) xs s laid inside (stands_from (first + distance) s (omega arith) (omega arith)) ∙ words_by_large (first + distance) xs s large
+      ∙ ap (λ (k : ℕ). run_page k s.mapped s.leaf (first + distance - first_page s)) pages ∙ ap (run_page count s.mapped s.leaf) behind
 
 pub words_free : (page : ℕ) (xs : List Storage) → ((s : Storage) → Contains xs s → stands_on page s ≡ false) → words_of_storages xs page ≡ free_page
 words_free page xs none = elim (find_cases (stands_on page) xs) [

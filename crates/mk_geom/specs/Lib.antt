@@ -4,6 +4,6 @@ pub mod PageUses
 pub mod PageWords
 pub mod Storages
 pub mod Addresses
+pub mod StorageWords
 pub mod Places
-pub mod Changes
 pub mod Laws

@@ -138,6 +138,6 @@ abbrev pub words_of_storages : List Storage → ℕ → Page
 words_of_storages storages page = words_by storages page (find (stands_on page) storages)
 
 -- The headers and used bits of the pages stand for these storages.
-pub record StandFor (pages : List Page) (storages : List Storage) : Type 0 where
+pub record PagesStandFor (pages : List Page) (storages : List Storage) : Type 0 where
   pub laid_out : AreLaidOut (length pages) storages
   pub words : (page : ℕ) (d : Page) → page < length pages → slice_index_or pages page d ≡ words_of_storages storages page

@@ -12,7 +12,6 @@ pub use addresses::{Cell, lookup};
 pub use classes::{cells, class_of, class_words, run_pages};
 pub use headers::{Header, decode, encode};
 pub use laws::{
-    a_freed_storage_is_removed, a_taken_cell_is_added, a_taken_run_is_added, an_unmapped_run_stays,
-    first_fit_finds_places, free_pages_stand_for_nothing, pages_show_what_stands_there,
+    a_storage_has_its_cell, a_storage_says_the_words_of_its_pages, first_fit_finds_places, free_pages_stand_for_nothing, pages_show_what_stands_there,
 };
 pub use pages::{Census, Page, Place};

@@ -1,0 +1,189 @@
+-- What values point into on pages that stand for storages: their cells, and nothing else that is taken.
+use Rattle.std.proofs.Common.{◌≡◌, ℕ, ◌+◌, ◌-◌, ◌*◌, ◌/◌, ◌%◌, ◌<◌, ◌≤◌, Bool, true, false, ◌==◌, nat_le, nat_lt, List, length, Option, Some, None, Contains, find, ◌⊎◌, ◌↔◌, inl, inr, refl, sym, ◌∙◌, ap, subst, arith, leb-true, ltb-true, eq-eqb, div-add-mod', slice_index_or, option_and_then}
+use Rattle.std.specs.Int.{bit_at}
+use Rattle.std.proofs.lemmas.Bool.{cases_Bool, false≢true, and_parts, cond-true, cond-false}
+use Rattle.std.proofs.lemmas.List.Elements.{All-contains}
+use Rattle.std.proofs.lemmas.Nat.{div_below, mod_below}
+use Rattle.std.proofs.lemmas.Option.{none-some, same_Some, cond_some}
+use Rattle.mk_geom.specs.declared.addresses.Cell.{Cell}
+use Rattle.mk_geom.specs.declared.pages.Page.{Page}
+use Rattle.mk_geom.specs.declared.headers.Header.TheVariants.{Free}
+use Rattle.mk_geom.specs.Addresses.{heap_word_at, is_heap_address, page_at_address, word_at_address, cell_of_block, cell_under, cell_at}
+use Rattle.mk_geom.specs.Classes.{class_words_of, cells_of}
+use Rattle.mk_geom.specs.Headers.{word_of, header_of}
+use Rattle.mk_geom.specs.Storages.{Storage, is_small, first_page, stands_on, class_of_storage, is_cell_taken, taken_cells, used_word, free_page, words_by, words_of_storages, IsCell, IsRun, IsStorage, PagesStandFor}
+use Rattle.mk_geom.specs.StorageWords.{IsWordOf, PointsInto, cell_of_storage, header_shown, ShowsStorage, cell_on}
+use Rattle.mk_geom.proofs.ClassTable.{class_words_within, cell_ends}
+use Rattle.mk_geom.proofs.ListSearch.{find_cases}
+use Rattle.mk_geom.proofs.PointedCells.{class_has_words, cell_from_first, looked_up, small_lookup, large_lookup, cell_index, small_cell_of, large_cell_of, stands_at_address, points_into_cell}
+use Rattle.mk_geom.proofs.Standing.{AreAlike, has_words, small_is_cell, large_is_run, class_of_cell, cell_is_small, stands_parts, stands_at_first, same_or_alike}
+use Rattle.mk_geom.proofs.StoredWords.{words_by_small, words_by_large, words_at}
+use Rattle.mk_geom.proofs.TakenCells.{cell_taken_by, length-taken_cells, get_or-taken_cells}
+use Rattle.mk_geom.proofs.UsedWords.{bit_at-used_word}
+
+-- a storage's page has the header that it shows
+header_by : (xs : List Storage) (page : ℕ) (s : Storage) → (words_by xs page (Some s)).header ≡ header_shown s page s.mapped
+header_by xs page s = elim (cases_Bool (is_small s)) [
+  | inl small ↦ ap (λ (p : Page). p.header) (words_by_small page xs s small) ∙ sym (ap word_of (cond-true (is_small s) _ _ small))
+  | inr large ↦ ap (λ (p : Page). p.header) (words_by_large page xs s large) ∙ sym (ap word_of (cond-false (is_small s) _ _ large))
+]
+
+-- on a heap address a value is, and its page is one of the heap's, where it points into a cell
+pub is_address : (pages header u : ℕ) (k : Cell) → cell_at pages header u ≡ Some k → (65536 ≤ u) × (page_at_address u < pages)
+is_address pages header u k is = elim (cases_Bool (is_heap_address pages u)) [
+  | inl inside ↦
+      let parts = and_parts (nat_le 65536 u) (nat_lt u (65536 + 512 * pages)) inside in
+      let low : 65536 ≤ u = leb-true 65536 u parts.0 in
+      let high : u < 65536 + 512 * pages = ltb-true u (65536 + 512 * pages) parts.1 in
+      (low, omega arith)
+  | inr outside ↦ absurd (none-some k (sym (cond-false (is_heap_address pages u) _ None outside) ∙ is))
+]
+
+-- The storage that a value points at, where it points into a cell: a cell on the storage's page, or the run.
+pub record IsCellOn (xs : List Storage) (u : ℕ) (k : Cell) (t : Storage) : Type 0 where
+  pub inside : Contains xs t
+  pub low : 65536 ≤ u
+  pub stands : stands_on (page_at_address u) t ≡ true
+  pub at : ((is_small t ≡ true) × (word_at_address u < cells_of (class_of_storage t) * class_words_of (class_of_storage t))
+      × (k ≡ record { page = page_at_address u; index = word_at_address u / class_words_of (class_of_storage t) }))
+      ⊎ ((is_small t ≡ false) × (k ≡ cell_of_storage t))
+
+module _ (pages : List Page) (storages : List Storage) (stand : PagesStandFor pages storages) where
+  -- a page shows each storage that stands on it
+  pub page_shows_storage : (page : ℕ) (s : Storage) → Contains storages s → stands_on page s ≡ true → page < length pages → ShowsStorage s page (slice_index_or pages page free_page).header
+  page_shows_storage page s inside stands within =
+      (s.mapped, ap (λ (p : Page). p.header) (stand.words page free_page within ∙ words_at (length pages) page storages s stand.laid_out inside stands) ∙ header_by storages page s)
+
+  pub points_into_on_pages : (u : ℕ) (s : Storage) → Contains storages s → PointsInto u s → cell_on pages u ≡ Some (cell_of_storage s)
+  points_into_on_pages u s inside into =
+      let is = All-contains (IsStorage (length pages)) storages s stand.laid_out.each inside in
+      let stands = stands_at_address u s into in
+      let ends = (stands_parts (page_at_address u) s stands).1 in
+      points_into_cell (length pages) (slice_index_or pages (page_at_address u) free_page).header u s is
+      (page_shows_storage (page_at_address u) s inside stands (omega (arith, is.1, has_words (length pages) s is))) into
+
+  nothing_on_free : (u : ℕ) (k : Cell) → cell_on pages u ≡ Some k → find (stands_on (page_at_address u)) storages ≡ None → ⊥
+  nothing_on_free u k is none =
+      let (low, within) = is_address (length pages) (slice_index_or pages (page_at_address u) free_page).header u k is in
+      let page_is : slice_index_or pages (page_at_address u) free_page ≡ free_page = stand.words (page_at_address u) free_page within ∙ ap (words_by storages (page_at_address u)) none in
+      none-some k
+      (sym (looked_up (length pages) (slice_index_or pages (page_at_address u) free_page).header u Free low within (ap (λ (p : Page). header_of p.header) page_is)) ∙ is)
+
+  pub cell_is_on : (u : ℕ) (k : Cell) → cell_on pages u ≡ Some k → (t : Storage) × IsCellOn storages u k t
+  cell_is_on u k is =
+      let (low, within) = is_address (length pages) (slice_index_or pages (page_at_address u) free_page).header u k is in
+      elim (find_cases (stands_on (page_at_address u)) storages) [
+        | inl (t, found, inside, stands) ↦
+            let t_is = All-contains (IsStorage (length pages)) storages t stand.laid_out.each inside in
+            let shows = page_shows_storage (page_at_address u) t inside stands within in
+            elim (cases_Bool (is_small t)) [
+              | inl small ↦
+                  let lookup = small_lookup (length pages) (slice_index_or pages (page_at_address u) free_page).header u t t_is low stands shows small in
+                  let (below, same) =
+                  cond_some (nat_lt (word_at_address u) (cells_of (class_of_storage t) * class_words_of (class_of_storage t)))
+                  (record { page = page_at_address u; index = word_at_address u / class_words_of (class_of_storage t) }) k (sym lookup ∙ is) in
+                  (t, record { inside = inside; low = low; stands = stands; at = inl (small, ltb-true (word_at_address u) (cells_of (class_of_storage t) * class_words_of (class_of_storage t)) below, sym same) })
+              | inr large ↦
+                  let lookup = large_lookup (length pages) (slice_index_or pages (page_at_address u) free_page).header u t t_is low stands shows large in
+                  (t, record { inside = inside; low = low; stands = stands; at = inr (large, same_Some k (cell_of_storage t) (sym is ∙ lookup ∙ ap (λ (k : Cell). Some k) (sym (large_cell_of t large)))) })
+            ]
+        | inr (none, others) ↦ absurd (nothing_on_free u k is none)
+      ]
+
+-- the words of a cell of a page, by the quotient
+word_in_cell : (word index words : ℕ) → 1 ≤ words → word / words ≡ index → (index * words ≤ word) × (word < index * words + words)
+word_in_cell word index words some is =
+    let split : index * words + word % words ≡ word = ap (λ (n : ℕ). n * words + word % words) (sym is) ∙ div-add-mod' word words in
+    let rest = mod_below word words some in
+    (omega arith, omega arith)
+
+-- a storage that shares a page with a small one is small, and has as many words
+like_small : {s t : Storage} → (s ≡ t) ⊎ AreAlike s t → is_small t ≡ true → (is_small s ≡ true) × (s.words ≡ t.words)
+like_small (inl one) small = (ap is_small one ∙ small, ap (λ (x : Storage). x.words) one)
+like_small (inr alike) small = (alike.small, alike.words)
+
+small_back : (n u : ℕ) (s t : Storage) → IsStorage n s → is_small s ≡ true → 65536 ≤ u → first_page s ≡ page_at_address u → class_words_of (class_of_storage t) ≡ s.words
+    → s.first % 64 / s.words ≡ word_at_address u / class_words_of (class_of_storage t) → PointsInto u s
+small_back n u s t is small low at words index =
+    let cell = small_is_cell n s is small in
+    let some = has_words n s is in
+    let same : word_at_address u / s.words ≡ cell.index = ap (λ (w : ℕ). word_at_address u / w) (sym words) ∙ sym index ∙ cell_index s cell in
+    let range = word_in_cell (word_at_address u) cell.index s.words some same in
+    let first : s.first % 64 ≡ cell.index * s.words = cell.first ∙ ap (λ (w : ℕ). cell.index * w) (sym cell.words) in
+    (low, (omega arith, omega arith))
+
+run_back : (n u : ℕ) (s : Storage) → IsStorage n s → is_small s ≡ false → 65536 ≤ u → stands_on (page_at_address u) s ≡ true → PointsInto u s
+run_back n u s is large low stands =
+    let run = large_is_run n s is large in
+    let parts = stands_parts (page_at_address u) s stands in
+    (low, (omega (arith, run.first), omega (arith, run.first, run.words, run.some)))
+
+module _ (pages : List Page) (storages : List Storage) (stand : PagesStandFor pages storages) where
+  storage_of : (s : Storage) → Contains storages s → IsStorage (length pages) s
+  storage_of s inside = All-contains (IsStorage (length pages)) storages s stand.laid_out.each inside
+
+  -- two storages that begin on one page are one, or cells of one class
+  begin_together : (s t : Storage) → Contains storages s → Contains storages t → first_page s ≡ first_page t → (s ≡ t) ⊎ AreAlike s t
+  begin_together s t s_in t_in at =
+      same_or_alike (length pages) storages (first_page t) s t stand.laid_out s_in t_in (stands_at_first (length pages) s (first_page t) (storage_of s s_in) at)
+      (stands_at_first (length pages) t (first_page t) (storage_of t t_in) refl)
+
+  pub cell_has_value : (u : ℕ) (s : Storage) → Contains storages s → cell_on pages u ≡ Some (cell_of_storage s) → PointsInto u s
+  cell_has_value u s inside is =
+      let n = length pages in
+      let (t, on) = cell_is_on pages storages stand u (cell_of_storage s) is in
+      elim on.at [
+        | inl (small, below, same) ↦
+            let at : first_page s ≡ page_at_address u = ap (λ (k : Cell). k.page) same in
+            let s_stands = stands_at_first n s (page_at_address u) (storage_of s inside) at in
+            let (s_small, words) = like_small (same_or_alike n storages (page_at_address u) s t stand.laid_out inside on.inside s_stands on.stands) small in
+            let t_words = class_has_words t (small_is_cell n t (storage_of t on.inside) small) in
+            let index = sym (ap (λ (k : Cell). k.index) (small_cell_of s s_small)) ∙ ap (λ (k : Cell). k.index) same in
+            small_back n u s t (storage_of s inside) s_small on.low at (t_words ∙ sym words) index
+        | inr (large, same) ↦
+            elim (begin_together s t inside on.inside (ap (λ (k : Cell). k.page) same)) [
+              | inl one ↦ subst (λ (x : Storage). PointsInto u x) (sym one) (run_back n u t (storage_of t on.inside) large on.low on.stands)
+              | inr alike ↦ absurd (false≢true (sym large ∙ alike.small_too))
+            ]
+      ]
+
+  pub points_into_iff : (u : ℕ) (s : Storage) → Contains storages s → PointsInto u s ↔ (cell_on pages u ≡ Some (cell_of_storage s))
+  points_into_iff u s inside = (points_into_on_pages pages storages stand u s inside, cell_has_value u s inside)
+
+  taken_on_block : (u : ℕ) (k : Cell) (t : Storage) → Contains storages t → stands_on (page_at_address u) t ≡ true → page_at_address u < length pages → is_small t ≡ true → k.index < cells_of (class_of_storage t)
+      → k.page ≡ page_at_address u → (bit_at (slice_index_or pages k.page free_page).used k.index == 1) ≡ true
+      → (s : Storage) × Contains storages s × (s.first ≡ 64 * page_at_address u + k.index * class_words_of (class_of_storage t)) × (stands_on (page_at_address u) s ≡ true)
+  taken_on_block u k t inside stands within small index_within at bit =
+      let n = length pages in
+      let page = page_at_address u in
+      let c = class_of_storage t in
+      let cell = small_is_cell n t (storage_of t inside) small in
+      let known : class_of_storage t < 8 = omega (arith, class_of_cell t cell, cell.known) in
+      let words : slice_index_or pages page free_page ≡ words_by storages page (Some t) = stand.words page free_page within ∙ words_at n page storages t stand.laid_out inside stands in
+      let used : (slice_index_or pages k.page free_page).used ≡ used_word (taken_cells storages page c) =
+      ap (λ (p : ℕ). (slice_index_or pages p free_page).used) at ∙ ap (λ (p : Page). p.used) (words ∙ words_by_small page storages t small) in
+      let long : k.index < length (taken_cells storages page c) = omega (arith, length-taken_cells storages page c) in
+      let taken : is_cell_taken storages page (class_words_of c) k.index ≡ true =
+      sym (get_or-taken_cells storages page c k.index false index_within) ∙ sym (bit_at-used_word (taken_cells storages page c) k.index false long) ∙ ap (λ (w : ℕ). bit_at w k.index == 1) (sym used) ∙ bit in
+      cell_taken_by n page c k.index storages known index_within stand.laid_out.each taken
+
+  pub taken_cell_has_storage : (u : ℕ) (k : Cell) → cell_on pages u ≡ Some k → (bit_at (slice_index_or pages k.page free_page).used k.index == 1) ≡ true → (s : Storage) × Contains storages s × (cell_of_storage s ≡ k)
+  taken_cell_has_storage u k is bit =
+      let n = length pages in
+      let (t, on) = cell_is_on pages storages stand u k is in
+      elim on.at [
+        | inl (small, below, same) ↦
+            let page = page_at_address u in
+            let c = class_of_storage t in
+            let cell = small_is_cell n t (storage_of t on.inside) small in
+            let known : class_of_storage t < 8 = omega (arith, class_of_cell t cell, cell.known) in
+            let some = class_words_within c known in
+            let index_within : k.index < cells_of c = subst (λ (i : ℕ). i < cells_of c) (sym (ap (λ (k : Cell). k.index) same)) (div_below (word_at_address u) (class_words_of c) (cells_of c) (omega arith) below) in
+            let (s, inside, first, stands) = taken_on_block u k t on.inside on.stands (is_address n (slice_index_or pages (page_at_address u) free_page).header u k is).1 small index_within (ap (λ (k : Cell). k.page) same) bit in
+            let (s_small, words) = like_small (same_or_alike n storages (page_at_address u) s t stand.laid_out inside on.inside stands on.stands) small in
+            let s_words : class_words_of c ≡ s.words = class_has_words t cell ∙ sym words in
+            let ends : k.index * s.words + s.words ≤ 64 = subst (λ (w : ℕ). k.index * w + w ≤ 64) s_words (cell_ends k.index (class_words_of c) index_within) in
+            let s_first : s.first ≡ 64 * page + k.index * s.words = first ∙ ap (λ (w : ℕ). 64 * page + k.index * w) s_words in
+            (s, inside, cell_from_first s page k.index s_small (has_words n s (storage_of s inside)) ends s_first ∙ ap (λ (p : ℕ). record { page = p; index = k.index }) (sym (ap (λ (k : Cell). k.page) same)))
+        | inr (large, same) ↦ (t, on.inside, sym same)
+      ]

@@ -1,0 +1,39 @@
+-- The words of a storage, the addresses in them, and the cell that an address in it points into.
+use Rattle.std.specs.Prelude.{◌≡◌, ℕ, ◌+◌, ◌-◌, ◌/◌, ◌%◌, ◌<◌, ◌≤◌, Bool, if◌then◌else◌, List, slice_index_or, sum_by, Option, length}
+use Rattle.mk_geom.specs.declared.addresses.Cell.{Cell}
+use Rattle.mk_geom.specs.declared.pages.Page.{Page}
+use Rattle.mk_geom.specs.Addresses.{heap_word_at, page_at_address, cell_at}
+use Rattle.mk_geom.specs.Headers.{word_of}
+use Rattle.mk_geom.specs.Storages.{Storage, is_small, first_page, class_of_storage, block_header, run_header, free_page}
+
+-- Heap word n is one of the storage's words.
+abbrev pub IsWordOf : Storage → ℕ → Type 0
+IsWordOf s n = (s.first ≤ n) × (n < s.first + s.words)
+
+-- The value is an address, and the heap word that it is in is one of the storage's: whatever the headers say.
+abbrev pub PointsInto : ℕ → Storage → Type 0
+PointsInto u s = (65536 ≤ u) × IsWordOf s (heap_word_at u)
+
+-- the cell of a small storage; of a large one cell 0 of the page that it begins on
+abbrev pub cell_of_storage : Storage → Cell
+cell_of_storage s = record { page = first_page s; index = if is_small s then s.first % 64 / s.words else 0 }
+
+-- the words of the mapped storages
+abbrev pub mapped_words : List Storage → ℕ
+mapped_words storages = sum_by (λ s. if s.mapped then s.words else 0) storages
+
+-- the header word of a page that the storage stands on, where that page is mapped or not. Only a run's says which.
+abbrev pub header_shown : Storage → ℕ → Bool → ℕ
+header_shown s page mapped =
+    word_of
+    (if is_small s
+     then block_header (class_of_storage s) s.leaf
+     else run_header (s.words / 64) mapped s.leaf (page - first_page s))
+
+-- The header word is one that the storage gives the page. A run may be half unmapped, so the page alone says whether it is mapped.
+abbrev pub ShowsStorage : Storage → ℕ → ℕ → Type 0
+ShowsStorage s page header = (mapped : Bool) × (header ≡ header_shown s page mapped)
+
+-- what a value points into, by the header of the page that it is in
+abbrev pub cell_on : List Page → ℕ → Option Cell
+cell_on pages u = cell_at (length pages) (slice_index_or pages (page_at_address u) free_page).header u
