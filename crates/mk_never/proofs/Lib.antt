@@ -7,3 +7,5 @@ pub mod Stores
 pub mod Soundness
 pub mod Typing
 pub mod TypedCalls
+pub mod Reached
+pub mod Parts
