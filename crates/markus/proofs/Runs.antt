@@ -14,8 +14,7 @@ use Rattle.mk_script.specs.declared.items.Item.TheVariants.{New, Getn, Setn}
 use Rattle.mk_check.specs.Blocks.{Blocks, Line, blocks_from, script_of}
 use Rattle.mk_check.specs.Declarations.{types_of, pages_of}
 use Rattle.mk_check.specs.Feed.{Scope, Fed, op_of, noted, note, with_answer, take_answer, take_answers, begun, started, feed, has_ended}
-use Rattle.mk_check.specs.Feeding.{FeedState, script_scope, next_op, TakesAnswer}
-use Rattle.mk_check.specs.Feeding as feeding
+use Rattle.mk_check.specs.Feeding.{FeedState, script_scope, next_op, FeedStandsFor, TakesAnswer}
 use Rattle.mk_check.specs.Typing.{IsWellTyped}
 use Rattle.mk_check.proofs.Numbered.{run_agrees, ops-with_answer}
 use Rattle.mk_check.proofs.LinesLeft.{next_line}
@@ -72,7 +71,7 @@ never_state program answers = after_calls (start_of (types_of program) 1) (calls
 -- the plain heap and the script stand where the answers of the heap that never reuses storage lead
 pub record Runs (program : List Item) (p : PlainHeap) (f : FeedState) : Type 0 where
   pub answers : List Answer
-  pub fed : feeding.StandsFor program 0 f answers
+  pub fed : FeedStandsFor program 0 f answers
   pub stands : StandsFor p (never_state program answers)
   pub given : (bases : List ℕ) → answers ≡ answers_of bases (replies_of (start_of (types_of program) 1) (calls_of 0 (feed program 0 answers).ops))
   pub full : EachFullIsByRoom (64 * pages_of program) (start_of (types_of program) 1) (calls_of 0 (feed program 0 answers).ops)
@@ -102,7 +101,7 @@ wiped_stands pages size types e = record {
     ]
 
 pub begins : (program : List Item) (p : PlainHeap) (f : FeedState) → is_narrow program ≡ true
-    → p ≡ wiped (pages_of program) (object_words program) → feeding.StandsFor program 0 f [] → Runs program p f
+    → p ≡ wiped (pages_of program) (object_words program) → FeedStandsFor program 0 f [] → Runs program p f
 begins program p f narrow e fed =
     let scope = script_scope program 0 in
     let script = script_of program 0 in
