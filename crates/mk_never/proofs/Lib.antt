@@ -9,3 +9,4 @@ pub mod Typing
 pub mod TypedCalls
 pub mod Reached
 pub mod Parts
+pub mod Unreached

@@ -5,7 +5,7 @@ ghost use Rattle.mk_never.specs.NeverHeap.{NeverState, Call, start_of, after_cal
 ghost use Rattle.mk_never.specs.Admitted.{AreAdmitted};
 ghost use Rattle.mk_never.specs.Laws.{Continues, TypeStays, FreedStays, SameTells, NewAdds, AreByOthers, AreNotBy, KeepsRegisters, UnstoredStays, StoreIsInside, StoreLeaves, LoadGivesStored, LeavesInParts, RepliesInParts, AdmittedInParts};
 ghost use Rattle.mk_never.specs.Typed.{IsTyped, KeepsTyped, StaysTyped};
-ghost use Rattle.mk_never.specs.Reach.{IsReached, IsClosedUnderPointers, ReachIsLeast};
+ghost use Rattle.mk_never.specs.Reach.{IsReached, IsClosedUnderPointers, ReachIsLeast, AccessIsToReached, ReachGrowsByGrants, UnreachedStays};
 
 use crate::{Kind, Op, Value};
 
@@ -81,6 +81,15 @@ pub fn a_load_gives_what_was_last_stored()
 pub fn what_is_reached()
     ensures closed { (n : NeverState) → IsClosedUnderPointers n (IsReached n) }
     ensures least { (n : NeverState) (S : ℕ → Bool) → ReachIsLeast n S }
+{}
+
+/// What isn't reached never is again: accesses get to reached allocations alone, and an operation adds no more
+/// to what is reached than the allocation that it grants.
+#[tactic(auto, using(crate::proofs::Unreached::access_is_to_reached, crate::proofs::Unreached::reach_grows_by_grants, crate::proofs::Unreached::unreached_stays))]
+pub fn the_unreached_stays_so()
+    ensures accessed { (n : NeverState) (caller q i number place : ℕ) → AccessIsToReached n caller q i number place }
+    ensures grown { (n : NeverState) (caller : ℕ) (op : Op) (number : ℕ) → ReachGrowsByGrants n caller op number }
+    ensures stays { (n : NeverState) (calls : List Call) (number : ℕ) → UnreachedStays n calls number }
 {}
 
 /// Calls in two parts leave, reply and are admitted as the earlier ones and then, behind these, the later ones.
