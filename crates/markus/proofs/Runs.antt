@@ -2,11 +2,12 @@
 use Rattle.std.proofs.Common.{◌≡◌, ℕ, ◌*◌, true, List, [], ◌∷◌, ◌++◌, length, refl, ap, sym, ◌∙◌, subst, inl, inr, arith}
 use Rattle.std.specs.Prelude.{slice_index, replicate, Some, Option}
 use Rattle.std.proofs.lemmas.Bool.{cases_lt}
-use Rattle.std.proofs.lemmas.List.{length-replicate, get_or-replicate, get_or_past}
+use Rattle.std.proofs.lemmas.List.{length-replicate, get_or-replicate, get_or_past, map-append}
 use Rattle.mk_never.specs.declared.types.Kind.{Kind}
 use Rattle.mk_never.specs.declared.types.Kind.TheVariants.{Num as NumKind}
 use Rattle.mk_never.specs.declared.operations.Op.{Op}
 use Rattle.mk_never.specs.NeverHeap.{NeverState, start_of, reply_of, after_op, after_calls, replies_of}
+use Rattle.mk_never.proofs.Parts.{after_append, replies_append}
 use Rattle.mk_core.specs.declared.events.Answer.{Answer}
 use Rattle.mk_core.specs.Image.{answer_of, answers_of}
 use Rattle.mk_script.specs.declared.items.Item.{Item}
@@ -14,8 +15,7 @@ use Rattle.mk_script.specs.declared.items.Item.TheVariants.{New, Getn, Setn}
 use Rattle.mk_check.specs.Blocks.{Blocks, Line, blocks_from, script_of}
 use Rattle.mk_check.specs.Declarations.{types_of, pages_of}
 use Rattle.mk_check.specs.Feed.{Scope, Fed, op_of, noted, note, with_answer, take_answer, take_answers, begun, started, feed, has_ended}
-use Rattle.mk_check.specs.Feeding.{FeedState, script_scope, next_op, TakesAnswer}
-use Rattle.mk_check.specs.Feeding as feeding
+use Rattle.mk_check.specs.Feeding.{FeedState, script_scope, next_op, FeedStandsFor, TakesAnswer}
 use Rattle.mk_check.specs.Typing.{IsWellTyped}
 use Rattle.mk_check.proofs.Numbered.{run_agrees, ops-with_answer}
 use Rattle.mk_check.proofs.LinesLeft.{next_line}
@@ -28,16 +28,18 @@ use Rattle.markus.proofs.Stands.{StandsFor}
 
 -- One operation more.
 
+calls_of-push : (ops : List Op) (o : Op) → calls_of 0 (ops ++ o ∷ []) ≡ calls_of 0 ops ++ calls_of 0 (o ∷ [])
+calls_of-push ops o = map-append _ ops (o ∷ [])
+
 after_more : (n : NeverState) (ops : List Op) (o : Op) → after_calls n (calls_of 0 (ops ++ o ∷ [])) ≡ after_op (after_calls n (calls_of 0 ops)) 0 o
-after_more n [] o = refl
-after_more n (first ∷ ops) o = after_more (after_op n 0 first) ops o
+after_more n ops o = ap (after_calls n) (calls_of-push ops o) ∙ after_append n (calls_of 0 ops) (calls_of 0 (o ∷ []))
 
 answers_more : (bases : List ℕ) (n : NeverState) (ops : List Op) (o : Op)
     → answers_of bases (replies_of n (calls_of 0 (ops ++ o ∷ [])))
     ≡ answers_of bases (replies_of n (calls_of 0 ops)) ++ answer_of bases (reply_of (after_calls n (calls_of 0 ops)) 0 o) ∷ []
-answers_more bases n [] o = refl
-answers_more bases n (first ∷ ops) o =
-    ap (λ (answers : List Answer). answer_of bases (reply_of n 0 first) ∷ answers) (answers_more bases (after_op n 0 first) ops o)
+answers_more bases n ops o =
+    ap (answers_of bases) (ap (replies_of n) (calls_of-push ops o) ∙ replies_append n (calls_of 0 ops) (calls_of 0 (o ∷ [])))
+    ∙ map-append (answer_of bases) (replies_of n (calls_of 0 ops)) _
 
 full_more : (heap_words : ℕ) (n : NeverState) (ops : List Op) (o : Op) → EachFullIsByRoom heap_words n (calls_of 0 ops)
     → FullIsByRoom heap_words (after_calls n (calls_of 0 ops)) o → EachFullIsByRoom heap_words n (calls_of 0 (ops ++ o ∷ []))
@@ -72,7 +74,7 @@ never_state program answers = after_calls (start_of (types_of program) 1) (calls
 -- the plain heap and the script stand where the answers of the heap that never reuses storage lead
 pub record Runs (program : List Item) (p : PlainHeap) (f : FeedState) : Type 0 where
   pub answers : List Answer
-  pub fed : feeding.StandsFor program 0 f answers
+  pub fed : FeedStandsFor program 0 f answers
   pub stands : StandsFor p (never_state program answers)
   pub given : (bases : List ℕ) → answers ≡ answers_of bases (replies_of (start_of (types_of program) 1) (calls_of 0 (feed program 0 answers).ops))
   pub full : EachFullIsByRoom (64 * pages_of program) (start_of (types_of program) 1) (calls_of 0 (feed program 0 answers).ops)
@@ -102,7 +104,7 @@ wiped_stands pages size types e = record {
     ]
 
 pub begins : (program : List Item) (p : PlainHeap) (f : FeedState) → is_narrow program ≡ true
-    → p ≡ wiped (pages_of program) (object_words program) → feeding.StandsFor program 0 f [] → Runs program p f
+    → p ≡ wiped (pages_of program) (object_words program) → FeedStandsFor program 0 f [] → Runs program p f
 begins program p f narrow e fed =
     let scope = script_scope program 0 in
     let script = script_of program 0 in

@@ -60,13 +60,13 @@ module _ (program script : List Item) (few : HasFew (scope_of program script)) (
 
   number_access : (pointer : List ℕ) (i : ℕ) → PointsBefore program script pointer i Number → Meets n (register_of script n caller pointer) i IsNumber
   number_access pointer i s =
-      meets_weaker n (register_of script n caller pointer) i (λ kind. kind ≡ NumKind) IsNumber (λ kind e. subst IsNumber (sym e) tt)
+      meets_weaker n (register_of script n caller pointer) i (λ kind. kind ≡ NumKind) IsNumber (λ kind e. subst IsNumber (sym e) refl)
       (meets_before program script n caller fits pointer i Number s)
 
   pointer_access : (pointer : List ℕ) (i : ℕ) (register : List ℕ) → PointsBeforeOne program script pointer i register
       → Meets n (register_of script n caller pointer) i IsPointer
   pointer_access pointer i register s =
-      meets_weaker n (register_of script n caller pointer) i (λ kind. kind ≡ kind_at program s.at) IsPointer (λ kind e. subst IsPointer (sym e) tt)
+      meets_weaker n (register_of script n caller pointer) i (λ kind. kind ≡ kind_at program s.at) IsPointer (λ kind e. subst IsPointer (sym e) refl)
       (meets_before program script n caller fits pointer i (Pointer s.at) s.word)
 
   store_access : (pointer : List ℕ) (i : ℕ) (register : List ℕ) → PointsBeforeOne program script pointer i register

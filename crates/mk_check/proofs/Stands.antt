@@ -14,7 +14,7 @@ use Rattle.mk_check.specs.Feed.{Scope, Fed, op_of, noted, refusal_line, refusal_
 use Rattle.mk_check.specs.Steps.{Steps, then_steps, steps_of, instruction_of, Kept, Stopped, asked, with_text, answered, ran, ran_on}
 use Rattle.mk_check.specs.Steps as steps
 use Rattle.mk_check.specs.Trees.{Place, steps_at, trees, left_in, kept_in, stopped_in, with_kept, node_at, IsTree, IsWithin, StopsAt, HasStopped}
-use Rattle.mk_check.specs.Feeding.{FeedState, IsAtStop, op_of_node, op_in, first_op, script_scope, StandsFor}
+use Rattle.mk_check.specs.Feeding.{FeedState, IsAtStop, op_of_node, op_in, first_op, script_scope, FeedStandsFor}
 use Rattle.mk_check.proofs.StepLaws.{behind_text, stopped_behind_text, ran-text}
 use Rattle.mk_check.proofs.Numbered.{kept_of, stopped_of, run_agrees, op_of-asked, kept_of-with_answer, ops-with_answer}
 use Rattle.mk_check.proofs.FeedLaws.{feed_push}
@@ -75,7 +75,7 @@ op_of_others numbers (node.Line line instruction next) h = absurd (h line instru
 op_of_others numbers (node.Rounds rounds body next) h = refl
 op_of_others numbers (node.Choice number first second next) h = refl
 
-pub op_stands : (program : List Item) (k : ℕ) (s : FeedState) (answers : List Answer) → IsTree s.nodes → IsAtStop s → StandsFor program k s answers
+pub op_stands : (program : List Item) (k : ℕ) (s : FeedState) (answers : List Answer) → IsTree s.nodes → IsAtStop s → FeedStandsFor program k s answers
     → Tells (script_scope program k) (feed program k answers) (op_in s)
 op_stands program k s answers tree stop st =
     tells (script_scope program k) (feed program k answers) s.nodes s.place (node_at s.nodes s.place.at) tree stop.within refl stop.stops st.left st.numbers
@@ -85,7 +85,7 @@ op_stands program k s answers tree stop st =
 pub start_stands : (program : List Item) (k : ℕ) (s : FeedState)
     → stopped_in s.nodes s.place
     ≡ ran (steps_of (script_scope program k) (blocks_from (script_of program k).line (script_of program k).items)) (kept_of (begun (script_scope program k) (script_of program k)))
-    → StandsFor program k s []
+    → FeedStandsFor program k s []
 start_stands program k s e =
     let a = run_agrees (script_scope program k) (blocks_from (script_of program k).line (script_of program k).items) (begun (script_scope program k) (script_of program k)) in
     let same : stopped_in s.nodes s.place ≡ stopped_of (script_scope program k) (feed program k []) = e ∙ sym a.stop in
@@ -143,7 +143,7 @@ answered_from : (program : List Item) (k : ℕ) (answers : List Answer) (a : Ans
     → (feed program k answers).left ≡ Line line item rest → length (feed program k answers).ops ≡ length answers
     → is_some (op_of (script_scope program k) (feed program k answers) item) ≡ true
     → stopped_in s.nodes s.place ≡ ran_on (steps_of (script_scope program k) (feed program k answers).left) a (kept_of (feed program k answers))
-    → StandsFor program k s (answers ++ a ∷ [])
+    → FeedStandsFor program k s (answers ++ a ∷ [])
 answered_from program k answers a line item rest s is taken some stop =
     let scope = script_scope program k in
     let fed = feed program k answers in
@@ -163,7 +163,7 @@ pub answer_stands : (program : List Item) (k : ℕ) (answers : List Answer) (a :
     → IsTree s.nodes → IsWithin (length s.nodes) s.place → node_at s.nodes s.place.at ≡ node.Line line instruction next
     → is_some (asked s.place.numbers instruction) ≡ true
     → stopped_in t.nodes t.place ≡ ran_on (left_in s.nodes s.place) a (kept_in s.place)
-    → StandsFor program k s answers → StandsFor program k t (answers ++ a ∷ [])
+    → FeedStandsFor program k s answers → FeedStandsFor program k t (answers ++ a ∷ [])
 answer_stands program k answers a s t line instruction next tree w e some stop st =
     let scope = script_scope program k in
     let fed = feed program k answers in

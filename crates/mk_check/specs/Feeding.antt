@@ -52,7 +52,7 @@ next_op program k answers = first_op (script_scope program k) (feed program k an
 
 -- Script k of a program, fed with these answers: it takes them all, and has what the script then has. Names are
 -- numbers in what is left.
-pub record StandsFor (program : List Item) (k : ℕ) (s : FeedState) (answers : List Answer) : Type 0 where
+pub record FeedStandsFor (program : List Item) (k : ℕ) (s : FeedState) (answers : List Answer) : Type 0 where
   pub taken : length (feed program k answers).ops ≡ length answers
   pub left : left_in s.nodes s.place ≡ steps_of (script_scope program k) (feed program k answers).left
   pub numbers : s.place.numbers ≡ (feed program k answers).numbers
@@ -61,4 +61,4 @@ pub record StandsFor (program : List Item) (k : ℕ) (s : FeedState) (answers : 
 -- Whatever the first stands for, the second stands for that with the answer behind it.
 abbrev pub TakesAnswer : FeedState → Answer → FeedState → Type 0
 TakesAnswer old answer new = (program : List Item) (k : ℕ) (answers : List Answer)
-    → StandsFor program k old answers → StandsFor program k new (answers ++ answer ∷ [])
+    → FeedStandsFor program k old answers → FeedStandsFor program k new (answers ++ answer ∷ [])

@@ -48,13 +48,13 @@ abbrev pub AreAdmittedFor : List Item → ℕ → List Call → Type 0
 AreAdmittedFor program callers calls = AreAdmitted (globals_of program) (heap_of program callers) calls
 
 -- The operation is admitted behind the calls.
-abbrev pub IsAdmittedBehind : List Item → ℕ → List Call → ℕ → Op → Type 0
-IsAdmittedBehind program callers calls caller op = IsAdmitted (globals_of program) (after_calls (heap_of program callers) calls) caller op
+abbrev pub OpIsAdmittedBehind : List Item → ℕ → List Call → ℕ → Op → Type 0
+OpIsAdmittedBehind program callers calls caller op = IsAdmitted (globals_of program) (after_calls (heap_of program callers) calls) caller op
 
 -- What script k asks for next is admitted behind the calls, as it is asked for and as it is noted with any answer.
 pub record NextIsAdmitted (program : List Item) (callers : ℕ) (calls : List Call) (k : ℕ) (answers : List Answer) : Type 0 where
-  pub asked : (op : Op) → next_op program k answers ≡ Some op → IsAdmittedBehind program callers calls k op
-  pub noted : (op : Op) (answer : Answer) → next_op program k answers ≡ Some op → IsAdmittedBehind program callers calls k (noted op answer)
+  pub asked : (op : Op) → next_op program k answers ≡ Some op → OpIsAdmittedBehind program callers calls k op
+  pub noted : (op : Op) (answer : Answer) → next_op program k answers ≡ Some op → OpIsAdmittedBehind program callers calls k (noted op answer)
 
 -- some answers with which script k notes the caller's operations among the calls
 pub record HasAnswers (program : List Item) (k : ℕ) (calls : List Call) : Type 0 where

@@ -44,13 +44,13 @@ impl Feed {
     ghost use Rattle.mk_script.specs.declared.items.Item.{Item};
     ghost use Rattle.mk_check.specs.Feed.{feed, has_ended};
     ghost use Rattle.mk_script.specs.Grammar.{IsOfSomeText};
-    ghost use Rattle.mk_check.specs.Feeding.{script_scope, op_in, next_op, work_left, StandsFor, TakesAnswer};
+    ghost use Rattle.mk_check.specs.Feeding.{script_scope, op_in, next_op, work_left, FeedStandsFor, TakesAnswer};
 
     /// Script `script` of a program, from 0 on, which has no answer yet.
     pub fn start(alloc: Global, program: &[Item], script: u64) -> Result<Feed, NoMemory>
         requires exists { script < length (script_names program.now) }
         requires text { IsOfSomeText program.now }
-        ensures { IfOk result (λ f. StandsFor program.now script f []) }
+        ensures { IfOk result (λ f. FeedStandsFor program.now script f []) }
     {
         let lines = script_at(program, script);
         let names = Names::of(alloc, program, lines.items)?;
@@ -64,9 +64,9 @@ impl Feed {
     pub fn op(&self) -> Option<Op>
         ensures value { result ≡ op_in self.now }
         ensures next { (program : List Item) (k : ℕ) (answers : List Answer)
-            → StandsFor program k self.now answers → result ≡ next_op program k answers }
+            → FeedStandsFor program k self.now answers → result ≡ next_op program k answers }
         ensures none { (program : List Item) (k : ℕ) (answers : List Answer)
-            → StandsFor program k self.now answers
+            → FeedStandsFor program k self.now answers
             → IsNone result ↔ IsTrue (has_ended (feed program k answers)) }
     {
         match self.tree.node(self.running.at()) {
@@ -101,7 +101,7 @@ impl Feed {
     /// The text so far.
     pub fn text(&self) -> &[u8]
         ensures { (program : List Item) (k : ℕ) (answers : List Answer)
-            → StandsFor program k self.now answers → result.now ≡ (feed program k answers).text }
+            → FeedStandsFor program k self.now answers → result.now ≡ (feed program k answers).text }
     {
         self.running.text()
     }

@@ -7,3 +7,6 @@ pub mod Stores
 pub mod Soundness
 pub mod Typing
 pub mod TypedCalls
+pub mod Reached
+pub mod Parts
+pub mod Unreached

@@ -1,5 +1,6 @@
 -- Sound values stay sound, and suit the kinds that they are of.
 use Rattle.std.proofs.Common.{◌≡◌, ℕ, zero, suc, ◌+◌, ◌<◌, List, [], ◌∷◌, length, map, get_or, sym, subst, ◌∙◌, inl, inr, arith}
+use Rattle.std.proofs.lemmas.Bool.{false≢true}
 use Rattle.mk_never.specs.declared.types.Kind.{Kind}
 use Rattle.mk_never.specs.declared.types.Kind.TheVariants.{Num as Number, To}
 use Rattle.mk_never.specs.declared.values.Value.{Value}
@@ -39,7 +40,7 @@ allocation_kept n m stays a typed =
 
 pub number_suits : (n : NeverState) (m : ℕ) (kind : Kind) → IsNumber kind → Suits n (Num m) kind
 number_suits n m Number is = tt
-number_suits n m (To ty offset) is = absurd is
+number_suits n m (To ty offset) is = absurd (false≢true is)
 
 pub pointer_suits : (n : NeverState) (v : Value) (kind : Kind) → IsSound n v → IsOfKind v kind → Suits n v kind
 pointer_suits n Null Number sound of_kind = absurd of_kind
@@ -48,7 +49,7 @@ pointer_suits n (Ptr number ty offset) Number sound of_kind = absurd of_kind
 pointer_suits n v (To ty offset) sound of_kind = (sound, of_kind)
 
 pub suited_is_sound : (n : NeverState) (v : Value) (kind : Kind) → IsPointer kind → Suits n v kind → IsSound n v
-suited_is_sound n v Number is suits = absurd is
+suited_is_sound n v Number is suits = absurd (false≢true (sym is))
 suited_is_sound n v (To ty offset) is suits = suits.0
 
 -- a zero word suits its kind

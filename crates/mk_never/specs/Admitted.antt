@@ -1,12 +1,12 @@
 -- Which operations the heap that never reuses storage is asked: what a checked program keeps to.
-use Rattle.std.specs.Prelude.{◌≡◌, ℕ, ◌+◌, ◌*◌, ◌<◌, List, [], ◌∷◌, length, slice_index_or, slice_get, IfSome}
+use Rattle.std.specs.Prelude.{◌≡◌, ℕ, ◌+◌, ◌*◌, ◌<◌, false, List, [], ◌∷◌, length, slice_index_or, slice_get, IfSome, IsTrue}
 use Rattle.mk_never.specs.declared.types.Kind.{Kind}
 use Rattle.mk_never.specs.declared.types.Kind.TheVariants.{Num as Number, To}
 use Rattle.mk_never.specs.declared.values.Value.{Value}
 use Rattle.mk_never.specs.declared.values.Value.TheVariants.{Null, Num, Ptr}
 use Rattle.mk_never.specs.declared.operations.Op.{Op}
 use Rattle.mk_never.specs.declared.operations.Op.TheVariants.{New, Free, GetNum, SetNum, GetPtr, SetPtr, CasPtr, Lea, Move, Clear, GetGlobal, SetGlobal, Same, IsNull}
-use Rattle.mk_never.specs.Types.{kinds_of}
+use Rattle.mk_never.specs.Types.{kinds_of, is_number}
 use Rattle.mk_never.specs.NeverHeap.{NeverState, Call, register_at, allocation_at, words_of, after_op}
 
 -- The operation's registers, global and type are in range.
@@ -38,12 +38,10 @@ Meets n (Ptr number ty offset) i P =
     (offset + i < length (words_of n number)) × P (slice_index_or (kinds_of n.types (allocation_at n number).ty) (offset + i) Number)
 
 abbrev pub IsNumber : Kind → Type 0
-IsNumber Number = Unit {0}
-IsNumber (To ty offset) = ⊥
+IsNumber kind = IsTrue (is_number kind)
 
 abbrev pub IsPointer : Kind → Type 0
-IsPointer Number = ⊥
-IsPointer (To ty offset) = Unit {0}
+IsPointer kind = is_number kind ≡ false
 
 -- The access is admitted by the type and the offset of the pointer in its register, where that isn't null.
 abbrev pub AccessIsAdmitted : NeverState → ℕ → Op → Type 0

@@ -1,5 +1,5 @@
 -- Laws of the heap that never reuses storage, of any list of calls from any state.
-use Rattle.std.specs.Prelude.{◌≡◌, ◌≢◌, ◌↔◌, ℕ, ◌+◌, ◌<◌, ◌≤◌, List, [], ◌∷◌, length, false, IsTrue}
+use Rattle.std.specs.Prelude.{◌≡◌, ◌≢◌, ◌↔◌, ℕ, ◌+◌, ◌<◌, ◌≤◌, List, [], ◌∷◌, ◌++◌, length, false, IsTrue}
 use Rattle.mk_never.specs.declared.values.Value.{Value}
 use Rattle.mk_never.specs.declared.values.Value.TheVariants.{Null, Num, Ptr}
 use Rattle.mk_never.specs.declared.values.Target.TheVariants.{WordOf}
@@ -7,8 +7,8 @@ use Rattle.mk_never.specs.declared.operations.Op.{Op}
 use Rattle.mk_never.specs.declared.operations.Op.TheVariants.{New, Free, GetNum, SetNum, GetPtr, SetPtr, CasPtr, Lea, Move, Clear, GetGlobal, SetGlobal, Same, IsNull}
 use Rattle.mk_never.specs.declared.operations.Reply.TheVariants.{Num as Number, Val}
 use Rattle.mk_never.specs.Types.{kinds_of, zero_words}
-use Rattle.mk_never.specs.NeverHeap.{NeverState, Call, register_at, allocation_at, words_of, word_at, target_of, number_of, reply_of, after_op, after_calls}
-use Rattle.mk_never.specs.Admitted.{IsCaller, AccessIsAdmitted}
+use Rattle.mk_never.specs.NeverHeap.{NeverState, Call, register_at, allocation_at, words_of, word_at, target_of, number_of, reply_of, after_op, after_calls, replies_of}
+use Rattle.mk_never.specs.Admitted.{IsCaller, AccessIsAdmitted, AreAdmitted}
 
 -- Each allocation of n is in m, of the same type and as many words, and what is freed in n is freed in m.
 -- m has the types of n, as many registers and as many globals.
@@ -152,3 +152,16 @@ abbrev pub LoadGivesStored : NeverState → ℕ → Op → List Call → ℕ →
 LoadGivesStored n caller op calls number place =
     place < length (words_of n number) → StoresTo n caller op number place → NoneStoresTo (after_op n caller op) calls number place
     → LoadsGive (after_calls (after_op n caller op) calls) number place (stored_value n caller op)
+
+-- Calls leave what the later ones leave behind the earlier.
+abbrev pub LeavesInParts : NeverState → List Call → List Call → Type 0
+LeavesInParts n earlier later = after_calls n (earlier ++ later) ≡ after_calls (after_calls n earlier) later
+
+-- Calls have the replies to the earlier ones, and then those to the later ones behind them.
+abbrev pub RepliesInParts : NeverState → List Call → List Call → Type 0
+RepliesInParts n earlier later = replies_of n (earlier ++ later) ≡ replies_of n earlier ++ replies_of (after_calls n earlier) later
+
+-- Calls are admitted where the earlier ones are, and the later ones behind them.
+abbrev pub AdmittedInParts : List ℕ → NeverState → List Call → List Call → Type 0
+AdmittedInParts globals n earlier later =
+    AreAdmitted globals n (earlier ++ later) ↔ (AreAdmitted globals n earlier × AreAdmitted globals (after_calls n earlier) later)

@@ -3,3 +3,4 @@ pub mod Admitted
 pub mod Types
 pub mod Laws
 pub mod Typed
+pub mod Reach

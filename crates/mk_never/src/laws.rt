@@ -1,10 +1,11 @@
 //! Laws of the heap that never reuses storage: what holds of any calls, one after the other. Each is the
 //! contract of a function that does nothing.
-ghost use Rattle.std.specs.Prelude.{◌≡◌, ◌≢◌, ◌↔◌, ℕ, ◌<◌, ◌≤◌, List, length, false, IsTrue};
+ghost use Rattle.std.specs.Prelude.{◌≡◌, ◌≢◌, ◌↔◌, ℕ, ◌<◌, ◌≤◌, Bool, List, length, false, IsTrue};
 ghost use Rattle.mk_never.specs.NeverHeap.{NeverState, Call, start_of, after_calls, is_same};
 ghost use Rattle.mk_never.specs.Admitted.{AreAdmitted};
-ghost use Rattle.mk_never.specs.Laws.{Continues, TypeStays, FreedStays, SameTells, NewAdds, AreByOthers, AreNotBy, KeepsRegisters, UnstoredStays, StoreIsInside, StoreLeaves, LoadGivesStored};
+ghost use Rattle.mk_never.specs.Laws.{Continues, TypeStays, FreedStays, SameTells, NewAdds, AreByOthers, AreNotBy, KeepsRegisters, UnstoredStays, StoreIsInside, StoreLeaves, LoadGivesStored, LeavesInParts, RepliesInParts, AdmittedInParts};
 ghost use Rattle.mk_never.specs.Typed.{IsTyped, KeepsTyped, StaysTyped};
+ghost use Rattle.mk_never.specs.Reach.{IsReached, IsClosedUnderPointers, ReachIsLeast, AccessIsToReached, ReachGrowsByGrants, UnreachedStays};
 
 use crate::{Kind, Op, Value};
 
@@ -72,4 +73,29 @@ pub fn a_load_gives_what_was_last_stored()
     ensures stored { (n : NeverState) (caller : ℕ) (op : Op) (number place : ℕ) → StoreLeaves n caller op number place }
     ensures loaded { (n : NeverState) (caller : ℕ) (op : Op) (calls : List Call) (number place : ℕ)
         → LoadGivesStored n caller op calls number place }
+{}
+
+/// What pointers lead to, from registers and globals along words, is reached, and nothing else is. No word of a
+/// freed large allocation leads on.
+#[tactic(auto, using(crate::proofs::Reached::reach_is_closed, crate::proofs::Reached::reach_is_least))]
+pub fn what_is_reached()
+    ensures closed { (n : NeverState) → IsClosedUnderPointers n (IsReached n) }
+    ensures least { (n : NeverState) (S : ℕ → Bool) → ReachIsLeast n S }
+{}
+
+/// What isn't reached never is again: accesses get to reached allocations alone, and an operation adds no more
+/// to what is reached than the allocation that it grants.
+#[tactic(auto, using(crate::proofs::Unreached::access_is_to_reached, crate::proofs::Unreached::reach_grows_by_grants, crate::proofs::Unreached::unreached_stays))]
+pub fn the_unreached_stays_so()
+    ensures accessed { (n : NeverState) (caller q i number place : ℕ) → AccessIsToReached n caller q i number place }
+    ensures grown { (n : NeverState) (caller : ℕ) (op : Op) (number : ℕ) → ReachGrowsByGrants n caller op number }
+    ensures stays { (n : NeverState) (calls : List Call) (number : ℕ) → UnreachedStays n calls number }
+{}
+
+/// Calls in two parts leave, reply and are admitted as the earlier ones and then, behind these, the later ones.
+#[tactic(auto, using(crate::proofs::Parts::after_append, crate::proofs::Parts::replies_append, crate::proofs::Parts::admitted_append))]
+pub fn calls_in_two_parts()
+    ensures left { (n : NeverState) (earlier later : List Call) → LeavesInParts n earlier later }
+    ensures replies { (n : NeverState) (earlier later : List Call) → RepliesInParts n earlier later }
+    ensures admitted { (globals : List ℕ) (n : NeverState) (earlier later : List Call) → AdmittedInParts globals n earlier later }
 {}

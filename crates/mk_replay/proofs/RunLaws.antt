@@ -7,7 +7,7 @@ use Rattle.std.proofs.lemmas.List.{append_cancel_left, length-append, get_or_def
 use Rattle.mk_never.specs.declared.operations.Op.{Op}
 use Rattle.mk_script.specs.declared.items.Item.{Item}
 use Rattle.mk_check.specs.Feed.{Fed, feed, has_ended, take_answer}
-use Rattle.mk_check.specs.Feeding.{FeedState, script_scope, StandsFor as FeedStandsFor, TakesAnswer as FeedTakesAnswer}
+use Rattle.mk_check.specs.Feeding.{FeedState, script_scope, FeedStandsFor, TakesAnswer as FeedTakesAnswer}
 use Rattle.mk_check.proofs.FeedLaws.{feed_push, feed_push-ended}
 use Rattle.mk_core.specs.declared.config.Config.{Config}
 use Rattle.mk_core.specs.declared.events.Answer.{Answer}

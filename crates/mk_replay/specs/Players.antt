@@ -3,7 +3,7 @@ use Rattle.std.specs.Prelude.{◌≡◌, ◌<◌, ◌≤◌, ℕ, Bool, true, fa
 use Rattle.mk_script.specs.declared.items.Item.{Item}
 use Rattle.mk_script.specs.Scopes.{script_names}
 use Rattle.mk_check.specs.Feed.{feed}
-use Rattle.mk_check.specs.Feeding.{FeedState, StandsFor as FeedStandsFor}
+use Rattle.mk_check.specs.Feeding.{FeedState, FeedStandsFor}
 use Rattle.mk_core.specs.declared.config.Config.{Config}
 use Rattle.mk_core.specs.declared.events.Event.{Event}
 use Rattle.mk_core.specs.declared.events.Answer.{Answer}

@@ -2,7 +2,7 @@ use Rattle.std.proofs.Common.{◌<◌, List, [], refl, sym, ◌∙◌, subst, le
 use Rattle.mk_core.specs.declared.events.Answer.{Answer}
 use Rattle.mk_script.specs.declared.items.Item.{Item}
 use Rattle.mk_script.specs.Scopes.{script_names}
-use Rattle.mk_check.specs.Feeding.{StandsFor, TakesAnswer}
+use Rattle.mk_check.specs.Feeding.{FeedStandsFor, TakesAnswer}
 use Rattle.markus.specs.Plain.{PlainHeap}
 use Rattle.markus.proofs.NarrowPrograms.{script_is_there}
 use Rattle.markus.proofs.Runs.{Runs, begins, next_is_plain, goes_on, ends}
@@ -15,7 +15,7 @@ start-requires-clause-exists c =
 pub loop-op-init : goal.loop-op-init
 loop-op-init c =
     begins c.args.checked.now c.in_ok-plain.plain c.in_ok-feed.feed c.requires c.in_ok-plain.ensures
-    (subst (λ (xs : List Item). StandsFor xs 0 c.in_ok-feed.feed []) (c.items.ensures.items ∙ c.program.ensures.program) c.in_ok-feed.ensures)
+    (subst (λ (xs : List Item). FeedStandsFor xs 0 c.in_ok-feed.feed []) (c.items.ensures.items ∙ c.program.ensures.program) c.in_ok-feed.ensures)
 
 pub apply-answer-requires : goal.apply-answer-requires
 apply-answer-requires c =
