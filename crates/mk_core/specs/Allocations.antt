@@ -1,5 +1,5 @@
 -- The allocations of a history, in the order of their grants: an allocation's number is its place.
-use Rattle.std.specs.Prelude.{ℕ, ◌*◌, Bool, true, false, ◌&&◌, ◌||◌, not, ◌==◌, List, [], ◌∷◌, ◌++◌, map, filter, sum_by, Option, if◌then◌else◌}
+use Rattle.std.specs.Prelude.{ℕ, ◌*◌, Bool, true, false, ◌&&◌, ◌||◌, not, ◌==◌, List, [], ◌∷◌, ◌++◌, map, filter, sum_by, slice_index_or, Option, if◌then◌else◌}
 use Rattle.mk_never.specs.declared.operations.Op.{Op}
 use Rattle.mk_never.specs.declared.operations.Op.TheVariants as op
 use Rattle.mk_never.specs.Types.{kinds_of, is_large}
@@ -7,6 +7,7 @@ use Rattle.mk_geom.specs.declared.addresses.Cell.{Cell}
 use Rattle.mk_geom.specs.declared.pages.Place.{Place}
 use Rattle.mk_geom.specs.declared.pages.Census.{Census}
 use Rattle.mk_geom.specs.Classes.{class_words_of}
+use Rattle.mk_geom.specs.StorageWords.{mapped_words}
 use Rattle.mk_geom.specs.Storages.{Storage, place_of, census_of, Fits}
 use Rattle.mk_core.specs.declared.config.Config.{Config}
 use Rattle.mk_core.specs.declared.events.Step.{Step}
@@ -30,6 +31,13 @@ pub record PlacedAllocation : Type 0 where
   pub freed : Bool
   pub fresh : Bool
   pub released : Bool
+
+-- no allocation: it counts as a released one
+abbrev pub never_granted : PlacedAllocation
+never_granted = record { base = 0; ty = 0; freed = false; fresh = false; released = true }
+
+abbrev pub placed_at : List PlacedAllocation → ℕ → PlacedAllocation
+placed_at xs i = slice_index_or xs i never_granted
 
 abbrev pub type_made : Op → ℕ
 type_made (op.New d ty full) = ty
@@ -66,9 +74,6 @@ allocations_by c m f _ xs = xs
 abbrev pub allocations_behind : Config → Moment → Event → List PlacedAllocation → List PlacedAllocation
 allocations_behind c m e xs = allocations_by c m (flight_of m e.seat) e.step xs
 
-abbrev pub is_unreleased : PlacedAllocation → Bool
-is_unreleased a = not a.released
-
 -- A freed large allocation isn't mapped.
 abbrev pub is_mapped : Config → PlacedAllocation → Bool
 is_mapped c a = not a.released && not (a.freed && is_large (kinds_of c.types a.ty))
@@ -84,12 +89,14 @@ abbrev pub storage_of : Config → PlacedAllocation → Storage
 storage_of c a =
     record { first = a.base; words = storage_words c a; mapped = is_mapped c a; leaf = (object_of (kinds_of c.types a.ty)).leaf }
 
-abbrev pub unreleased_storage : Config → List PlacedAllocation → List Storage
-unreleased_storage c xs = map (storage_of c) (filter is_unreleased xs)
+unfoldable pub unreleased_storage : Config → List PlacedAllocation → List Storage
+unreleased_storage c [] = []
+unreleased_storage c (a ∷ xs) =
+    if a.released then unreleased_storage c xs else storage_of c a ∷ unreleased_storage c xs
 
 -- The counts: the storage words of the mapped allocations, and of those among them that are fresh.
 abbrev pub held_words : Config → List PlacedAllocation → ℕ
-held_words c xs = sum_by (storage_words c) (filter (is_mapped c) xs)
+held_words c xs = mapped_words (unreleased_storage c xs)
 
 abbrev pub fresh_words_of : Config → List PlacedAllocation → ℕ
 fresh_words_of c xs = sum_by (storage_words c) (filter (λ a. is_mapped c a && a.fresh) xs)

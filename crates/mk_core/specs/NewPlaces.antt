@@ -1,11 +1,9 @@
 -- The place of a New and what its pages become, and the object of a Free, over the words as they are.
 use Rattle.std.specs.Prelude.{ℕ, ◌+◌, ◌-◌, ◌*◌, ◌^◌, Bool, true, false, ◌&&◌, ◌==◌, nat_le, nat_lt, not, List, [], length, Option, Some, None, unwrap_or, if◌then◌else◌}
-use Rattle.std.specs.List.{list_all}
 use Rattle.mk_never.specs.declared.types.Kind.{Kind}
-use Rattle.mk_never.specs.declared.types.Kind.TheVariants.{Num, To}
 use Rattle.mk_never.specs.declared.operations.Op.{Op}
 use Rattle.mk_never.specs.declared.operations.Op.TheVariants as op
-use Rattle.mk_never.specs.Types.{kinds_of}
+use Rattle.mk_never.specs.Types.{kinds_of, is_leaf}
 use Rattle.mk_geom.specs.declared.addresses.Cell.{Cell}
 use Rattle.mk_geom.specs.declared.pages.Place.{Place}
 use Rattle.mk_geom.specs.Classes.{class_for, class_words_of, cells_of, is_small_size, run_pages_of}
@@ -24,14 +22,6 @@ use Rattle.mk_core.specs.declared.seats.Object.{Object}
 use Rattle.mk_core.specs.Words.{Words, header_at}
 use Rattle.mk_core.specs.Bounded.{all_below, is_none_or}
 use Rattle.mk_core.specs.Cells.{pointed_cell, words_are_zero}
-
-abbrev pub is_number : Kind → Bool
-is_number Num = true
-is_number (To ty offset) = false
-
--- a type without a pointer
-abbrev pub is_leaf : List Kind → Bool
-is_leaf kinds = list_all is_number kinds
 
 -- an object of these words
 abbrev pub object_of : List Kind → Object

@@ -1,0 +1,27 @@
+-- No ABA: a compare and exchange compares what it would compare in the heap that never reuses storage.
+use Rattle.std.specs.Prelude.{◌≡◌, ◌↔◌, ℕ, List, ◌∷◌, ◌++◌, Some}
+use Rattle.mk_never.specs.declared.operations.Op.TheVariants as op
+use Rattle.mk_never.specs.declared.values.Target.TheVariants.{WordOf}
+use Rattle.mk_never.specs.NeverHeap.{register_at, word_at, target_of}
+use Rattle.mk_core.specs.declared.config.Config.{Config}
+use Rattle.mk_core.specs.declared.events.Answer.TheVariants as answer
+use Rattle.mk_core.specs.declared.events.Seat.TheVariants.{Caller}
+use Rattle.mk_core.specs.declared.events.Step.TheVariants as step
+use Rattle.mk_core.specs.declared.events.Event.{Event}
+use Rattle.mk_core.specs.Moments.{flight_of}
+use Rattle.mk_core.specs.Effects.{answer_decided}
+use Rattle.mk_core.specs.History.{left, never_behind}
+
+-- The answer is 1 exactly where the values of the word and of register p are equal.
+abbrev pub ComparesValues : Config → List Event → ℕ → ℕ → ℕ → ℕ → ℕ → Type 0
+ComparesValues c es k q i p number =
+    (place : ℕ) → target_of (never_behind c es) (register_at (never_behind c es) k q) i ≡ WordOf number place
+    → (answer_decided c (left c es).now (record { seat = Caller k; step = step.Cas }) ≡ Some (answer.Num 1))
+    ↔ (word_at (never_behind c es) number place ≡ register_at (never_behind c es) k p)
+
+-- Each `cas` of the list does so, in the state that the calls before it leave.
+abbrev pub ExchangesCompareValues : Config → List Event → Type 0
+ExchangesCompareValues c es =
+    (before behind : List Event) (k q i p r number : ℕ)
+    → es ≡ before ++ record { seat = Caller k; step = step.Cas } ∷ behind → (flight_of (left c before).now (Caller k)).op ≡ op.CasPtr q i p r
+    → ComparesValues c before k q i p number

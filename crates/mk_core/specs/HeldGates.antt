@@ -1,0 +1,24 @@
+-- Which gates are held, by the events alone: what the causes of refusals speak of.
+use Rattle.std.specs.Prelude.{ℕ, Bool, false, not, ◌==◌, if◌then◌else◌, List, [], ◌∷◌, slice_index}
+use Rattle.mk_core.specs.declared.config.Config.{Config}
+use Rattle.mk_core.specs.declared.events.Step.{Step}
+use Rattle.mk_core.specs.declared.events.Step.TheVariants as step
+use Rattle.mk_core.specs.declared.events.Event.{Event}
+use Rattle.mk_core.specs.History.{World, first_world, world_behind}
+
+abbrev pub is_hold_of : ℕ → Step → Bool
+is_hold_of i (step.Hold j) = i == j
+is_hold_of i _ = false
+
+abbrev pub changes_gate : ℕ → World → World → Bool
+changes_gate i w v = not (slice_index v.now.words.gates i == slice_index w.now.words.gates i)
+
+-- whether a gate is held behind events, where it was held or not before
+unfoldable pub is_gate_held_from : Config → ℕ → World → Bool → List Event → Bool
+is_gate_held_from c i w held [] = held
+is_gate_held_from c i w held (e ∷ es) =
+    is_gate_held_from c i (world_behind c w e) (if changes_gate i w (world_behind c w e) then is_hold_of i e.step else held) es
+
+-- The gate of caller i is held where the last event that changed it is `hold i`.
+abbrev pub is_gate_held : Config → ℕ → List Event → Bool
+is_gate_held c i es = is_gate_held_from c i (first_world c) false es

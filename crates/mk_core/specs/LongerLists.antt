@@ -1,0 +1,29 @@
+-- The law on longer lists: what a seat may do behind what it has seen, it may do behind what others did since.
+use Rattle.std.specs.Prelude.{◌≡◌, List, [], ◌∷◌, ◌++◌, is_some}
+use Rattle.mk_core.specs.declared.config.Config.{Config}
+use Rattle.mk_core.specs.declared.events.Event.{Event}
+use Rattle.mk_core.specs.declared.events.Step.TheVariants as step
+use Rattle.mk_core.specs.Accesses.{reached, access}
+use Rattle.mk_core.specs.Layout.{IsOfTable}
+use Rattle.mk_core.specs.Effects.{answer_decided}
+use Rattle.mk_core.specs.History.{left, IsHistory}
+use Rattle.mk_core.specs.Counts.{IsTidy}
+use Rattle.mk_core.specs.Growing.{AreOfOthers}
+
+-- What the event is behind the one list, it is behind the other.
+pub record IsStillTheSame (c : Config) (es fs : List Event) (e : Event) : Type 0 where
+  pub word : reached c (left c fs).now e ≡ reached c (left c es).now e
+  pub of_the_table : IsOfTable c.pages (reached c (left c es).now e)
+  pub access : access c (left c fs).now e ≡ access c (left c es).now e
+  pub decides : e.step ≡ step.Probe → is_some (answer_decided c (left c fs).now e) ≡ is_some (answer_decided c (left c es).now e)
+
+-- An event that makes a history of the shorter list makes one of the longer one, whose further events are of other seats.
+pub record GoesOn (c : Config) (es more : List Event) (e : Event) : Type 0 where
+  pub history : IsHistory c (es ++ more ++ e ∷ [])
+  pub same : IsStillTheSame c es (es ++ more) e
+  pub tidy : IsTidy c (es ++ e ∷ []) → IsTidy c (es ++ more) → IsTidy c (es ++ more ++ e ∷ [])
+
+abbrev pub LongerListsGoOn : Type 0
+LongerListsGoOn =
+    (c : Config) (es more : List Event) (e : Event) → IsHistory c (es ++ e ∷ []) → IsHistory c (es ++ more) → AreOfOthers (e.seat ∷ []) more
+    → GoesOn c es more e

@@ -1,0 +1,91 @@
+-- What a look at a word of the table tells: the reading laws.
+use Rattle.std.specs.Prelude.{◌≡◌, ◌≢◌, ◌↔◌, ℕ, ◌+◌, ◌-◌, ◌/◌, ◌<◌, ◌≤◌, Bool, true, false, not, ◌&&◌, List, slice_index, Some, count_by}
+use Rattle.mk_geom.specs.declared.headers.Header.TheVariants.{Later}
+use Rattle.mk_geom.specs.Headers.{IsHeaderWord}
+use Rattle.mk_geom.specs.declared.addresses.Cell.{Cell}
+use Rattle.mk_core.specs.declared.config.Config.{Config}
+use Rattle.mk_core.specs.declared.events.Seat.{Seat}
+use Rattle.mk_core.specs.declared.events.Seat.TheVariants.{Caller, Marker, Host}
+use Rattle.mk_core.specs.declared.events.Event.{Event}
+use Rattle.mk_core.specs.declared.seats.Stage.{Stage}
+use Rattle.mk_core.specs.declared.seats.Stage.TheVariants as stage
+use Rattle.mk_core.specs.declared.seats.Flight.{Flight}
+use Rattle.mk_core.specs.declared.seats.Marker.{Marker as MarkerState}
+use Rattle.mk_core.specs.declared.seats.RunPages.{RunPages}
+use Rattle.mk_core.specs.Words.{header_at, phase_of}
+use Rattle.mk_core.specs.Calls.{is_under_turn}
+use Rattle.mk_core.specs.Cells.{header_in, cells_under, run_headed, is_freed}
+use Rattle.mk_core.specs.Moments.{Moment, flight_of, marker_of}
+use Rattle.mk_core.specs.StopConditions.{is_attending}
+use Rattle.mk_core.specs.MarkerConditions.{is_out}
+use Rattle.mk_core.specs.Allocations.{placed_at, stands_in}
+use Rattle.mk_core.specs.History.{World, left}
+use Rattle.mk_core.specs.HeldGates.{is_gate_held}
+
+-- what a caller is in: no call, a call between `enter` and `leave`, or one between `take` and `give`
+
+abbrev pub is_idle : Stage → Bool
+is_idle stage.Idle = true
+is_idle _ = false
+
+abbrev pub is_in_call : Flight → Bool
+is_in_call f = not (is_idle f.stage) && not (is_under_turn f.op)
+
+abbrev pub is_in_turn : Flight → Bool
+is_in_turn f = not (is_idle f.stage) && is_under_turn f.op
+
+-- The seat holds the turn: a caller in a New or a Free, and the host where no caller does and the turn word isn't 0.
+abbrev pub Holds : Config → Moment → Seat → Type 0
+Holds c m (Caller k) = (k < c.callers) × (is_in_turn (flight_of m (Caller k)) ≡ true)
+Holds c m (Marker k) = ⊥
+Holds c m Host = m.words.turn ≡ 1 + c.callers
+
+abbrev pub is_in : MarkerState → Bool
+is_in x = not (is_out x.presence)
+
+abbrev pub NoneAttends : Moment → Type 0
+NoneAttends m = (k : ℕ) → is_attending (marker_of m k).presence ≡ false
+
+-- the turn word
+pub record TurnTells (c : Config) (m : Moment) : Type 0 where
+  pub least : m.words.turn ≤ 1 + c.callers
+  pub caller : (k : ℕ) → k < c.callers → (m.words.turn ≡ 1 + k) ↔ (is_in_turn (flight_of m (Caller k)) ≡ true)
+  pub nobody : (m.words.turn ≡ 0) ↔ ((s : Seat) → Holds c m s → ⊥)
+
+-- a gate word
+pub record GateTells (c : Config) (es : List Event) (k : ℕ) : Type 0 where
+  pub least : slice_index (left c es).now.words.gates k ≤ 2
+  pub in_call : (slice_index (left c es).now.words.gates k ≡ 1) ↔ (is_in_call (flight_of (left c es).now (Caller k)) ≡ true)
+  pub held : (slice_index (left c es).now.words.gates k ≡ 2) ↔ (is_gate_held c k es ≡ true)
+  pub by_another : slice_index (left c es).now.words.gates k ≡ 2 → ((left c es).now.words.turn ≢ 0) × ((left c es).now.words.turn ≢ 1 + k)
+
+-- the phase word
+pub record PhaseTells (c : Config) (m : Moment) : Type 0 where
+  pub low : phase_of m.words ≤ 5
+  pub high : m.words.phase / 8 ≡ count_by is_in m.seats.markers
+  pub none_in : m.words.phase / 8 ≡ 0 → NoneAttends m
+  pub attends : phase_of m.words ≢ 1 → phase_of m.words ≢ 2 → NoneAttends m
+  pub under_the_turn : 2 ≤ phase_of m.words → phase_of m.words ≤ 4 → m.words.turn ≢ 0
+  pub stopped : phase_of m.words ≡ 3 → (k : ℕ) → k < c.callers → m.words.turn ≢ 1 + k → slice_index m.words.gates k ≡ 2
+
+-- What turn, gates and phase tell, behind every enabled list within limits.
+pub record WordsTellWhoHoldsWhat (c : Config) (es : List Event) : Type 0 where
+  pub turn : TurnTells c (left c es).now
+  pub gates : (k : ℕ) → k < c.callers → GateTells c es k
+  pub phase : PhaseTells c (left c es).now
+
+-- The cell is one of its page's, and an unreleased allocation stands in it.
+pub record IsTaken (w : World) (cell : Cell) : Type 0 where
+  pub number : ℕ
+  pub in_range : cell.index < cells_under (header_in w.now.words cell.page)
+  pub stands : stands_in w.now.words cell (placed_at w.allocations number) ≡ true
+
+-- What headers and quarantine words tell besides, behind every history: a header word is one, and outside the phase of
+-- releasing a later page has its head, and a freed bit is that of an allocation that is freed, and each such has one.
+pub record WordsTellWhatStands (w : World) : Type 0 where
+  pub headers : (p : ℕ) → IsHeaderWord (header_at w.now.words p)
+  pub later : phase_of w.now.words ≢ 4 → (p distance : ℕ) (mapped : Bool) → header_in w.now.words p ≡ Some (Later distance mapped)
+      → (run : RunPages) × (run_headed (header_in w.now.words (p - distance)) (p - distance) ≡ Some run) × (distance < run.count) × (distance ≤ p)
+  pub freed : phase_of w.now.words ≢ 4 → (cell : Cell) → is_freed w.now.words cell ≡ true
+      → (a : IsTaken w cell) × ((placed_at w.allocations a.number).freed ≡ true)
+  pub quarantined : (cell : Cell) (a : IsTaken w cell) → (placed_at w.allocations a.number).freed ≡ true → is_freed w.now.words cell ≡ true

@@ -1,0 +1,40 @@
+-- What a cycle may find by following pointers at any of its moments: with no marks, and whatever order markers take.
+use Rattle.std.specs.Prelude.{◌≡◌, ℕ, false, List, ◌++◌, slice_index, slice_index_or}
+use Rattle.mk_never.specs.declared.values.Value.TheVariants.{Null}
+use Rattle.mk_geom.specs.StorageWords.{IsWordOf, PointsInto}
+use Rattle.mk_core.specs.declared.config.Config.{Config}
+use Rattle.mk_core.specs.declared.events.Event.{Event}
+use Rattle.mk_core.specs.Image.{image_of}
+use Rattle.mk_core.specs.Allocations.{placed_at, storage_of}
+use Rattle.mk_core.specs.History.{World, left, never_behind, bases_of}
+use Rattle.mk_core.specs.Cycles.{Marking, through}
+
+-- The list leads to a moment of the cycle, from behind its `begin` up to before its `close`.
+pub record LeadsToMoment {es : List Event} (k : Marking es) (front : List Event) : Type 0 where
+  pub done : List Event
+  pub to_come : List Event
+  pub of_the_cycle : k.close.at.before ≡ done ++ to_come
+  pub is : front ≡ through k.begin ++ done
+
+-- The value points into the storage of this allocation, which is unreleased there.
+abbrev pub PointsIntoAllocation : Config → World → ℕ → ℕ → Type 0
+PointsIntoAllocation c w value b =
+    ((placed_at w.allocations b).released ≡ false) × PointsInto value (storage_of c (placed_at w.allocations b))
+
+-- The heap word is in the storage of this unreleased allocation, which isn't leaf.
+abbrev pub IsWordOfAllocation : Config → World → ℕ → ℕ → Type 0
+IsWordOfAllocation c w n a =
+    ((placed_at w.allocations a).released ≡ false) × ((storage_of c (placed_at w.allocations a)).leaf ≡ false)
+    × IsWordOf (storage_of c (placed_at w.allocations a)) n
+
+-- The least set of allocations into which, at some moment of the cycle, a register of the never-reusing heap points, or a
+-- global, or a word of an allocation of the set, whether that was touched before or later.
+pub data IsTouched (c : Config) {es : List Event} (k : Marking es) : ℕ → Type 0 where
+  by_register : (front : List Event) (i b : ℕ) → LeadsToMoment k front
+      → PointsIntoAllocation c (left c front) (image_of (bases_of (left c front).allocations) (slice_index_or (never_behind c front).registers i Null)) b
+      → IsTouched c k b
+  by_global : (front : List Event) (g b : ℕ) → LeadsToMoment k front
+      → PointsIntoAllocation c (left c front) (slice_index (left c front).now.words.globals g) b → IsTouched c k b
+  by_word : (front : List Event) (a n b : ℕ) → LeadsToMoment k front → IsTouched c k a
+      → IsWordOfAllocation c (left c front) n a
+      → PointsIntoAllocation c (left c front) (slice_index (left c front).now.words.heap n) b → IsTouched c k b
