@@ -15,4 +15,4 @@ pub use laws::{
     a_freed_storage_is_removed, a_taken_cell_is_added, a_taken_run_is_added, an_unmapped_run_stays,
     first_fit_finds_places, free_pages_stand_for_nothing, pages_show_what_stands_there,
 };
-pub use pages::{Census, Page, Place};
+pub use pages::{Census, FREE_PAGE, Page, Place};

@@ -1,0 +1,17 @@
+use Rattle.std.proofs.Common.{◌≡◌, ◌-◌, ◌*◌, ◌%◌, ◌^◌, bit_and, count_ones, ap, ◌∙◌, arith}
+use Rattle.std.proofs.lemmas.Grind.{common_steps}
+use Rattle.std.proofs.lemmas.List.Sums.{count_by-le-length}
+use Rattle.mk_geom.specs.PageWords.{bits_of}
+use Rattle.mk_books.proofs.UsedBitLemmas.{count_ones-masked, length-bits_of}
+use Rattle.mk_books.proofs.page_uses.count_set.Goals as goal
+
+pub returns-clause-exact : goal.returns-clause-exact
+returns-clause-exact c =
+    let shifted : 1 * 2 ^ c.args.bits % 2 ^ 64 ≡ 2 ^ c.args.bits = grind (arith, common_steps) in
+    c.from.ensures
+    ∙ ap (λ high. count_ones (bit_and c.args.word (high - 1))) shifted
+    ∙ count_ones-masked c.args.bits c.args.word
+
+pub returns-clause-few : goal.returns-clause-few
+returns-clause-few c =
+    omega (arith, returns-clause-exact c, count_by-le-length (λ bit. bit) (bits_of c.args.bits c.args.word), length-bits_of c.args.bits c.args.word)
