@@ -4,14 +4,14 @@ ghost use Rattle.mk_geom.specs.PageWords.{uses_of_pages};
 ghost use Rattle.mk_core.specs.Image.{address_of};
 ghost use Rattle.mk_core.specs.Cells.{pointed_cell, first_word, cell_words, words_are_zero};
 ghost use Rattle.mk_core.specs.NewPlaces.{pages_made, header_made, is_next_header};
-ghost use Rattle.mk_core.specs.TurnConditions.{is_marked_first, carves, unmaps, empties, may_head, takes_cell, is_used_once, are_wiped, gives_back, may_use, takes_snapshot, drops, may_quarantine, words_held_by, is_decided, may_give, is_full, is_in_gone_run, may_wipe, place_now};
+ghost use Rattle.mk_core.specs.TurnConditions.{is_marked_first, carves, unmaps, empties, may_head, takes_cell, is_used_once, are_wiped, gives_back, may_use, takes_snapshot, drops, may_quarantine, is_decided, may_give, is_full, is_in_gone_run, may_wipe, place_now};
 
 use crate::cells::{has_bit, without};
-use crate::fitting::words_held;
 use crate::placing::{PageHeaders, adds_bit, bits_made, pages_made};
 use crate::seats::Object;
 use crate::table::Table;
 use crate::{Core, Flight, OwnCycle, Placing, Stage};
+use mk_books::words_held;
 use mk_geom::{Cell, Place};
 
 /// Whether no call of a caller's is undecided.
