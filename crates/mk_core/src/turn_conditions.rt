@@ -1,6 +1,5 @@
 //! What the turn's holder may do to objects: the own condition of each kind of step that changes them.
-ghost use Rattle.std.specs.Prelude.{◌≡◌, ◌&&◌, ◌<◌, sum_by};
-ghost use Rattle.mk_geom.specs.PageWords.{uses_of_pages};
+ghost use Rattle.std.specs.Prelude.{◌≡◌, ◌&&◌, ◌<◌};
 ghost use Rattle.mk_core.specs.Image.{address_of};
 ghost use Rattle.mk_core.specs.Cells.{pointed_cell, first_word, cell_words, words_are_zero};
 ghost use Rattle.mk_core.specs.NewPlaces.{pages_made, header_made, is_next_header};
