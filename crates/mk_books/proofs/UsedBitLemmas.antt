@@ -1,11 +1,12 @@
 -- The low bits of a used word.
-use Rattle.std.proofs.Common.{◌≡◌, ℕ, zero, suc, ◌+◌, ◌-◌, ◌^◌, ◌<◌, ◌≤◌, min, Bool, false, not, cond, nat_eq, nat_lt, length, map, get_or, count_by, count_ones, bit_and, w64, ap, sym, ◌∙◌, inl, inr, eq-eqb, arith}
+use Rattle.std.proofs.Common.{◌≡◌, ℕ, zero, suc, ◌+◌, ◌-◌, ◌^◌, ◌<◌, ◌≤◌, min, Bool, true, false, not, cond, nat_eq, nat_lt, List, [], ◌∷◌, length, get_or, count_by, count_ones, bit_and, w64, ap, sym, ◌∙◌, inl, inr, eq-eqb, refl, arith}
 use Rattle.std.specs.Bool.{then_some}
 use Rattle.std.specs.Int.{bit_at, bit_not, trailing_zeros, trailing_ones}
 use Rattle.std.proofs.lemmas.Bool.{cases_lt, lt-ltb, le-ltb}
-use Rattle.std.proofs.lemmas.List.{length-map, get_or-map, get_or_past}
+use Rattle.std.proofs.lemmas.List.{map-id, get_or_past}
+use Rattle.std.proofs.lemmas.List.Sums.{sum_by-cons}
 use Rattle.std.proofs.lemmas.List.FromFn.{length-map-range_with_len, get_or-map-range_with_len}
-use Rattle.std.proofs.lemmas.Nat.Bits.{bit_at-trailing_ones, bit_at_ones, bit_at_ones_above, bit_at_and, bit_at_not, bit_at-lt, same_from_bits}
+use Rattle.std.proofs.lemmas.Nat.Bits.{bit_at-trailing_ones, bit_at_ones, bit_at_ones_above, bit_at_and, bit_at-lt, same_from_bits}
 use Rattle.std.proofs.lemmas.Simd.{bit_mask_l, ones-mask_l}
 use lib.Lanes.{mask_l}
 use lib.Count.{trailing_of_zero}
@@ -54,39 +55,44 @@ first_where-bits_of count word short fits =
           (first_where_nowhere not bits false (λ k short. taken k (omega (arith, length-bits_of count word)) (omega (arith, length-bits_of count word))))
     ]
 
--- the word of the low bits that are 0
-abbrev pub clear_bits : ℕ → ℕ → ℕ
-clear_bits count word = bit_and (bit_not w64 word) (2 ^ count - 1)
+bit_is : (b : ℕ) → b < 2 → min b 1 ≡ cond (nat_eq b 1) 1 0
+bit_is zero bit = λ i. 0
+bit_is (suc n) bit = let none : n ≡ 0 = omega arith in rw none
 
-not_as_bit : (b : ℕ) → b < 2 → 1 - b ≡ cond (not (nat_eq b 1)) 1 0
-not_as_bit zero bit = λ i. 1
-not_as_bit (suc n) bit = let none : n ≡ 0 = omega arith in rw none
-
-bit_at-clear_bits : (count word k : ℕ) → count ≤ 64 → word < 2 ^ 64
-    → bit_at (clear_bits count word) k ≡ cond (get_or (map not (bits_of count word)) k false) 1 0
-bit_at-clear_bits count word k short fits =
-    let bits = bits_of count word in
-    let split = bit_at_and (bit_not w64 word) (2 ^ count - 1) k in
-    elim (cases_lt k count) [
+-- the bits of the word, as a mask has them
+masked : (count word k : ℕ) → bit_at (bit_and word (2 ^ count - 1)) k ≡ cond (get_or (bits_of count word) k false) 1 0
+masked count word k =
+    bit_at_and word (2 ^ count - 1) k
+    ∙ elim (cases_lt k count) [
       | inl within ↦
-          let inside : k < length bits = omega (arith, length-bits_of count word) in
-          let bit = bit_at-lt word k in
-          split
-          ∙ ap (λ x. min x (bit_at (2 ^ count - 1) k)) (bit_at_not w64 word k fits (omega arith))
-          ∙ ap (λ x. min (1 - bit_at word k) x) (bit_at_ones count k within)
-          ∙ (let low : min (1 - bit_at word k) 1 ≡ 1 - bit_at word k = omega arith in low)
-          ∙ not_as_bit (bit_at word k) bit
-          ∙ ap (λ b. cond b 1 0) (sym (get_or-map not bits k false false inside ∙ ap not (get_or-bits_of count word k false within)))
+          ap (min (bit_at word k)) (bit_at_ones count k within)
+          ∙ bit_is (bit_at word k) (bit_at-lt word k)
+          ∙ ap (λ b. cond b 1 0) (sym (get_or-bits_of count word k false within))
       | inr past ↦
-          let outside : length (map not bits) ≤ k = omega (arith, length-map bits not, length-bits_of count word) in
-          split
-          ∙ ap (λ x. min (bit_at (bit_not w64 word) k) x) (bit_at_ones_above count k past)
-          ∙ (let none : min (bit_at (bit_not w64 word) k) 0 ≡ 0 = omega arith in none)
-          ∙ ap (λ b. cond b 1 0) (sym (get_or_past (map not bits) k false outside))
+          ap (min (bit_at word k)) (bit_at_ones_above count k past)
+          ∙ (let none : min (bit_at word k) 0 ≡ 0 = omega arith in none)
+          ∙ ap (λ b. cond b 1 0) (sym (get_or_past (bits_of count word) k false (omega (arith, length-bits_of count word))))
     ]
 
-pub count_ones-clear_bits : (count word : ℕ) → count ≤ 64 → word < 2 ^ 64 → count_ones (clear_bits count word) ≡ count_by not (bits_of count word)
-count_ones-clear_bits count word short fits =
-    ap count_ones (same_from_bits (clear_bits count word) (mask_l (map not (bits_of count word)))
-    (λ k. bit_at-clear_bits count word k short fits ∙ sym (bit_mask_l (map not (bits_of count word)) k)))
-    ∙ ones-mask_l not (bits_of count word)
+pub count_ones-masked : (count word : ℕ) → count_ones (bit_and word (2 ^ count - 1)) ≡ count_by (λ bit. bit) (bits_of count word)
+count_ones-masked count word =
+    ap count_ones (same_from_bits (bit_and word (2 ^ count - 1)) (mask_l (bits_of count word))
+    (λ k. masked count word k ∙ sym (bit_mask_l (bits_of count word) k)))
+    ∙ ap (λ bits. count_ones (mask_l bits)) (sym (map-id (bits_of count word)))
+    ∙ ones-mask_l (λ bit. bit) (bits_of count word)
+
+-- the bits that are 1, and the rest
+count_by-others : (bits : List Bool) → count_by not bits + count_by (λ bit. bit) bits ≡ length bits
+count_by-others [] = refl
+count_by-others (bit ∷ bits) =
+    let here : cond (not bit) 1 0 + cond bit 1 0 ≡ 1 = elim bit as (λ b. cond (not b) 1 0 + cond b 1 0 ≡ 1) [ true ↦ refl | false ↦ refl ] in
+    omega (
+      arith,
+      here,
+      count_by-others bits,
+      sum_by-cons (λ b. cond (not b) 1 0) bit bits,
+      sum_by-cons (λ b. cond b 1 0) bit bits,
+    )
+
+pub count_clear_bits : (count word : ℕ) → count_by not (bits_of count word) ≡ count - count_by (λ bit. bit) (bits_of count word)
+count_clear_bits count word = omega (arith, count_by-others (bits_of count word), length-bits_of count word)

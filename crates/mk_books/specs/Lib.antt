@@ -1,3 +1,2 @@
 pub mod Quarantine
-pub mod Books
 pub mod FreeCells

@@ -1,8 +1,8 @@
 //! The words of the pages, as they are kept.
-ghost use Rattle.std.specs.Prelude.{◌≡◌, ◌<◌, length, slice_set, IfOk};
-ghost use Rattle.mk_books.specs.Books.{empty_pages};
+ghost use Rattle.std.specs.Prelude.{◌≡◌, ◌<◌, length, replicate, slice_set, IfOk};
+ghost use Rattle.mk_geom.specs.Storages.{free_page};
 
-use mk_geom::Page;
+use mk_geom::{FREE_PAGE, Page};
 use std::alloc::Global;
 use std::marker::Model;
 
@@ -28,10 +28,9 @@ impl Model for Book {
 impl Book {
     /// So many free pages.
     pub fn new(alloc: Global, pages: u64) -> Result<Book, NoMemory>
-        ensures { IfOk result (λ book. book ≡ empty_pages pages) }
+        ensures { IfOk result (λ book. book ≡ replicate pages free_page) }
     {
-        let free = Page { header: 0, used: 0 };
-        let pages = vec![in alloc; free; pages as usize].map_err(|_| NoMemory)?;
+        let pages = vec![in alloc; FREE_PAGE; pages as usize].map_err(|_| NoMemory)?;
         Ok(Book { pages })
     }
 

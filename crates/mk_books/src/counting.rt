@@ -1,10 +1,10 @@
 //! Counts of what stands on the pages.
 ghost use Rattle.std.specs.Prelude.{◌≡◌, ◌<◌, count_by};
-ghost use Rattle.mk_geom.specs.PageUses.{is_free_page, resident_pages, longest_free_range, census_among};
+ghost use Rattle.mk_geom.specs.PageUses.{is_free_page, resident_pages, longest_free_range, words_held_among, census_among};
 ghost use Rattle.mk_geom.specs.PageWords.{uses_of_pages};
 ghost use Rattle.mk_books.specs.FreeCells.{free_cells_by_class, class_place};
 
-use crate::page_uses::{BlockKind, block_of, count_clear, is_free, is_resident};
+use crate::page_uses::{BlockKind, block_of, count_clear, is_free, is_resident, words_on};
 use mk_geom::{Census, Page, cells};
 
 const CLASSES: usize = 8;
@@ -26,6 +26,13 @@ pub fn free_pages(pages: &[Page]) -> u64
     ensures { result ≡ count_by is_free_page (uses_of_pages pages.now) }
 {
     pages.iter().filter(|page| is_free(**page)).count() as u64
+}
+
+/// How much is held, in words: those of the cells that are taken, and of the pages of mapped runs.
+pub fn words_held(pages: &[Page]) -> u128
+    ensures { result ≡ words_held_among (uses_of_pages pages.now) }
+{
+    pages.iter().map(|page| u128::from(words_on(*page))).sum()
 }
 
 fn count_resident(pages: &[Page]) -> u64

@@ -1,11 +1,13 @@
 //! What stands on one page.
 ghost use Rattle.std.specs.Prelude.{◌≡◌, ◌<◌, ◌≤◌, not, count_by, IfSome, IfNone};
-ghost use Rattle.mk_geom.specs.PageUses.{Cells, is_free_page, is_resident_page, cells_taken, first_where};
+ghost use Rattle.mk_geom.specs.PageUses.{Cells, is_free_page, is_resident_page, cells_taken, first_where, words_held_by};
 ghost use Rattle.mk_geom.specs.PageWords.{use_of_page, bits_of};
 ghost use Rattle.mk_geom.specs.Classes.{cells_of};
 ghost use Rattle.mk_books.specs.FreeCells.{HasNoCells};
 
-use mk_geom::{Header, Page, cells, decode};
+use mk_geom::{Header, Page, cells, class_words, decode};
+
+const PAGE_WORDS: u64 = 64;
 
 pub(crate) fn is_free(page: Page) -> bool
     ensures { result ≡ is_free_page (use_of_page page) }
@@ -65,11 +67,37 @@ fn lowest_clear(word: u64, bits: u64) -> Option<u64>
     (place < bits).then_some(place)
 }
 
+/// The words of the cells that are taken, or of a page of a mapped run.
+pub(crate) fn words_on(page: Page) -> u64
+    ensures { result ≡ words_held_by (use_of_page page) }
+{
+    match decode(page.header) {
+        Some(Header::Block(class) | Header::LeafBlock(class)) => {
+            class_words(class) * count_set(page.used, cells(class))
+        }
+        Some(
+            Header::Run { mapped: true, .. }
+            | Header::Later { mapped: true, .. }
+            | Header::LeafRun { .. },
+        ) => PAGE_WORDS,
+        _ => 0,
+    }
+}
+
+/// How many of the low bits are 1.
+fn count_set(word: u64, bits: u64) -> u64
+    requires { bits < 64 }
+    ensures exact { result ≡ count_by (λ bit. bit) (bits_of bits word) }
+    ensures few { result ≤ bits }
+{
+    let low_bits = (1 << bits) - 1;
+    u64::from((word & low_bits).count_ones())
+}
+
 /// How many of the low bits are 0.
 pub(crate) fn count_clear(word: u64, bits: u64) -> u64
     requires { bits < 64 }
     ensures { result ≡ count_by not (bits_of bits word) }
 {
-    let low_bits = (1 << bits) - 1;
-    u64::from((!word & low_bits).count_ones())
+    bits - count_set(word, bits)
 }

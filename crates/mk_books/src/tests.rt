@@ -1,6 +1,5 @@
 use super::*;
-
-const FREE: Page = Page { header: 0, used: 0 };
+use mk_geom::FREE_PAGE;
 
 /// A full block of cells of 32 words, a leaf block with its cell 1 free, a block with its cell 0 free, a
 /// free page, a mapped run of a page, and a free page.
@@ -17,12 +16,12 @@ const FRAGMENTED: [Page; 6] = [
         header: 8,
         used: 0b10,
     },
-    FREE,
+    FREE_PAGE,
     Page {
         header: 9 + 16,
         used: 1,
     },
-    FREE,
+    FREE_PAGE,
 ];
 
 /// A run of a page whose storage isn't mapped.
@@ -82,7 +81,10 @@ fn objects_go_to_the_lowest_place(rt: HostRuntime) {
             "{words} words, limit {limit}"
         );
     }
-    assert_eq!(rt; first_fit(&[UNMAPPED, FREE, FREE], 2, 65, true), carved(1));
+    assert_eq!(rt;
+        first_fit(&[UNMAPPED, FREE_PAGE, FREE_PAGE], 2, 65, true),
+        carved(1)
+    );
 }
 
 #[test]
@@ -99,15 +101,21 @@ fn a_census_counts_pages_and_free_cells(rt: HostRuntime) {
     assert_eq!(rt; census(&FRAGMENTED), expected);
     assert_eq!(rt; free_pages(&FRAGMENTED), 2);
 
-    let reserved = census(&[UNMAPPED, FREE, FREE]);
+    let reserved = census(&[UNMAPPED, FREE_PAGE, FREE_PAGE]);
     assert_eq!(rt; reserved.resident, 0);
     assert_eq!(rt; reserved.longest_range, 2);
+}
+
+#[test]
+fn taken_cells_and_mapped_runs_are_held(rt: HostRuntime) {
+    assert_eq!(rt; words_held(&FRAGMENTED), 64 + 32 + 32 + 64);
+    assert_eq!(rt; words_held(&[UNMAPPED, FREE_PAGE]), 0);
 }
 
 #[test]
 fn a_book_keeps_what_is_set(rt: HostRuntime) -> Result<(), NoMemory> {
     let mut book = Book::new(rt.alloc(), 3)?;
     book.set(1, UNMAPPED);
-    assert_eq!(rt; book.pages(), [FREE, UNMAPPED, FREE].as_slice());
+    assert_eq!(rt; book.pages(), [FREE_PAGE, UNMAPPED, FREE_PAGE].as_slice());
     Ok(())
 }

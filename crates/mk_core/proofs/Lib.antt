@@ -8,7 +8,4 @@ pub mod Lengths
 pub mod RegionLemmas
 pub mod Schedules
 pub mod Steps
-pub mod FirstWhere
-pub mod UsedBits
-pub mod PlacesFrom
 pub mod Wiped

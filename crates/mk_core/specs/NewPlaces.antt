@@ -5,6 +5,7 @@ use Rattle.mk_never.specs.declared.operations.Op.{Op}
 use Rattle.mk_never.specs.declared.operations.Op.TheVariants as op
 use Rattle.mk_never.specs.Types.{kinds_of, is_leaf}
 use Rattle.mk_geom.specs.declared.addresses.Cell.{Cell}
+use Rattle.mk_geom.specs.declared.pages.Page.{Page}
 use Rattle.mk_geom.specs.declared.pages.Place.{Place}
 use Rattle.mk_geom.specs.Classes.{class_for, class_words_of, cells_of, is_small_size, run_pages_of}
 use Rattle.mk_geom.specs.Headers.{word_of}
@@ -32,16 +33,16 @@ abbrev pub object_made : Config → Op → Object
 object_made c (op.New d ty full) = object_of (kinds_of c.types ty)
 object_made c _ = object_of []
 
--- where an object goes by first fit, with so many pages resident at most
-abbrev pub first_fit : ℕ → Words → Object → Option Place
-first_fit resident w o = place_among resident o.words o.leaf (uses_of_pages w.pages)
+-- where an object goes on pages by first fit, with so many of them resident at most
+abbrev pub place_on_pages : ℕ → List Page → Object → Option Place
+place_on_pages resident pages o = place_among resident o.words o.leaf (uses_of_pages pages)
 
 -- A New has one place: the first fit, up to the first step that serves its object.
-abbrev pub place_in : ℕ → Words → Object → Placing → Option Place
-place_in resident w o Unplaced = first_fit resident w o
-place_in resident w o (Chosen place) = Some place
-place_in resident w o (Used place) = Some place
-place_in resident w o Granted = None
+abbrev pub place_in : ℕ → List Page → Object → Placing → Option Place
+place_in resident pages o Unplaced = place_on_pages resident pages o
+place_in resident pages o (Chosen place) = Some place
+place_in resident pages o (Used place) = Some place
+place_in resident pages o Granted = None
 
 abbrev pub class_made : Object → ℕ
 class_made o = unwrap_or (class_for o.words) 0

@@ -1,10 +1,10 @@
 -- Condition 7 for the kinds of the turn's holder that change objects: each kind's own condition.
-use Rattle.std.specs.Prelude.{ℕ, ◌+◌, ◌-◌, ◌*◌, ◌/◌, ◌%◌, ◌^◌, Bool, true, false, ◌&&◌, ◌||◌, not, ◌==◌, Option, None, if◌then◌else◌, slice_index, sum_by, count_by, bit_and, is_none}
+use Rattle.std.specs.Prelude.{ℕ, ◌+◌, ◌-◌, ◌*◌, ◌/◌, ◌%◌, ◌^◌, Bool, true, false, ◌&&◌, ◌||◌, not, ◌==◌, List, Option, None, if◌then◌else◌, slice_index, sum_by, count_by, bit_and, is_none}
 use Rattle.mk_core.specs.declared.seats.Object.{Object}
 use Rattle.mk_geom.specs.declared.addresses.Cell.{Cell}
+use Rattle.mk_geom.specs.declared.pages.Page.{Page}
 use Rattle.mk_geom.specs.declared.pages.Place.{Place}
-use Rattle.mk_geom.specs.Classes.{class_words_of}
-use Rattle.mk_geom.specs.PageUses.{PageUse, Nothing, Cells, PartOfRun}
+use Rattle.mk_geom.specs.PageUses.{words_held_among}
 use Rattle.mk_geom.specs.PageWords.{uses_of_pages}
 use Rattle.mk_core.specs.declared.config.Config.{Config}
 use Rattle.mk_core.specs.declared.seats.Flight.{Flight}
@@ -20,13 +20,13 @@ use Rattle.mk_core.specs.Words.{Words, used_at, quarantine_word}
 use Rattle.mk_core.specs.Bits.{has_bit, without}
 use Rattle.mk_core.specs.Bounded.{all_below, is_some_and}
 use Rattle.mk_core.specs.Cells.{head_page, pointed_cell, is_freed, are_left_unmarked, is_released, words_are_zero, first_word, cell_words, is_in_run}
-use Rattle.mk_core.specs.NewPlaces.{object_made, first_fit, place_in, pages_made, header_made, bits_made, is_next_header, place_stands, unmapped_header, is_run_unmapped, is_run_gone, is_undecided_new, target}
+use Rattle.mk_core.specs.NewPlaces.{object_made, place_on_pages, place_in, pages_made, header_made, bits_made, is_next_header, place_stands, unmapped_header, is_run_unmapped, is_run_gone, is_undecided_new, target}
 use Rattle.mk_core.specs.Moments.{Moment, is_phase}
 
 -- the place of an undecided New
 abbrev pub place_now : Config → Moment → Flight → Option Place
 place_now c m f =
-    if is_undecided_new f then place_in c.resident m.words (object_made c f.op) m.seats.holding.placing else None
+    if is_undecided_new f then place_in c.resident m.words.pages (object_made c f.op) m.seats.holding.placing else None
 
 -- Where the phase is marking, the cells that a header makes are marked before it is stored.
 abbrev pub is_marked_first : Words → Object → Place → Bool
@@ -118,14 +118,8 @@ may_quarantine c m f page value =
     then drops m.words page (value % 2 ^ 32) (value / 2 ^ 32)
     else frees m.words (target c.pages m.words f) page value || takes_snapshot m.words page value
 
--- the words of the cells of a page that are taken, or of a page of a mapped run
-abbrev pub words_held_by : PageUse → ℕ
-words_held_by Nothing = 0
-words_held_by (Cells class leaf taken) = class_words_of class * count_by (λ cell. cell) taken
-words_held_by (PartOfRun mapped) = if mapped then 64 else 0
-
 abbrev pub words_held : Words → ℕ
-words_held w = sum_by words_held_by (uses_of_pages w.pages)
+words_held w = words_held_among (uses_of_pages w.pages)
 
 -- no call of a caller's is undecided
 abbrev pub is_decided : Stage → Bool
@@ -139,9 +133,9 @@ may_give m f =
     && (m.words.held == words_held m.words) && (m.words.fresh == m.fresh_words)
 
 -- `full`: a cycle was begun and ended in this call, and nothing fits
-abbrev pub is_full : Config → Words → Flight → Placing → OwnCycle → Bool
-is_full c w f Unplaced Ended = is_none (first_fit c.resident w (object_made c f.op))
-is_full c w f _ _ = false
+abbrev pub is_full : ℕ → List Page → Object → Placing → OwnCycle → Bool
+is_full resident pages o Unplaced Ended = is_none (place_on_pages resident pages o)
+is_full resident pages o _ _ = false
 
 -- a word of the run whose pages this call unmapped
 abbrev pub is_in_gone_run : Words → Option RunPages → ℕ → Bool

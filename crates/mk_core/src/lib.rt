@@ -7,7 +7,6 @@ mod cells;
 mod config;
 mod effects;
 mod events;
-mod fitting;
 mod geometry;
 mod laws;
 mod machine;

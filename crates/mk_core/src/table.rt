@@ -5,7 +5,7 @@ ghost use Rattle.mk_geom.specs.Storages.{free_page};
 ghost use Rattle.mk_core.specs.Words.{Words, zero_words_of, page_of, header_at, used_at, quarantine_word, register_word, named_word, word_in, with_named, with_table_word, becomes, accessed, phase_of};
 
 use crate::{Access, TableWord, Word};
-use mk_geom::Page;
+use mk_geom::{FREE_PAGE, Page};
 use mk_never::NoMemory;
 use std::alloc::Global;
 use std::marker::Model;
@@ -40,8 +40,6 @@ impl Model for Table {
     ghost view = { λ t. record { phase = t.phase; turn = t.turn; held = t.held; fresh = t.fresh; cycles = t.cycles; released = t.released; full = t.full; gates = t.gates.items; registers = t.registers.items; globals = t.globals.items; pages = t.pages.items; freed = t.freed.items; snapshot = t.snapshot.items; marks = t.marks.items; blacks = t.blacks.items; dirty = t.dirty.items; heap = t.heap.items } };
 }
 
-const NO_PAGE: Page = Page { header: 0, used: 0 };
-
 /// So many zeros.
 fn zeros(alloc: Global, count: usize) -> Result<Vec<u64>, NoMemory>
     ensures { IfOk result (λ list. list.items ≡ replicate count 0) }
@@ -58,7 +56,7 @@ fn no_cells(alloc: Global, count: usize) -> Result<Vec<u32>, NoMemory>
 fn free_pages(alloc: Global, count: usize) -> Result<Vec<Page>, NoMemory>
     ensures { IfOk result (λ list. list.items ≡ replicate count free_page) }
 {
-    Vec::from_elem(alloc, NO_PAGE, count).map_err(|_| NoMemory)
+    Vec::from_elem(alloc, FREE_PAGE, count).map_err(|_| NoMemory)
 }
 
 /// The number at a place that may be greater than any list is long.
@@ -113,8 +111,8 @@ impl Table {
         ensures { result ≡ page_of self.now page }
     {
         match usize::try_from(page) {
-            Ok(page) => self.pages.get(page).copied().unwrap_or(NO_PAGE),
-            Err(_) => NO_PAGE,
+            Ok(page) => self.pages.get(page).copied().unwrap_or(FREE_PAGE),
+            Err(_) => FREE_PAGE,
         }
     }
 

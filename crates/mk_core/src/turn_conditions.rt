@@ -1,17 +1,16 @@
 //! What the turn's holder may do to objects: the own condition of each kind of step that changes them.
-ghost use Rattle.std.specs.Prelude.{◌≡◌, ◌&&◌, ◌<◌, sum_by};
-ghost use Rattle.mk_geom.specs.PageWords.{uses_of_pages};
+ghost use Rattle.std.specs.Prelude.{◌≡◌, ◌&&◌, ◌<◌};
 ghost use Rattle.mk_geom.specs.Addresses.{address_of};
 ghost use Rattle.mk_core.specs.Cells.{pointed_cell, first_word, cell_words, words_are_zero};
 ghost use Rattle.mk_core.specs.NewPlaces.{object_made, pages_made, header_made, is_next_header};
-ghost use Rattle.mk_core.specs.TurnConditions.{is_marked_first, carves, unmaps, empties, may_head, takes_cell, is_used_once, are_wiped, gives_back, may_use, takes_snapshot, drops, may_quarantine, words_held_by, is_decided, may_give, is_full, is_in_gone_run, may_wipe, place_now};
+ghost use Rattle.mk_core.specs.TurnConditions.{is_marked_first, carves, unmaps, empties, may_head, takes_cell, is_used_once, are_wiped, gives_back, may_use, takes_snapshot, drops, may_quarantine, is_decided, may_give, is_full, is_in_gone_run, may_wipe, place_now};
 
 use crate::cells::{has_bit, without};
-use crate::fitting::words_held;
 use crate::placing::{PageHeaders, adds_bit, bits_made, pages_made};
 use crate::seats::Object;
 use crate::table::Table;
 use crate::{Core, Flight, OwnCycle, Placing, Stage};
+use mk_books::words_held;
 use mk_geom::{Cell, Place};
 
 /// Whether no call of a caller's is undecided.
@@ -190,7 +189,7 @@ impl Core {
 
     /// Whether a cycle was begun and ended in this call, and nothing fits.
     pub(crate) fn is_full(&self, flight: Flight) -> bool
-        ensures { result ≡ is_full self.now.config self.now.now.words flight self.now.now.seats.holding.placing self.now.now.seats.holding.cycle }
+        ensures { result ≡ is_full self.now.config.resident self.now.now.words.pages (object_made self.now.config flight.op) self.now.now.seats.holding.placing self.now.now.seats.holding.cycle }
     {
         match (self.holding.placing, self.holding.cycle) {
             (Placing::Unplaced, OwnCycle::Ended) => self.first_fit(flight.op).is_none(),

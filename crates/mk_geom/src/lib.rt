@@ -14,4 +14,4 @@ pub use headers::{Header, decode, encode};
 pub use laws::{
     a_storage_has_its_cell, a_storage_says_the_words_of_its_pages, first_fit_finds_places, free_pages_stand_for_nothing, pages_show_what_stands_there,
 };
-pub use pages::{Census, Page, Place};
+pub use pages::{Census, FREE_PAGE, Page, Place};

@@ -8,6 +8,9 @@ pub struct Page {
     pub used: u64,
 }
 
+/// The words of a page on which nothing stands.
+pub const FREE_PAGE: Page = Page { header: 0, used: 0 };
+
 /// Where an object goes: cell `index` of the page, or the run from the page on, whose index is 0.
 /// `carve` says that the pages are free, and have to be made a block or a run first.
 #[derive(Clone, Copy, Debug, PartialEq, Eq)]

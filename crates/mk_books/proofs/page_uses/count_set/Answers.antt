@@ -2,8 +2,8 @@ use Rattle.std.proofs.Common.{◌≡◌, ◌-◌, ◌*◌, ◌%◌, ◌^◌, bit
 use Rattle.std.proofs.lemmas.Grind.{common_steps}
 use Rattle.std.proofs.lemmas.List.Sums.{count_by-le-length}
 use Rattle.mk_geom.specs.PageWords.{bits_of}
-use Rattle.mk_core.proofs.UsedBits.{count_ones-masked, length-bits_of}
-use Rattle.mk_core.proofs.fitting.count_set.Goals as goal
+use Rattle.mk_books.proofs.UsedBitLemmas.{count_ones-masked, length-bits_of}
+use Rattle.mk_books.proofs.page_uses.count_set.Goals as goal
 
 pub returns-clause-exact : goal.returns-clause-exact
 returns-clause-exact c =
