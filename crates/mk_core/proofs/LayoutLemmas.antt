@@ -1,12 +1,14 @@
--- Each word of the table has an index of its own.
-use Rattle.std.proofs.Common.{◌≡◌, ℕ, ◌+◌, ◌*◌, ◌<◌, refl, sym, ◌∙◌, ap, arith}
+-- Each word of the table has an index of its own, and words of two line groups stand eight words apart.
+use Rattle.std.proofs.Common.{◌≡◌, ◌⊎◌, inl, inr, ℕ, ◌+◌, ◌*◌, ◌<◌, ◌≤◌, refl, sym, ◌∙◌, ap, arith}
+use Rattle.std.proofs.lemmas.Bool.{cases_order}
+use Rattle.std.specs.Prelude.{⊤}
 use Rattle.mk_core.specs.declared.events.Word.{Word}
 use Rattle.mk_core.specs.declared.events.Word.TheVariants as word
 use Rattle.mk_core.specs.declared.accesses.TableWord.{TableWord}
 use Rattle.mk_core.specs.declared.accesses.TableWord.TheVariants.{Turn, Named}
-use Rattle.mk_core.specs.Layout.{index_of_named, index_of, count_of_words, NamesWord, IsOfTable}
+use Rattle.mk_core.specs.Layout.{index_of_named, index_of, count_of_words, NamesWord, IsOfTable, LineGroup, OfPhase, OfTurn, OfTallies, OfGlobals, OfPages, OfGate, OfRegisters, line_group_of_named, line_group, LineGroupsAreApart}
 
-same_register : (c r d s : ℕ) → r < 8 → s < 8 → 23 + 8 * c + r ≡ 23 + 8 * d + s → word.Reg c r ≡ word.Reg d s
+same_register : (c r d s : ℕ) → r < 8 → s < 8 → 304 + 16 * c + r ≡ 304 + 16 * d + s → word.Reg c r ≡ word.Reg d s
 same_register c r d s lr ls e =
     let same_caller : c ≡ d = omega arith in
     let same_place : r ≡ s = omega arith in
@@ -33,7 +35,7 @@ named_apart pages (word.Dirty i) (word.Dirty j) hx hy e = ap (λ n. word.Dirty n
 named_apart pages (word.Heap i) (word.Heap j) hx hy e = ap (λ n. word.Heap n) (omega arith)
 named_apart pages x y hx hy e = absurd (omega arith)
 
-not_turn : (pages : ℕ) (x : Word) → NamesWord pages x → index_of_named pages x ≡ 1 → ⊥
+not_turn : (pages : ℕ) (x : Word) → NamesWord pages x → index_of_named pages x ≡ 16 → ⊥
 not_turn pages (word.Reg c r) h e = omega arith
 not_turn pages x h e = omega arith
 
@@ -50,3 +52,69 @@ named_within pages x h = omega arith
 pub indexes_within : (pages : ℕ) (x : TableWord) → IsOfTable pages x → index_of pages x < count_of_words pages
 indexes_within pages Turn h = omega arith
 indexes_within pages (Named x) h = named_within pages x h
+
+-- A group begins at sixteen times its rank.
+abbrev rank : LineGroup → ℕ
+rank OfPhase = 0
+rank OfTurn = 1
+rank OfTallies = 2
+rank (OfGate caller) = 3 + caller
+rank (OfRegisters caller) = 19 + caller
+rank OfGlobals = 35
+rank OfPages = 40
+
+abbrev IsGroup : LineGroup → Type 0
+IsGroup (OfGate caller) = caller < 16
+IsGroup (OfRegisters caller) = caller < 16
+IsGroup _ = ⊤
+
+same_rank : (g h : LineGroup) → IsGroup g → IsGroup h → rank g ≡ rank h → g ≡ h
+same_rank (OfGate i) (OfGate j) hg hh e = ap (λ n. OfGate n) (omega arith)
+same_rank (OfRegisters i) (OfRegisters j) hg hh e = ap (λ n. OfRegisters n) (omega arith)
+same_rank OfPhase OfPhase hg hh e = refl
+same_rank OfTurn OfTurn hg hh e = refl
+same_rank OfTallies OfTallies hg hh e = refl
+same_rank OfGlobals OfGlobals hg hh e = refl
+same_rank OfPages OfPages hg hh e = refl
+same_rank g h hg hh e = absurd (omega arith)
+
+named_is_group : (pages : ℕ) (x : Word) → NamesWord pages x → IsGroup (line_group_of_named x)
+named_is_group pages (word.Gate j) h = h
+named_is_group pages (word.Reg c r) h = h.0
+named_is_group pages x h = tt
+
+is_group : (pages : ℕ) (x : TableWord) → IsOfTable pages x → IsGroup (line_group x)
+is_group pages Turn h = tt
+is_group pages (Named x) h = named_is_group pages x h
+
+-- where the words of a group stand
+record StandsIn (group place : ℕ) : Type 0 where
+  first : 16 * group ≤ place
+  few : group < 35 → place < 16 * group + 8
+  globals : group ≡ 35 → place < 624
+  last : 35 < group → group ≡ 40
+
+named_stands_in : (pages : ℕ) (x : Word) → NamesWord pages x → StandsIn (rank (line_group_of_named x)) (index_of_named pages x)
+named_stands_in pages (word.Reg c r) h =
+    let lc = h.0 in let lr = h.1 in record { first = omega arith; few = λ l. omega arith; globals = λ l. omega arith; last = λ l. omega arith }
+named_stands_in pages x h = record { first = omega arith; few = λ l. omega arith; globals = λ l. omega arith; last = λ l. omega arith }
+
+stands_in : (pages : ℕ) (x : TableWord) → IsOfTable pages x → StandsIn (rank (line_group x)) (index_of pages x)
+stands_in pages Turn h = record { first = omega arith; few = λ l. omega arith; globals = λ l. omega arith; last = λ l. omega arith }
+stands_in pages (Named x) h = named_stands_in pages x h
+
+later_group : (g h i j : ℕ) → StandsIn g i → StandsIn h j → g < h → i + 8 ≤ j
+later_group g h i j sg sh lt =
+    elim (cases_order g 35) as (λ _. i + 8 ≤ j) [
+      | inl same ↦ let few = sg.globals same in let last = sh.last (omega arith) in let first = sh.first in omega arith
+      | inr (inl less) ↦ let few = sg.few less in let first = sh.first in omega arith
+      | inr (inr more) ↦ let here = sg.last more in let there = sh.last (omega arith) in omega arith
+    ]
+
+pub groups_apart : LineGroupsAreApart
+groups_apart pages x y hx hy ne =
+    elim (cases_order (rank (line_group x)) (rank (line_group y))) as (λ _. (index_of pages x + 8 ≤ index_of pages y) ⊎ (index_of pages y + 8 ≤ index_of pages x)) [
+      | inl same ↦ absurd (ne (same_rank (line_group x) (line_group y) (is_group pages x hx) (is_group pages y hy) same))
+      | inr (inl less) ↦ inl (later_group _ _ _ _ (stands_in pages x hx) (stands_in pages y hy) less)
+      | inr (inr more) ↦ inr (later_group _ _ _ _ (stands_in pages y hy) (stands_in pages x hx) more)
+    ]

@@ -1,7 +1,7 @@
--- The table's words as one list: each stands at its index, and a change of one is a change there.
-use Rattle.std.proofs.Common.{◌≡◌, ℕ, zero, suc, ◌+◌, ◌*◌, ◌/◌, ◌%◌, ◌^◌, ◌<◌, List, [], ◌∷◌, ◌++◌, length, map, slice_index, slice_index_or, slice_set, refl, sym, ◌∙◌, ap, arith}
-use Rattle.std.proofs.lemmas.List.{get_or_append_left, get_or-append-add, set-append_left, set-append_right, map-set, length-map, get_or-map}
-use Rattle.std.proofs.Math.Seq.{map-set_same}
+-- The table's words as one list: each stands at its index, and a change of one, or an access to it, is a change there.
+use Rattle.std.proofs.Common.{◌≡◌, ℕ, zero, suc, ◌+◌, ◌*◌, ◌/◌, ◌%◌, ◌^◌, ◌<◌, List, [], ◌∷◌, ◌++◌, length, map, take, drop, replicate, slice_index, slice_index_or, slice_set, refl, sym, ◌∙◌, ap, arith}
+use Rattle.std.proofs.lemmas.List.{get_or_append_left, get_or-append-add, get_or-take, get_or-drop, set-append_left, set-append_right, set-get_or, take-set-le, drop-set-lt, drop-set-add, map-set, length-map, length-append, length-drop, length-take-le, length-replicate, replicate-append-replicate, get_or-map}
+use Rattle.std.proofs.Math.Seq.{map-set_same, take-set-lt}
 use Rattle.std.proofs.Math.Nat.{mod-add-div}
 use Rattle.mk_geom.specs.declared.pages.Page.{Page}
 use Rattle.mk_geom.specs.Storages.{free_page}
@@ -9,8 +9,10 @@ use Rattle.mk_core.specs.declared.events.Word.{Word}
 use Rattle.mk_core.specs.declared.events.Word.TheVariants as word
 use Rattle.mk_core.specs.declared.accesses.TableWord.{TableWord}
 use Rattle.mk_core.specs.declared.accesses.TableWord.TheVariants.{Turn, Named}
-use Rattle.mk_core.specs.Words.{Words, quarantine_word, word_in, with_table_word}
-use Rattle.mk_core.specs.Layout.{index_of, IsOfTable, quarantine_words, regions, joined, in_order, AreOfPages}
+use Rattle.mk_core.specs.declared.accesses.Access.{Access}
+use Rattle.mk_core.specs.declared.accesses.Access.TheVariants.{Load, Store, Exchange, Or, Add, Sub}
+use Rattle.mk_core.specs.Words.{Words, zero_words_of, quarantine_word, word_in, with_table_word, becomes, accessed}
+use Rattle.mk_core.specs.Layout.{index_of, IsOfTable, quarantine_words, gap, spread, regions, joined, in_order, AreOfPages, ListHasAllWords, FirstWordsAreZero, AccessesStandAtTheirIndexes}
 
 -- how many words stand before a region
 abbrev before : List (List ℕ) → ℕ → ℕ
@@ -56,26 +58,85 @@ quarantine_set (x ∷ fs) [] k f s e = absurd (omega arith)
 quarantine_set (x ∷ fs) (y ∷ ss) zero f s e = refl
 quarantine_set (x ∷ fs) (y ∷ ss) (suc k) f s e = ap (λ xs. quarantine_word x y ∷ xs) (quarantine_set fs ss k f s (omega arith))
 
+-- Groups of words with gaps: their length, the word r of group i, and a change of it.
+length_spread : (n size between : ℕ) (xs : List ℕ) → length xs ≡ n * size → length (spread n size between xs) ≡ n * (size + between)
+unfolding spread
+length_spread zero size between xs e = omega arith
+length_spread (suc n) size between xs e =
+    let here : length (take size xs) ≡ size = length-take-le size xs (omega arith) in
+    let left : length (drop size xs) ≡ n * size = omega (arith, length-drop size xs) in
+    let rest = length_spread n size between (drop size xs) left in
+    simp (length-append, length-replicate) (omega arith)
+
+spread_at : (n size between : ℕ) (xs : List ℕ) (i r : ℕ) → length xs ≡ n * size → i < n → r < size
+    → slice_index (spread n size between xs) ((size + between) * i + r) ≡ slice_index xs (size * i + r)
+unfolding spread
+spread_at zero size between xs i r e li lr = absurd (omega arith)
+spread_at (suc n) size between xs zero r e li lr =
+    let here : length (take size xs) ≡ size = length-take-le size xs (omega arith) in
+    ap (λ k. slice_index (spread (suc n) size between xs) k) (omega arith)
+    ∙ get_or_append_left (take size xs) (gap between ++ spread n size between (drop size xs)) 0 r (omega arith)
+    ∙ get_or-take size xs r 0 lr ∙ ap (λ k. slice_index xs k) (omega arith)
+spread_at (suc n) size between xs (suc i) r e li lr =
+    let here : length (take size xs) ≡ size = length-take-le size xs (omega arith) in
+    let empty : length (gap between) ≡ between = length-replicate between 0 in
+    let left : length (drop size xs) ≡ n * size = omega (arith, length-drop size xs) in
+    let k = (size + between) * i + r in
+    ap (λ m. slice_index (spread (suc n) size between xs) m) (omega arith)
+    ∙ get_or-append-add (take size xs) (gap between ++ spread n size between (drop size xs)) (length (gap between) + k) 0
+    ∙ get_or-append-add (gap between) (spread n size between (drop size xs)) k 0
+    ∙ spread_at n size between (drop size xs) i r left (omega arith) lr
+    ∙ get_or-drop size xs (size * i + r) 0 ∙ ap (λ m. slice_index xs m) (omega arith)
+
+spread_set : (n size between : ℕ) (xs : List ℕ) (i r v : ℕ) → length xs ≡ n * size → i < n → r < size
+    → slice_set (spread n size between xs) ((size + between) * i + r) v ≡ spread n size between (slice_set xs (size * i + r) v)
+unfolding spread
+spread_set zero size between xs i r v e li lr = absurd (omega arith)
+spread_set (suc n) size between xs zero r v e li lr =
+    let here : length (take size xs) ≡ size = length-take-le size xs (omega arith) in
+    let rest = λ (ys : List ℕ). gap between ++ spread n size between ys in
+    ap (λ k. slice_set (spread (suc n) size between xs) k v) (omega arith)
+    ∙ set-append_left (take size xs) (rest (drop size xs)) r v (omega arith)
+    ∙ ap (λ ys. ys ++ rest (drop size xs)) (sym (take-set-lt size xs r v lr))
+    ∙ ap (λ ys. take size (slice_set xs r v) ++ rest ys) (sym (drop-set-lt size xs r v lr))
+    ∙ ap (λ k. spread (suc n) size between (slice_set xs k v)) (omega arith)
+spread_set (suc n) size between xs (suc i) r v e li lr =
+    let here : length (take size xs) ≡ size = length-take-le size xs (omega arith) in
+    let empty : length (gap between) ≡ between = length-replicate between 0 in
+    let left : length (drop size xs) ≡ n * size = omega (arith, length-drop size xs) in
+    let k = (size + between) * i + r in
+    let place = size * i + r in
+    ap (λ m. slice_set (spread (suc n) size between xs) m v) (omega arith)
+    ∙ set_later (take size xs) (gap between ++ spread n size between (drop size xs)) (length (gap between) + k) v
+    ∙ ap (λ ys. take size xs ++ ys) (set_later (gap between) (spread n size between (drop size xs)) k v)
+    ∙ ap (λ ys. take size xs ++ (gap between ++ ys)) (spread_set n size between (drop size xs) i r v left (omega arith) lr)
+    ∙ ap (λ ys. take size xs ++ (gap between ++ spread n size between ys)) (sym (drop-set-add size xs place v))
+    ∙ ap (λ ys. ys ++ (gap between ++ spread n size between (drop size (slice_set xs (size + place) v)))) (sym (take-set-le size xs (size + place) v (omega arith)))
+    ∙ ap (λ m. spread (suc n) size between (slice_set xs m v)) (omega arith)
+
 -- where each region begins
 record Begins (pages : ℕ) (w : Words) : Type 0 where
-  gates : before (regions w) 1 ≡ 7
-  registers : before (regions w) 2 ≡ 23
-  globals : before (regions w) 3 ≡ 151
-  headers : before (regions w) 4 ≡ 215
-  used : before (regions w) 5 ≡ 215 + pages
-  quarantine : before (regions w) 6 ≡ 215 + 2 * pages
-  marks : before (regions w) 7 ≡ 215 + 3 * pages
-  blacks : before (regions w) 8 ≡ 215 + 4 * pages
-  dirty : before (regions w) 9 ≡ 215 + 5 * pages
-  heap : before (regions w) 10 ≡ 215 + 6 * pages
+  gates : before (regions w) 6 ≡ 48
+  registers : before (regions w) 7 ≡ 304
+  globals : before (regions w) 8 ≡ 560
+  headers : before (regions w) 10 ≡ 640
+  used : before (regions w) 11 ≡ 640 + pages
+  quarantine : before (regions w) 12 ≡ 640 + 2 * pages
+  marks : before (regions w) 13 ≡ 640 + 3 * pages
+  blacks : before (regions w) 14 ≡ 640 + 4 * pages
+  dirty : before (regions w) 15 ≡ 640 + 5 * pages
+  heap : before (regions w) 16 ≡ 640 + 6 * pages
+  all : before (regions w) 17 ≡ 640 + 70 * pages
 
 begins : (pages : ℕ) (w : Words) → AreOfPages pages w → Begins pages w
 begins pages w h =
-    let g = h.gates in let r = h.registers in let l = h.globals in
+    let g : length (spread 16 1 15 w.gates) ≡ 256 = length_spread 16 1 15 w.gates h.gates in
+    let r : length (spread 16 8 8 w.registers) ≡ 256 = length_spread 16 8 8 w.registers h.registers in
+    let l = h.globals in
     let p : length (map (λ (page : Page). page.header) w.pages) ≡ pages = length-map w.pages (λ (page : Page). page.header) ∙ h.pages in
     let u : length (map (λ (page : Page). page.used) w.pages) ≡ pages = length-map w.pages (λ (page : Page). page.used) ∙ h.pages in
     let q : length (quarantine_words w.freed w.snapshot) ≡ pages = quarantine_length w.freed w.snapshot (h.freed ∙ sym h.snapshot) ∙ h.freed in
-    let m = h.marks in let b = h.blacks in let d = h.dirty in
+    let m = h.marks in let b = h.blacks in let d = h.dirty in let n = h.heap in
     record {
       gates = omega arith;
       registers = omega arith;
@@ -87,6 +148,7 @@ begins pages w h =
       blacks = omega arith;
       dirty = omega arith;
       heap = omega arith;
+      all = omega arith;
     }
 
 -- the word at k of region j, whose index is i
@@ -98,6 +160,13 @@ set_at : (w : Words) (j k i n v : ℕ) → before (regions w) j ≡ n → i ≡ 
     → joined (slice_set (regions w) j (slice_set (region (regions w) j) k v)) ≡ slice_set (in_order w) i v
 set_at w j k i n v b e lt = sym (ap (λ x. slice_set (in_order w) x v) (e ∙ ap (λ x. x + k) (sym b)) ∙ joined_set (regions w) j k v lt)
 
+gates_at : (xs : List ℕ) (j : ℕ) → length xs ≡ 16 → j < 16 → slice_index (spread 16 1 15 xs) (16 * j) ≡ slice_index xs j
+gates_at xs j e lt = ap (λ k. slice_index (spread 16 1 15 xs) k) (omega arith) ∙ spread_at 16 1 15 xs j 0 e lt (omega arith) ∙ ap (λ k. slice_index xs k) (omega arith)
+
+gates_set : (xs : List ℕ) (j v : ℕ) → length xs ≡ 16 → j < 16 → spread 16 1 15 (slice_set xs j v) ≡ slice_set (spread 16 1 15 xs) (16 * j) v
+gates_set xs j v e lt =
+    ap (λ k. spread 16 1 15 (slice_set xs k v)) (omega arith) ∙ sym (spread_set 16 1 15 xs j 0 v e lt (omega arith)) ∙ ap (λ k. slice_set (spread 16 1 15 xs) k v) (omega arith)
+
 named_stands : (pages : ℕ) (w : Words) (x : Word) → AreOfPages pages w → Begins pages w → IsOfTable pages (Named x) → slice_index (in_order w) (index_of pages (Named x)) ≡ word_in w (Named x)
 named_stands pages w word.Phase h b t = refl
 named_stands pages w word.Held h b t = refl
@@ -105,26 +174,34 @@ named_stands pages w word.Fresh h b t = refl
 named_stands pages w word.Cycles h b t = refl
 named_stands pages w word.Released h b t = refl
 named_stands pages w word.Full h b t = refl
-named_stands pages w (word.Gate j) h b t = let l = h.gates in at w 1 j (7 + j) 7 b.gates refl (omega arith)
-named_stands pages w (word.Reg c r) h b t = let l = h.registers in let lc = t.0 in let lr = t.1 in at w 2 (8 * c + r) (23 + 8 * c + r) 23 b.registers (omega arith) (omega arith)
-named_stands pages w (word.Global g) h b t = let l = h.globals in at w 3 g (151 + g) 151 b.globals refl (omega arith)
+named_stands pages w (word.Gate j) h b t =
+    let l : length (spread 16 1 15 w.gates) ≡ 256 = length_spread 16 1 15 w.gates h.gates in
+    at w 6 (16 * j) (48 + 16 * j) 48 b.gates refl (omega arith) ∙ gates_at w.gates j h.gates t
+named_stands pages w (word.Reg c r) h b t =
+    let l : length (spread 16 8 8 w.registers) ≡ 256 = length_spread 16 8 8 w.registers h.registers in let lc = t.0 in let lr = t.1 in
+    at w 7 (16 * c + r) (304 + 16 * c + r) 304 b.registers (omega arith) (omega arith) ∙ spread_at 16 8 8 w.registers c r h.registers lc lr
+named_stands pages w (word.Global g) h b t = let l = h.globals in at w 8 g (560 + g) 560 b.globals refl (omega arith)
 named_stands pages w (word.Head p) h b t =
     let l = h.pages in let m = length-map w.pages (λ (page : Page). page.header) in
-    at w 4 p (215 + p) 215 b.headers refl (omega arith) ∙ get_or-map (λ (page : Page). page.header) w.pages p free_page 0 (omega arith)
+    at w 10 p (640 + p) 640 b.headers refl (omega arith) ∙ get_or-map (λ (page : Page). page.header) w.pages p free_page 0 (omega arith)
 named_stands pages w (word.Used p) h b t =
     let l = h.pages in let m = length-map w.pages (λ (page : Page). page.used) in
-    at w 5 p (215 + pages + p) (215 + pages) b.used refl (omega arith) ∙ get_or-map (λ (page : Page). page.used) w.pages p free_page 0 (omega arith)
+    at w 11 p (640 + pages + p) (640 + pages) b.used refl (omega arith) ∙ get_or-map (λ (page : Page). page.used) w.pages p free_page 0 (omega arith)
 named_stands pages w (word.Quar p) h b t =
     let l = h.freed in let s = h.snapshot in let q = quarantine_length w.freed w.snapshot (h.freed ∙ sym h.snapshot) in
-    at w 6 p (215 + 2 * pages + p) (215 + 2 * pages) b.quarantine refl (omega arith) ∙ quarantine_at w.freed w.snapshot p (h.freed ∙ sym h.snapshot) (omega arith)
-named_stands pages w (word.Mark p) h b t = let l = h.marks in at w 7 p (215 + 3 * pages + p) (215 + 3 * pages) b.marks refl (omega arith)
-named_stands pages w (word.Black p) h b t = let l = h.blacks in at w 8 p (215 + 4 * pages + p) (215 + 4 * pages) b.blacks refl (omega arith)
-named_stands pages w (word.Dirty p) h b t = let l = h.dirty in at w 9 p (215 + 5 * pages + p) (215 + 5 * pages) b.dirty refl (omega arith)
-named_stands pages w (word.Heap n) h b t = let l = h.heap in at w 10 n (215 + 6 * pages + n) (215 + 6 * pages) b.heap refl (omega arith)
+    at w 12 p (640 + 2 * pages + p) (640 + 2 * pages) b.quarantine refl (omega arith) ∙ quarantine_at w.freed w.snapshot p (h.freed ∙ sym h.snapshot) (omega arith)
+named_stands pages w (word.Mark p) h b t = let l = h.marks in at w 13 p (640 + 3 * pages + p) (640 + 3 * pages) b.marks refl (omega arith)
+named_stands pages w (word.Black p) h b t = let l = h.blacks in at w 14 p (640 + 4 * pages + p) (640 + 4 * pages) b.blacks refl (omega arith)
+named_stands pages w (word.Dirty p) h b t = let l = h.dirty in at w 15 p (640 + 5 * pages + p) (640 + 5 * pages) b.dirty refl (omega arith)
+named_stands pages w (word.Heap n) h b t = let l = h.heap in at w 16 n (640 + 6 * pages + n) (640 + 6 * pages) b.heap refl (omega arith)
 
 pub words_stand : (pages : ℕ) (w : Words) (x : TableWord) → AreOfPages pages w → IsOfTable pages x → slice_index (in_order w) (index_of pages x) ≡ word_in w x
 words_stand pages w Turn h t = refl
 words_stand pages w (Named x) h t = named_stands pages w x h (begins pages w h) t
+
+-- the list with another region j
+abbrev put : Words → ℕ → List ℕ → List ℕ
+put w j xs = joined (slice_set (regions w) j xs)
 
 -- a page's other word stays
 headers_kept : (ps : List Page) (p v : ℕ) → map (λ (page : Page). page.header) (slice_set ps p (record { header = (slice_index_or ps p free_page).header; used = v })) ≡ map (λ (page : Page). page.header) ps
@@ -133,52 +210,96 @@ headers_kept ps p v = map-set_same (λ (page : Page). page.header) ps p (record 
 used_kept : (ps : List Page) (p v : ℕ) → map (λ (page : Page). page.used) (slice_set ps p (record { header = v; used = (slice_index_or ps p free_page).used })) ≡ map (λ (page : Page). page.used) ps
 used_kept ps p v = map-set_same (λ (page : Page). page.used) ps p (record { header = v; used = (slice_index_or ps p free_page).used }) free_page refl
 
--- the list, where these are the words of the pages
-with_pages : Words → List ℕ → List ℕ → List ℕ
-with_pages w headers used =
-    joined ((w.phase ∷ w.turn ∷ w.held ∷ w.fresh ∷ w.cycles ∷ w.released ∷ w.full ∷ []) ∷ w.gates ∷ w.registers ∷ w.globals
-    ∷ headers ∷ used ∷ quarantine_words w.freed w.snapshot ∷ w.marks ∷ w.blacks ∷ w.dirty ∷ w.heap ∷ [])
-
-with_quarantine : Words → List ℕ → List ℕ
-with_quarantine w quarantine =
-    joined ((w.phase ∷ w.turn ∷ w.held ∷ w.fresh ∷ w.cycles ∷ w.released ∷ w.full ∷ []) ∷ w.gates ∷ w.registers ∷ w.globals
-    ∷ map (λ (page : Page). page.header) w.pages ∷ map (λ (page : Page). page.used) w.pages ∷ quarantine ∷ w.marks ∷ w.blacks ∷ w.dirty ∷ w.heap ∷ [])
-
 quarantine_whole : (v : ℕ) → quarantine_word (v % 2 ^ 32) (v / 2 ^ 32) ≡ v
 quarantine_whole v = mod-add-div v (2 ^ 32)
 
 named_changes : (pages : ℕ) (w : Words) (x : Word) (v : ℕ) → AreOfPages pages w → Begins pages w → IsOfTable pages (Named x)
     → in_order (with_table_word w (Named x) v) ≡ slice_set (in_order w) (index_of pages (Named x)) v
-unfolding with_pages with_quarantine
 named_changes pages w word.Phase v h b t = refl
 named_changes pages w word.Held v h b t = refl
 named_changes pages w word.Fresh v h b t = refl
 named_changes pages w word.Cycles v h b t = refl
 named_changes pages w word.Released v h b t = refl
 named_changes pages w word.Full v h b t = refl
-named_changes pages w (word.Gate j) v h b t = let l = h.gates in set_at w 1 j (7 + j) 7 v b.gates refl (omega arith)
-named_changes pages w (word.Reg c r) v h b t = let l = h.registers in let lc = t.0 in let lr = t.1 in set_at w 2 (8 * c + r) (23 + 8 * c + r) 23 v b.registers (omega arith) (omega arith)
-named_changes pages w (word.Global g) v h b t = let l = h.globals in set_at w 3 g (151 + g) 151 v b.globals refl (omega arith)
+named_changes pages w (word.Gate j) v h b t =
+    let l : length (spread 16 1 15 w.gates) ≡ 256 = length_spread 16 1 15 w.gates h.gates in
+    ap (λ xs. put w 6 xs) (gates_set w.gates j v h.gates t) ∙ set_at w 6 (16 * j) (48 + 16 * j) 48 v b.gates refl (omega arith)
+named_changes pages w (word.Reg c r) v h b t =
+    let l : length (spread 16 8 8 w.registers) ≡ 256 = length_spread 16 8 8 w.registers h.registers in let lc = t.0 in let lr = t.1 in
+    ap (λ xs. put w 7 xs) (sym (spread_set 16 8 8 w.registers c r v h.registers lc lr))
+    ∙ set_at w 7 (16 * c + r) (304 + 16 * c + r) 304 v b.registers (omega arith) (omega arith)
+named_changes pages w (word.Global g) v h b t = let l = h.globals in set_at w 8 g (560 + g) 560 v b.globals refl (omega arith)
 named_changes pages w (word.Head p) v h b t =
     let l = h.pages in let m = length-map w.pages (λ (page : Page). page.header) in
-    ap (λ u. with_pages w (map (λ (page : Page). page.header) (slice_set w.pages p (record { header = v; used = (slice_index_or w.pages p free_page).used }))) u) (used_kept w.pages p v)
-    ∙ ap (λ hs. with_pages w hs (map (λ (page : Page). page.used) w.pages)) (map-set (λ (page : Page). page.header) w.pages p (record { header = v; used = (slice_index_or w.pages p free_page).used }))
-    ∙ set_at w 4 p (215 + p) 215 v b.headers refl (omega arith)
+    let changed = slice_set w.pages p (record { header = v; used = (slice_index_or w.pages p free_page).used }) in
+    ap (λ us. joined (slice_set (slice_set (regions w) 10 (map (λ (page : Page). page.header) changed)) 11 us)) (used_kept w.pages p v)
+    ∙ ap (λ hs. put w 10 hs) (map-set (λ (page : Page). page.header) w.pages p (record { header = v; used = (slice_index_or w.pages p free_page).used }))
+    ∙ set_at w 10 p (640 + p) 640 v b.headers refl (omega arith)
 named_changes pages w (word.Used p) v h b t =
     let l = h.pages in let m = length-map w.pages (λ (page : Page). page.used) in
-    ap (λ hs. with_pages w hs (map (λ (page : Page). page.used) (slice_set w.pages p (record { header = (slice_index_or w.pages p free_page).header; used = v })))) (headers_kept w.pages p v)
-    ∙ ap (λ u. with_pages w (map (λ (page : Page). page.header) w.pages) u) (map-set (λ (page : Page). page.used) w.pages p (record { header = (slice_index_or w.pages p free_page).header; used = v }))
-    ∙ set_at w 5 p (215 + pages + p) (215 + pages) v b.used refl (omega arith)
+    let changed = slice_set w.pages p (record { header = (slice_index_or w.pages p free_page).header; used = v }) in
+    ap (λ hs. joined (slice_set (slice_set (regions w) 10 hs) 11 (map (λ (page : Page). page.used) changed))) (headers_kept w.pages p v)
+    ∙ ap (λ us. put w 11 us) (map-set (λ (page : Page). page.used) w.pages p (record { header = (slice_index_or w.pages p free_page).header; used = v }))
+    ∙ set_at w 11 p (640 + pages + p) (640 + pages) v b.used refl (omega arith)
 named_changes pages w (word.Quar p) v h b t =
     let l = h.freed in let s = h.snapshot in let q = quarantine_length w.freed w.snapshot (h.freed ∙ sym h.snapshot) in
-    ap (λ xs. with_quarantine w xs) (quarantine_set w.freed w.snapshot p (v % 2 ^ 32) (v / 2 ^ 32) (h.freed ∙ sym h.snapshot) ∙ ap (λ x. slice_set (quarantine_words w.freed w.snapshot) p x) (quarantine_whole v))
-    ∙ set_at w 6 p (215 + 2 * pages + p) (215 + 2 * pages) v b.quarantine refl (omega arith)
-named_changes pages w (word.Mark p) v h b t = let l = h.marks in set_at w 7 p (215 + 3 * pages + p) (215 + 3 * pages) v b.marks refl (omega arith)
-named_changes pages w (word.Black p) v h b t = let l = h.blacks in set_at w 8 p (215 + 4 * pages + p) (215 + 4 * pages) v b.blacks refl (omega arith)
-named_changes pages w (word.Dirty p) v h b t = let l = h.dirty in set_at w 9 p (215 + 5 * pages + p) (215 + 5 * pages) v b.dirty refl (omega arith)
-named_changes pages w (word.Heap n) v h b t = let l = h.heap in set_at w 10 n (215 + 6 * pages + n) (215 + 6 * pages) v b.heap refl (omega arith)
+    ap (λ xs. put w 12 xs) (quarantine_set w.freed w.snapshot p (v % 2 ^ 32) (v / 2 ^ 32) (h.freed ∙ sym h.snapshot) ∙ ap (λ x. slice_set (quarantine_words w.freed w.snapshot) p x) (quarantine_whole v))
+    ∙ set_at w 12 p (640 + 2 * pages + p) (640 + 2 * pages) v b.quarantine refl (omega arith)
+named_changes pages w (word.Mark p) v h b t = let l = h.marks in set_at w 13 p (640 + 3 * pages + p) (640 + 3 * pages) v b.marks refl (omega arith)
+named_changes pages w (word.Black p) v h b t = let l = h.blacks in set_at w 14 p (640 + 4 * pages + p) (640 + 4 * pages) v b.blacks refl (omega arith)
+named_changes pages w (word.Dirty p) v h b t = let l = h.dirty in set_at w 15 p (640 + 5 * pages + p) (640 + 5 * pages) v b.dirty refl (omega arith)
+named_changes pages w (word.Heap n) v h b t = let l = h.heap in set_at w 16 n (640 + 6 * pages + n) (640 + 6 * pages) v b.heap refl (omega arith)
 
 pub words_change : (pages : ℕ) (w : Words) (x : TableWord) (v : ℕ) → AreOfPages pages w → IsOfTable pages x
     → in_order (with_table_word w x v) ≡ slice_set (in_order w) (index_of pages x) v
 words_change pages w Turn v h t = refl
 words_change pages w (Named x) v h t = named_changes pages w x v h (begins pages w h) t
+
+length_joined : (xss : List (List ℕ)) → length (joined xss) ≡ before xss (length xss)
+length_joined [] = refl
+length_joined (xs ∷ xss) = length-append xs (joined xss) ∙ ap (λ n. length xs + n) (length_joined xss)
+
+pub has_all_words : ListHasAllWords
+has_all_words pages w h = length_joined (regions w) ∙ (begins pages w h).all
+
+abbrev total : List ℕ → ℕ
+total [] = 0
+total (n ∷ counts) = n + total counts
+
+joined_gaps : (counts : List ℕ) → joined (map gap counts) ≡ gap (total counts)
+joined_gaps [] = refl
+joined_gaps (n ∷ counts) = ap (λ xs. gap n ++ xs) (joined_gaps counts) ∙ replicate-append-replicate {A = ℕ} n (total counts) 0
+
+map_replicate : (f : Page → ℕ) (page : Page) (n : ℕ) → map f (replicate n page) ≡ replicate n (f page)
+map_replicate f page zero = refl
+map_replicate f page (suc n) = ap (λ xs. f page ∷ xs) (map_replicate f page n)
+
+no_quarantine : (n : ℕ) → quarantine_words (replicate n 0) (replicate n 0) ≡ replicate n 0
+no_quarantine zero = refl
+no_quarantine (suc n) = ap (λ xs. 0 ∷ xs) (no_quarantine n)
+
+pub first_are_zero : FirstWordsAreZero
+unfolding spread
+first_are_zero pages =
+    let w = zero_words_of pages in
+    let counts : List ℕ = 1 ∷ 15 ∷ 1 ∷ 15 ∷ 5 ∷ 11 ∷ 256 ∷ 256 ∷ 64 ∷ 16 ∷ pages ∷ pages ∷ pages ∷ pages ∷ pages ∷ pages ∷ 64 * pages ∷ [] in
+    ap (λ hs. put w 10 hs) (map_replicate (λ (page : Page). page.header) free_page pages)
+    ∙ ap (λ us. joined (slice_set (slice_set (regions w) 10 (gap pages)) 11 us)) (map_replicate (λ (page : Page). page.used) free_page pages)
+    ∙ ap (λ qs. joined (slice_set (slice_set (slice_set (regions w) 10 (gap pages)) 11 (gap pages)) 12 qs)) (no_quarantine pages)
+    ∙ joined_gaps counts
+    ∙ ap gap (omega arith)
+
+pub accesses_change : AccessesStandAtTheirIndexes
+accesses_change pages w x a h t =
+    let changed : in_order (with_table_word w x (becomes a (word_in w x))) ≡ slice_set (in_order w) (index_of pages x) (becomes a (slice_index (in_order w) (index_of pages x))) =
+    words_change pages w x (becomes a (word_in w x)) h t ∙ ap (λ found. slice_set (in_order w) (index_of pages x) (becomes a found)) (sym (words_stand pages w x h t)) in
+    by a changed
+  where
+    by : (a : Access) → in_order (with_table_word w x (becomes a (word_in w x))) ≡ slice_set (in_order w) (index_of pages x) (becomes a (slice_index (in_order w) (index_of pages x)))
+        → in_order (accessed w x a) ≡ slice_set (in_order w) (index_of pages x) (becomes a (slice_index (in_order w) (index_of pages x)))
+    by Load e = sym (set-get_or (in_order w) (index_of pages x) 0)
+    by (Store v) e = e
+    by (Exchange old new) e = e
+    by (Or bits) e = e
+    by (Add n) e = e
+    by (Sub n) e = e

@@ -1,41 +1,44 @@
--- The words of the shared table in their order, from index 0: phase, turn, the five tallies, 16 gates, 128 registers,
--- 64 globals, then the headers, used, quarantine, mark, black and dirty words, one a page, and the heap, 64 a page.
-use Rattle.std.specs.Prelude.{◌≡◌, ℕ, ◌+◌, ◌*◌, ◌<◌, List, [], ◌∷◌, ◌++◌, length, map, slice_index, slice_set, ⊤}
+-- The words of the shared table in their order, from index 0: the phase at 0, the turn at 16, the five tallies from 32,
+-- a gate at each sixteenth word from 48, each caller's eight registers at each sixteenth word from 304, the 64 globals
+-- from 560. From 640 on the headers, used, quarantine, mark, black and dirty words, one a page, and the heap, 64 a page.
+-- The words between are never used, and 0: threads that store to words of one cache line slow one another.
+use Rattle.std.specs.Prelude.{◌≡◌, ◌≢◌, ℕ, zero, suc, ◌+◌, ◌*◌, ◌<◌, ◌≤◌, ◌⊎◌, List, [], ◌∷◌, ◌++◌, length, map, take, drop, replicate, slice_index, slice_set, ⊤}
 use Rattle.mk_geom.specs.declared.pages.Page.{Page}
 use Rattle.mk_core.specs.declared.events.Word.{Word}
 use Rattle.mk_core.specs.declared.events.Word.TheVariants as word
 use Rattle.mk_core.specs.declared.accesses.TableWord.{TableWord}
 use Rattle.mk_core.specs.declared.accesses.TableWord.TheVariants.{Turn, Named}
+use Rattle.mk_core.specs.declared.accesses.Access.{Access}
 use Rattle.mk_core.specs.declared.config.Config.{Config}
 use Rattle.mk_core.specs.declared.events.Event.{Event}
 use Rattle.mk_core.specs.History.{left}
-use Rattle.mk_core.specs.Words.{Words, quarantine_word, word_in, with_table_word}
+use Rattle.mk_core.specs.Words.{Words, zero_words_of, quarantine_word, word_in, with_table_word, becomes, accessed}
 
 -- the index of a word by its name, in a table of so many pages
 abbrev pub index_of_named : ℕ → Word → ℕ
 index_of_named pages word.Phase = 0
-index_of_named pages word.Held = 2
-index_of_named pages word.Fresh = 3
-index_of_named pages word.Cycles = 4
-index_of_named pages word.Released = 5
-index_of_named pages word.Full = 6
-index_of_named pages (word.Gate caller) = 7 + caller
-index_of_named pages (word.Reg caller r) = 23 + 8 * caller + r
-index_of_named pages (word.Global g) = 151 + g
-index_of_named pages (word.Head p) = 215 + p
-index_of_named pages (word.Used p) = 215 + pages + p
-index_of_named pages (word.Quar p) = 215 + 2 * pages + p
-index_of_named pages (word.Mark p) = 215 + 3 * pages + p
-index_of_named pages (word.Black p) = 215 + 4 * pages + p
-index_of_named pages (word.Dirty p) = 215 + 5 * pages + p
-index_of_named pages (word.Heap n) = 215 + 6 * pages + n
+index_of_named pages word.Held = 32
+index_of_named pages word.Fresh = 33
+index_of_named pages word.Cycles = 34
+index_of_named pages word.Released = 35
+index_of_named pages word.Full = 36
+index_of_named pages (word.Gate caller) = 48 + 16 * caller
+index_of_named pages (word.Reg caller r) = 304 + 16 * caller + r
+index_of_named pages (word.Global g) = 560 + g
+index_of_named pages (word.Head p) = 640 + p
+index_of_named pages (word.Used p) = 640 + pages + p
+index_of_named pages (word.Quar p) = 640 + 2 * pages + p
+index_of_named pages (word.Mark p) = 640 + 3 * pages + p
+index_of_named pages (word.Black p) = 640 + 4 * pages + p
+index_of_named pages (word.Dirty p) = 640 + 5 * pages + p
+index_of_named pages (word.Heap n) = 640 + 6 * pages + n
 
 abbrev pub index_of : ℕ → TableWord → ℕ
-index_of pages Turn = 1
+index_of pages Turn = 16
 index_of pages (Named name) = index_of_named pages name
 
 abbrev pub count_of_words : ℕ → ℕ
-count_of_words pages = 215 + 70 * pages
+count_of_words pages = 640 + 70 * pages
 
 -- the name is one of a table of so many pages
 abbrev pub NamesWord : ℕ → Word → Type 0
@@ -65,11 +68,24 @@ quarantine_words [] snapshots = []
 quarantine_words (freed ∷ freeds) [] = []
 quarantine_words (freed ∷ freeds) (snapshot ∷ snapshots) = quarantine_word freed snapshot ∷ quarantine_words freeds snapshots
 
+-- so many words that are never used
+abbrev pub gap : ℕ → List ℕ
+gap count = replicate count 0
+
+-- so many groups of words of that size, each with a gap behind it
+unfoldable pub spread : ℕ → ℕ → ℕ → List ℕ → List ℕ
+spread zero size between xs = []
+spread (suc groups) size between xs = take size xs ++ (gap between ++ spread groups size between (drop size xs))
+
 -- the words region by region, and as one list
 abbrev pub regions : Words → List (List ℕ)
 regions w =
-    (w.phase ∷ w.turn ∷ w.held ∷ w.fresh ∷ w.cycles ∷ w.released ∷ w.full ∷ [])
-    ∷ w.gates ∷ w.registers ∷ w.globals
+    (w.phase ∷ []) ∷ gap 15
+    ∷ (w.turn ∷ []) ∷ gap 15
+    ∷ (w.held ∷ w.fresh ∷ w.cycles ∷ w.released ∷ w.full ∷ []) ∷ gap 11
+    ∷ spread 16 1 15 w.gates
+    ∷ spread 16 8 8 w.registers
+    ∷ w.globals ∷ gap 16
     ∷ map (λ (page : Page). page.header) w.pages
     ∷ map (λ (page : Page). page.used) w.pages
     ∷ quarantine_words w.freed w.snapshot
@@ -117,3 +133,44 @@ abbrev pub ChangesStandAtTheirIndexes : Type 0
 ChangesStandAtTheirIndexes =
     (pages : ℕ) (w : Words) (x : TableWord) (value : ℕ) → AreOfPages pages w → IsOfTable pages x
     → in_order (with_table_word w x value) ≡ slice_set (in_order w) (index_of pages x) value
+
+-- As a list, the words are as many as the table's; the first are all 0.
+abbrev pub ListHasAllWords : Type 0
+ListHasAllWords = (pages : ℕ) (w : Words) → AreOfPages pages w → length (in_order w) ≡ count_of_words pages
+
+abbrev pub FirstWordsAreZero : Type 0
+FirstWordsAreZero = (pages : ℕ) → in_order (zero_words_of pages) ≡ replicate (count_of_words pages) 0
+
+-- An access makes of the list's word at the index what it makes of a word, and leaves the others.
+abbrev pub AccessesStandAtTheirIndexes : Type 0
+AccessesStandAtTheirIndexes =
+    (pages : ℕ) (w : Words) (x : TableWord) (a : Access) → AreOfPages pages w → IsOfTable pages x
+    → in_order (accessed w x a) ≡ slice_set (in_order w) (index_of pages x) (becomes a (slice_index (in_order w) (index_of pages x)))
+
+-- Words that may share a cache line. From the headers on all may.
+pub data LineGroup : Type 0 where
+  OfPhase OfTurn OfTallies OfGlobals OfPages : LineGroup
+  OfGate : (caller : ℕ) → LineGroup
+  OfRegisters : (caller : ℕ) → LineGroup
+
+abbrev pub line_group_of_named : Word → LineGroup
+line_group_of_named word.Phase = OfPhase
+line_group_of_named word.Held = OfTallies
+line_group_of_named word.Fresh = OfTallies
+line_group_of_named word.Cycles = OfTallies
+line_group_of_named word.Released = OfTallies
+line_group_of_named word.Full = OfTallies
+line_group_of_named (word.Gate caller) = OfGate caller
+line_group_of_named (word.Reg caller r) = OfRegisters caller
+line_group_of_named (word.Global g) = OfGlobals
+line_group_of_named _ = OfPages
+
+abbrev pub line_group : TableWord → LineGroup
+line_group Turn = OfTurn
+line_group (Named name) = line_group_of_named name
+
+-- Words of two groups stand at least eight words apart, so no line of eight has both, wherever the table begins.
+abbrev pub LineGroupsAreApart : Type 0
+LineGroupsAreApart =
+    (pages : ℕ) (x y : TableWord) → IsOfTable pages x → IsOfTable pages y → line_group x ≢ line_group y
+    → (index_of pages x + 8 ≤ index_of pages y) ⊎ (index_of pages y + 8 ≤ index_of pages x)

@@ -1,5 +1,6 @@
 -- The words of the shared table: their contents, by region, and what each name names.
-use Rattle.std.specs.Prelude.{ℕ, ◌+◌, ◌-◌, ◌*◌, ◌/◌, ◌%◌, ◌^◌, ◌==◌, List, replicate, slice_index, slice_index_or, slice_set, if◌then◌else◌, bit_or}
+use Rattle.std.specs.Prelude.{ℕ, ◌+◌, ◌-◌, ◌*◌, ◌/◌, ◌%◌, ◌^◌, ◌==◌, List, replicate, slice_index, slice_index_or, slice_set, bit_or}
+use prog.Atomic.{either}
 use Rattle.mk_geom.specs.declared.pages.Page.{Page}
 use Rattle.mk_geom.specs.Storages.{free_page}
 use Rattle.mk_core.specs.declared.events.Word.{Word}
@@ -116,7 +117,7 @@ with_table_word w (Named name) value = with_named w name value
 abbrev pub becomes : Access → ℕ → ℕ
 becomes Load found = found
 becomes (Store value) found = value
-becomes (Exchange old new) found = if found == old then new else found
+becomes (Exchange old new) found = either (found == old) new found
 becomes (Or bits) found = bit_or found bits
 becomes (Add n) found = (found + n) % 2 ^ 64
 becomes (Sub n) found = (found + (2 ^ 64 - n)) % 2 ^ 64

@@ -1,5 +1,5 @@
 //! Laws of the words of the table: facts alone, with no code.
-ghost use Rattle.mk_core.specs.Layout.{NamesAreApart, IndexesAreOfTheTable, WordsStandAtTheirIndexes, ChangesStandAtTheirIndexes, RegionsKeepTheirLengths};
+ghost use Rattle.mk_core.specs.Layout.{NamesAreApart, IndexesAreOfTheTable, WordsStandAtTheirIndexes, ChangesStandAtTheirIndexes, RegionsKeepTheirLengths, ListHasAllWords, FirstWordsAreZero, AccessesStandAtTheirIndexes, LineGroupsAreApart};
 
 /// Each word of the table has an index of its own. The words as one list have each at its index, and a
 /// change of a word is a change there alone.
@@ -9,4 +9,17 @@ pub fn words_have_indexes_of_their_own()
     ensures stand { WordsStandAtTheirIndexes }
     ensures changes { ChangesStandAtTheirIndexes }
     ensures lengths { RegionsKeepTheirLengths }
+{}
+
+/// The words as one list are as many as the table's, the first are all 0, and an access changes its word
+/// there as it changes a word of the table.
+pub fn words_are_one_list()
+    ensures count { ListHasAllWords }
+    ensures first { FirstWordsAreZero }
+    ensures accesses { AccessesStandAtTheirIndexes }
+{}
+
+/// Words that different threads store to share no cache line.
+pub fn line_groups_stand_apart()
+    ensures { LineGroupsAreApart }
 {}
