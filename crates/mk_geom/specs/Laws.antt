@@ -6,11 +6,11 @@ use Rattle.mk_geom.specs.declared.pages.Page.{Page}
 use Rattle.mk_geom.specs.declared.pages.Place.{Place}
 use Rattle.mk_geom.specs.Classes.{class_words_of, cells_of, class_for, run_pages_of}
 use Rattle.mk_geom.specs.Addresses.{page_at_address, cell_at}
-use Rattle.mk_geom.specs.PageUses.{place_among, census_among}
+use Rattle.mk_geom.specs.PageUses.{place_among, words_held_among, census_among}
 use Rattle.mk_geom.specs.PageWords.{use_of_page, uses_of_pages, HaveHeaderWords}
 use Rattle.mk_geom.specs.Places.{MayTakeCell, AreFree, IsCellPlace, IsRunPlace}
 use Rattle.mk_geom.specs.Storages.{Storage, uses_of_storages, place_of, census_of, taken_cells, used_word, free_page, block_page, run_page, words_of_storages, IsStorage, AreLaidOut, PagesStandFor}
-use Rattle.mk_geom.specs.StorageWords.{PointsInto, cell_of_storage, ShowsStorage, cell_on}
+use Rattle.mk_geom.specs.StorageWords.{PointsInto, cell_of_storage, mapped_words, ShowsStorage, cell_on}
 
 -- Pages show what stands on them,
 abbrev pub PagesShowUses : Type 0
@@ -30,6 +30,12 @@ abbrev pub PagesShowCensus : Type 0
 PagesShowCensus =
     (pages : List Page) (storages : List Storage)
     → PagesStandFor pages storages → census_among (uses_of_pages pages) ≡ census_of (length pages) storages
+
+-- The words that they hold are those of the mapped storages.
+abbrev pub PagesHoldMappedWords : Type 0
+PagesHoldMappedWords =
+    (pages : List Page) (storages : List Storage)
+    → PagesStandFor pages storages → words_held_among (uses_of_pages pages) ≡ mapped_words storages
 
 -- Each header of such pages is a header word.
 abbrev pub PagesHaveHeaderWords : Type 0

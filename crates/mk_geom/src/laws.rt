@@ -1,12 +1,13 @@
 //! Laws of pages and the storages that they stand for: facts alone, with no code. A proof that needs a
 //! law calls its function, or cites the lemma that proves it.
-ghost use Rattle.mk_geom.specs.Laws.{PagesShowUses, PagesShowPlaces, PagesShowCensus, PagesHaveHeaderWords, FreePagesStandForNothing, CellPageHasWords, RunPageHasWords, PointsIntoCell, PointersHitCells, UsedCellHasStorage, CellHasFirstWord, FoundCellIsPlace, FoundRunIsPlace};
+ghost use Rattle.mk_geom.specs.Laws.{PagesShowUses, PagesShowPlaces, PagesShowCensus, PagesHoldMappedWords, PagesHaveHeaderWords, FreePagesStandForNothing, CellPageHasWords, RunPageHasWords, PointsIntoCell, PointersHitCells, UsedCellHasStorage, CellHasFirstWord, FoundCellIsPlace, FoundRunIsPlace};
 
-/// Place, fits and census may be read off the pages as they are.
+/// Place, fits, census and the words that are held may be read off the pages as they are.
 pub fn pages_show_what_stands_there()
     ensures uses { PagesShowUses }
     ensures places { PagesShowPlaces }
     ensures census { PagesShowCensus }
+    ensures held { PagesHoldMappedWords }
     ensures header_words { PagesHaveHeaderWords }
 {}
 
