@@ -1,18 +1,18 @@
 -- The words that pages hold are those of the mapped storages that stand on them.
-use Rattle.std.proofs.Common.{◌≡◌, ◌≢◌, ℕ, zero, suc, ◌+◌, ◌-◌, ◌*◌, ◌/◌, ◌%◌, ◌<◌, ◌≤◌, Bool, true, false, ◌==◌, ◌||◌, if◌then◌else◌, cond, List, [], ◌∷◌, length, get_or, set, find, Option, Some, None, All, Contains, inl, inr, refl, sym, ◌∙◌, ap, subst, arith, ne_eqb, unwrap_or}
-use Rattle.std.specs.List.{sum_by, count_by}
+use Rattle.std.proofs.Common.{◌≡◌, ◌≢◌, ℕ, suc, ◌+◌, ◌*◌, ◌%◌, ◌<◌, ◌≤◌, Bool, true, false, ◌==◌, ◌||◌, if◌then◌else◌, cond, List, [], ◌∷◌, length, get_or, set, find, Option, Some, Contains, inl, inr, refl, sym, ◌∙◌, ap, subst, arith, ne_eqb, unwrap_or}
+use Rattle.std.specs.List.{count_by}
 use Rattle.std.proofs.lemmas.Bool.{cases_Bool, false≢true, false_from_ne_true, cond-true, cond-false}
 use Rattle.std.proofs.lemmas.List.Elements.{All-contains, All-head, All-tail}
 use Rattle.std.proofs.lemmas.List.Sums.{sum_by-cons, sum_by-set}
 use Rattle.mk_geom.specs.declared.pages.Page.{Page}
 use Rattle.mk_geom.specs.Classes.{class_for, class_words_of, cells_of}
-use Rattle.mk_geom.specs.PageUses.{PageUse, Nothing, Cells, PartOfRun, words_held_by, words_held_among}
+use Rattle.mk_geom.specs.PageUses.{Cells, PartOfRun, words_held_by, words_held_among}
 use Rattle.mk_geom.specs.PageWords.{uses_of_pages}
-use Rattle.mk_geom.specs.Storages.{Storage, is_small, first_page, last_page, stands_on, class_of_storage, is_cell_taken, taken_cells, use_by, use_of_storages, uses_of_storages, IsCell, IsRun, IsStorage, LieApart, AreLaidOut, PagesStandFor}
+use Rattle.mk_geom.specs.Storages.{Storage, is_small, first_page, last_page, stands_on, class_of_storage, is_cell_taken, taken_cells, use_by, use_of_storages, IsCell, IsStorage, LieApart, AreLaidOut, PagesStandFor}
 use Rattle.mk_geom.specs.StorageWords.{mapped_words}
 use Rattle.mk_geom.proofs.Bridge.{same_uses}
-use Rattle.mk_geom.proofs.ClassTable.{class_words_within, cell_ends}
-use Rattle.mk_geom.proofs.ListSearch.{Contains-head, Contains-tail, Contains-cons_cases, find_cases, list_any_found}
+use Rattle.mk_geom.proofs.ClassTable.{class_words_within}
+use Rattle.mk_geom.proofs.ListSearch.{Contains-head, Contains-tail, Contains-cons_cases, find_cases}
 use Rattle.mk_geom.proofs.PageSums.{sum_below, sum_by-range, sum_below-add, sum_below-zero, sum_below-block}
 use Rattle.mk_geom.proofs.PointedCells.{class_has_words}
 use Rattle.mk_geom.proofs.Standing.{cell_within, has_words, small_is_cell, large_is_run, class_of_cell, stands_parts, stands_from, cell_stands_at}
@@ -200,8 +200,8 @@ module _ (n : ℕ) (s : Storage) (xs : List Storage) (laid : AreLaidOut n (s ∷
       | inr (none, others) ↦
           let no_bit : count (taken_cells xs page (class_of_storage s)) ≡ 0 =
           none_set (taken_cells xs page (class_of_storage s)) (λ k below.
-              let within : k < cells_of (class_of_storage s) = omega (arith, length-taken_cells xs page (class_of_storage s)) in
-              get_or-taken_cells xs page (class_of_storage s) k false within ∙ none_taken n page (class_of_storage s) xs class_known (All-tail (IsStorage n) s xs laid.each) others k within) in
+          let within : k < cells_of (class_of_storage s) = omega (arith, length-taken_cells xs page (class_of_storage s)) in
+          get_or-taken_cells xs page (class_of_storage s) k false within ∙ none_taken n page (class_of_storage s) xs class_known (All-tail (IsStorage n) s xs laid.each) others k within) in
           ap (λ (o : Option Storage). words_held_by (use_by xs page o)) none ∙ sym (ap (λ (k : ℕ). class_words_of (class_of_storage s) * k) no_bit ∙ omega arith)
     ]
 
