@@ -1,22 +1,23 @@
 -- What values point into on pages that stand for storages: their cells, and nothing else that is taken.
-use Rattle.std.proofs.Common.{◌≡◌, ℕ, ◌+◌, ◌-◌, ◌*◌, ◌/◌, ◌%◌, ◌<◌, ◌≤◌, Bool, true, false, ◌==◌, nat_le, nat_lt, List, length, Option, Some, None, Contains, find, ◌⊎◌, ◌↔◌, inl, inr, refl, sym, ◌∙◌, ap, subst, arith, leb-true, ltb-true, eq-eqb, div-add-mod', slice_index_or, option_and_then}
+use Rattle.std.proofs.Common.{◌≡◌, ℕ, ◌+◌, ◌*◌, ◌/◌, ◌%◌, ◌<◌, ◌≤◌, true, false, ◌==◌, nat_le, nat_lt, List, length, get_or, Some, None, Contains, find, ◌⊎◌, ◌↔◌, inl, inr, refl, sym, ◌∙◌, ap, subst, arith, leb-true, ltb-true, div-add-mod', slice_index_or}
 use Rattle.std.specs.Int.{bit_at}
-use Rattle.std.proofs.lemmas.Bool.{cases_Bool, false≢true, and_parts, cond-true, cond-false}
+use Rattle.std.proofs.lemmas.Bool.{cases_Bool, cases_eq, false≢true, and_parts, cond-true, cond-false}
+use Rattle.std.proofs.lemmas.List.{get_or_default}
 use Rattle.std.proofs.lemmas.List.Elements.{All-contains}
 use Rattle.std.proofs.lemmas.Nat.{div_below, mod_below}
 use Rattle.std.proofs.lemmas.Option.{none-some, same_Some, cond_some}
 use Rattle.mk_geom.specs.declared.addresses.Cell.{Cell}
 use Rattle.mk_geom.specs.declared.pages.Page.{Page}
 use Rattle.mk_geom.specs.declared.headers.Header.TheVariants.{Free}
-use Rattle.mk_geom.specs.Addresses.{heap_word_at, is_heap_address, page_at_address, word_at_address, cell_of_block, cell_under, cell_at}
+use Rattle.mk_geom.specs.Addresses.{is_heap_address, page_at_address, word_at_address, cell_at}
 use Rattle.mk_geom.specs.Classes.{class_words_of, cells_of}
 use Rattle.mk_geom.specs.Headers.{word_of, header_of}
-use Rattle.mk_geom.specs.Storages.{Storage, is_small, first_page, stands_on, class_of_storage, is_cell_taken, taken_cells, used_word, free_page, words_by, words_of_storages, IsCell, IsRun, IsStorage, PagesStandFor}
-use Rattle.mk_geom.specs.StorageWords.{IsWordOf, PointsInto, cell_of_storage, header_shown, ShowsStorage, cell_on}
+use Rattle.mk_geom.specs.Storages.{Storage, is_small, first_page, stands_on, class_of_storage, is_cell_taken, taken_cells, used_word, free_page, words_by, IsStorage, LieApart, AreLaidOut, PagesStandFor}
+use Rattle.mk_geom.specs.StorageWords.{PointsInto, cell_of_storage, header_shown, ShowsStorage, cell_on}
 use Rattle.mk_geom.proofs.ClassTable.{class_words_within, cell_ends}
 use Rattle.mk_geom.proofs.ListSearch.{find_cases}
-use Rattle.mk_geom.proofs.PointedCells.{class_has_words, cell_from_first, looked_up, small_lookup, large_lookup, cell_index, small_cell_of, large_cell_of, stands_at_address, points_into_cell}
-use Rattle.mk_geom.proofs.Standing.{AreAlike, has_words, small_is_cell, large_is_run, class_of_cell, cell_is_small, stands_parts, stands_at_first, same_or_alike}
+use Rattle.mk_geom.proofs.PointedCells.{class_has_words, cell_first, cell_from_first, looked_up, small_lookup, large_lookup, cell_index, small_cell_of, large_cell_of, stands_at_address, points_into_cell}
+use Rattle.mk_geom.proofs.Standing.{AreAlike, has_words, small_is_cell, large_is_run, class_of_cell, stands_parts, stands_at_first, same_or_alike}
 use Rattle.mk_geom.proofs.StoredWords.{words_by_small, words_by_large, words_at}
 use Rattle.mk_geom.proofs.TakenCells.{cell_taken_by, length-taken_cells, get_or-taken_cells}
 use Rattle.mk_geom.proofs.UsedWords.{bit_at-used_word}
@@ -101,6 +102,24 @@ word_in_cell word index words some is =
 like_small : {s t : Storage} → (s ≡ t) ⊎ AreAlike s t → is_small t ≡ true → (is_small s ≡ true) × (s.words ≡ t.words)
 like_small (inl one) small = (ap is_small one ∙ small, ap (λ (x : Storage). x.words) one)
 like_small (inr alike) small = (alike.small, alike.words)
+
+-- two storages that have one cell are one
+pub same_from_cells : (n : ℕ) (xs : List Storage) (s t : Storage) → AreLaidOut n xs → Contains xs s → Contains xs t → cell_of_storage s ≡ cell_of_storage t → s ≡ t
+same_from_cells n xs s t laid (i, i_within, i_is) (j, j_within, j_is) same = elim (cases_eq i j) [
+  | inl one ↦ sym i_is ∙ get_or_default xs i s t i_within ∙ ap (λ (k : ℕ). get_or xs k t) one ∙ j_is
+  | inr other ↦
+      let s_is = All-contains (IsStorage n) xs s laid.each (i, i_within, i_is) in
+      let t_is = All-contains (IsStorage n) xs t laid.each (j, j_within, j_is) in
+      let s_at : get_or xs i t ≡ s = get_or_default xs i t s i_within ∙ i_is in
+      let apart : LieApart s t = subst (λ (x : Storage). LieApart x t) s_at (subst (λ (x : Storage). LieApart (get_or xs i t) x) j_is (laid.apart i j t i_within j_within other)) in
+      let at : first_page s ≡ first_page t = ap (λ (k : Cell). k.page) same in
+      let alike = apart.alike (first_page t) (stands_at_first n s (first_page t) s_is at) (stands_at_first n t (first_page t) t_is refl) in
+      let index : (cell_of_storage s).index * s.words ≡ (cell_of_storage t).index * t.words = ap (λ (k : Cell). k.index * s.words) same ∙ ap (λ (w : ℕ). (cell_of_storage t).index * w) alike.2 in
+      let first : s.first ≡ t.first = sym (cell_first n s s_is) ∙ omega (arith, at, index) ∙ cell_first n t t_is in
+      let s_some = has_words n s s_is in
+      let t_some = has_words n t t_is in
+      elim apart.apart [ inl before ↦ absurd (omega arith) | inr behind ↦ absurd (omega arith) ]
+]
 
 small_back : (n u : ℕ) (s t : Storage) → IsStorage n s → is_small s ≡ true → 65536 ≤ u → first_page s ≡ page_at_address u → class_words_of (class_of_storage t) ≡ s.words
     → s.first % 64 / s.words ≡ word_at_address u / class_words_of (class_of_storage t) → PointsInto u s

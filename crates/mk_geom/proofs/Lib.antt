@@ -11,3 +11,4 @@ pub mod Start
 pub mod PointedCells
 pub mod CellsOnPages
 pub mod PageSums
+pub mod HeldWords

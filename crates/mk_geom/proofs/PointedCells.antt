@@ -1,19 +1,16 @@
 -- What an address in a storage points into, and in which storage an address is that points into its cell.
-use Rattle.std.proofs.Common.{◌≡◌, ℕ, zero, suc, ◌+◌, ◌-◌, ◌*◌, ◌/◌, ◌%◌, ◌<◌, ◌≤◌, Bool, true, false, nat_le, nat_lt, List, length, Option, Some, None, Contains, inl, inr, refl, sym, ◌∙◌, ap, subst, arith, le-leb, le_refl, slice_index_or, option_and_then, leb-true}
-use Rattle.std.proofs.lemmas.Bool.{cases_Bool, false≢true, and_from, and_parts, cond-true, cond-false, lt-ltb}
-use Rattle.std.proofs.lemmas.List.Elements.{All-contains}
+use Rattle.std.proofs.Common.{◌≡◌, ℕ, zero, suc, ◌+◌, ◌-◌, ◌*◌, ◌/◌, ◌%◌, ◌<◌, ◌≤◌, Bool, true, false, nat_le, nat_lt, Option, Some, None, inl, inr, refl, sym, ◌∙◌, ap, subst, arith, le-leb, le_refl, option_and_then, unwrap_or, ◌↔◌}
+use Rattle.std.proofs.lemmas.Bool.{cases_Bool, and_from, cond-true, cond-false, lt-ltb, lt-leb}
 use Rattle.std.proofs.lemmas.Nat.{mul-le, div-mul-add}
-use Rattle.std.proofs.lemmas.Option.{none-some, same_Some}
 use Rattle.mk_geom.specs.declared.addresses.Cell.{Cell}
-use Rattle.mk_geom.specs.declared.pages.Page.{Page}
 use Rattle.mk_geom.specs.declared.headers.Header.{Header}
-use Rattle.mk_geom.specs.Addresses.{heap_word_at, is_heap_address, page_at_address, word_at_address, cell_of_block, run_before, cell_under, cell_at}
-use Rattle.mk_geom.specs.Classes.{class_words_of, cells_of}
+use Rattle.mk_geom.specs.Addresses.{address_of, heap_word_at, is_heap_address, page_at_address, word_at_address, cell_of_block, run_before, cell_under, cell_at}
+use Rattle.mk_geom.specs.Classes.{class_words_of, class_for, cells_of}
 use Rattle.mk_geom.specs.Headers.{word_of, header_of}
-use Rattle.mk_geom.specs.Storages.{Storage, is_small, first_page, stands_on, class_of_storage, block_header, run_header, free_page, IsCell, IsRun, IsStorage, PagesStandFor}
-use Rattle.mk_geom.specs.StorageWords.{IsWordOf, PointsInto, cell_of_storage, header_shown, ShowsStorage, cell_on}
+use Rattle.mk_geom.specs.Storages.{Storage, is_small, first_page, stands_on, class_of_storage, block_header, run_header, IsCell, IsStorage}
+use Rattle.mk_geom.specs.StorageWords.{IsWordOf, PointsInto, cell_of_storage, ShowsStorage}
 use Rattle.mk_geom.proofs.Bridge.{block_in_range, run_in_range, run_near}
-use Rattle.mk_geom.proofs.ClassTable.{class_words_within, cell_ends}
+use Rattle.mk_geom.proofs.ClassTable.{class_words_within, class_for-class_words_of, cell_ends}
 use Rattle.mk_geom.proofs.HeaderLemmas.{header_of-word_of}
 use Rattle.mk_geom.proofs.Standing.{has_words, small_is_cell, large_is_run, class_of_cell, cell_stands_at, stands_parts, stands_from}
 
@@ -138,6 +135,28 @@ small_cell_at u s cell small into =
     let word : word_at_address u ≡ cell.index * class_words_of (class_of_storage s) + (heap_word_at u - s.first) = omega arith in
     block_cell (class_of_storage s) (page_at_address u) cell.index (heap_word_at u - s.first) (word_at_address u) within offset word
     ∙ small_cell_is s cell (page_at_address u) small at
+
+-- what the header word of its page says, by a storage's numbers
+pub shows_cell : (s : Storage) (page header class : ℕ) → class < 8 → s.words ≡ class_words_of class → header ≡ word_of (block_header class s.leaf) → ShowsStorage s page header
+shows_cell s page header class known words is =
+    let range = class_words_within class known in
+    let class_is : class_of_storage s ≡ class = ap (λ (w : ℕ). unwrap_or (class_for w) 0) words ∙ ap (λ (o : Option ℕ). unwrap_or o 0) (class_for-class_words_of class known) in
+    (true, is ∙ sym (ap word_of (cond-true (is_small s) _ _ (le-leb s.words 32 (omega arith))) ∙ ap (λ (c : ℕ). word_of (block_header c s.leaf)) class_is))
+
+pub shows_run : (s : Storage) (header first count distance : ℕ) (mapped : Bool) → s.first ≡ 64 * first → s.words ≡ 64 * count → 1 ≤ count → header ≡ word_of (run_header count mapped s.leaf distance)
+    → ShowsStorage s (first + distance) header
+shows_run s header first count distance mapped begins words some is =
+    let pages : s.words / 64 ≡ count = omega arith in
+    let behind : first + distance - first_page s ≡ distance = omega arith in (
+      mapped,
+      is ∙ sym (ap word_of (cond-false (is_small s) _ _ (lt-leb s.words 32 (omega arith)))
+          ∙ ap (λ (m : ℕ). word_of (run_header m mapped s.leaf (first + distance - first_page s))) pages ∙ ap (λ (d : ℕ). word_of (run_header count mapped s.leaf d)) behind),
+    )
+
+pub address_points_into : (word : ℕ) (s : Storage) → PointsInto (address_of word) s ↔ IsWordOf s word
+address_points_into word s =
+    let at : heap_word_at (address_of word) ≡ word = omega arith in
+    (λ into. subst (IsWordOf s) at into.1, λ is. (omega arith, subst (IsWordOf s) (sym at) is))
 
 pub points_into_cell : (pages header u : ℕ) (s : Storage) → IsStorage pages s → ShowsStorage s (page_at_address u) header → PointsInto u s → cell_at pages header u ≡ Some (cell_of_storage s)
 points_into_cell pages header u s is shows into =

@@ -1,6 +1,6 @@
 -- Which pages a storage stands on, and what two storages on one page share.
-use Rattle.std.proofs.Common.{◌≡◌, ℕ, ◌+◌, ◌-◌, ◌/◌, ◌%◌, ◌<◌, ◌≤◌, true, false, List, get_or, Contains, ◌⊎◌, inl, inr, refl, sym, ◌∙◌, ap, subst, arith, leb-true, leb-false, le-leb, nat_le}
-use Rattle.std.proofs.lemmas.Bool.{false≢true, and_parts, and_from, and_cases, cases_eq, lt-leb}
+use Rattle.std.proofs.Common.{◌≡◌, ℕ, ◌+◌, ◌-◌, ◌/◌, ◌%◌, ◌≤◌, true, false, List, get_or, Contains, ◌⊎◌, inl, inr, refl, sym, ◌∙◌, ap, subst, arith, leb-true, le-leb, nat_le}
+use Rattle.std.proofs.lemmas.Bool.{false≢true, and_parts, and_from, cases_eq, lt-leb}
 use Rattle.std.proofs.lemmas.List.{get_or_default}
 use Rattle.mk_geom.specs.Classes.{class_words_of}
 use Rattle.mk_geom.specs.Storages.{Storage, is_small, first_page, last_page, stands_on, class_of_storage, IsCell, IsRun, IsStorage, LieApart, AreLaidOut}
@@ -41,12 +41,6 @@ stands_parts page s stands =
 
 pub stands_from : (page : ℕ) (s : Storage) → s.first / 64 ≤ page → page ≤ (s.first + s.words - 1) / 64 → stands_on page s ≡ true
 stands_from page s begins ends = and_from (nat_le (first_page s) page) (nat_le page (last_page s)) (le-leb (first_page s) page begins) (le-leb page (last_page s) ends)
-
-pub stands_apart : (page : ℕ) (s : Storage) → stands_on page s ≡ false → (page < s.first / 64) ⊎ ((s.first + s.words - 1) / 64 < page)
-stands_apart page s apart = elim (and_cases (nat_le (first_page s) page) (nat_le page (last_page s)) apart) [
-  | inl before ↦ inl (leb-false (first_page s) page before)
-  | inr behind ↦ inr (leb-false page (last_page s) behind)
-]
 
 -- a storage stands on the page of its first word, and a cell on no other
 pub stands_at_first : (n : ℕ) (s : Storage) (page : ℕ) → IsStorage n s → s.first / 64 ≡ page → stands_on page s ≡ true

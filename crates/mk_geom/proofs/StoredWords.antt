@@ -1,13 +1,12 @@
 -- The words of a page, by any storage that stands on it.
-use Rattle.std.proofs.Common.{◌≡◌, ℕ, ◌+◌, ◌-◌, ◌*◌, ◌/◌, ◌<◌, true, false, List, Option, Some, All, Contains, inl, inr, refl, sym, ◌∙◌, ap, arith, unwrap_or, le-leb}
-use Rattle.std.proofs.lemmas.Bool.{cases_Bool, false≢true, false_from_ne_true, cond-true, cond-false, lt-leb}
+use Rattle.std.proofs.Common.{◌≡◌, ℕ, ◌+◌, ◌-◌, ◌*◌, ◌/◌, ◌<◌, true, false, List, Option, Some, Contains, inl, inr, sym, ◌∙◌, ap, arith, unwrap_or, le-leb}
+use Rattle.std.proofs.lemmas.Bool.{false≢true, cond-true, cond-false, lt-leb}
 use Rattle.std.proofs.lemmas.List.Elements.{All-contains}
 use Rattle.mk_geom.specs.Classes.{class_words_of, class_for, cells_of}
 use Rattle.mk_geom.specs.Storages.{Storage, is_small, first_page, stands_on, class_of_storage, taken_cells, used_word, free_page, block_page, run_page, words_by, words_of_storages, IsStorage, AreLaidOut}
 use Rattle.mk_geom.proofs.ClassTable.{class_words_within, class_for-class_words_of, cell_ends}
 use Rattle.mk_geom.proofs.ListSearch.{find_cases}
-use Rattle.mk_geom.proofs.TakenCells.{Carries, taken_same}
-use Rattle.mk_geom.proofs.Standing.{small_is_cell, class_of_cell, AreAlike, same_or_alike, stands_at_first, stands_from}
+use Rattle.mk_geom.proofs.Standing.{AreAlike, same_or_alike, stands_at_first, stands_from}
 
 pub words_by_small : (page : ℕ) (xs : List Storage) (s : Storage) → is_small s ≡ true → words_by xs page (Some s) ≡ block_page (class_of_storage s) s.leaf (used_word (taken_cells xs page (class_of_storage s)))
 words_by_small page xs s small = cond-true (is_small s) _ _ small
@@ -16,25 +15,12 @@ pub words_by_large : (page : ℕ) (xs : List Storage) (s : Storage) → is_small
     → words_by xs page (Some s) ≡ run_page (s.words / 64) s.mapped s.leaf (page - first_page s)
 words_by_large page xs s large = cond-false (is_small s) _ _ large
 
-words_by_alike : (page : ℕ) (xs ys : List Storage) (s t : Storage) → AreAlike s t → taken_cells xs page (class_of_storage s) ≡ taken_cells ys page (class_of_storage s)
-    → words_by xs page (Some s) ≡ words_by ys page (Some t)
-words_by_alike page xs ys s t alike taken =
+words_by_alike : (page : ℕ) (xs : List Storage) (s t : Storage) → AreAlike s t → words_by xs page (Some s) ≡ words_by xs page (Some t)
+words_by_alike page xs s t alike =
     words_by_small page xs s alike.small
-    ∙ ap (λ taken'. block_page (class_of_storage s) s.leaf (used_word taken')) taken
-    ∙ ap (λ words. block_page (unwrap_or (class_for words) 0) s.leaf (used_word (taken_cells ys page (unwrap_or (class_for words) 0)))) alike.words
-    ∙ ap (λ leaf. block_page (class_of_storage t) leaf (used_word (taken_cells ys page (class_of_storage t)))) alike.leaf
-    ∙ sym (words_by_small page ys t alike.small_too)
-
--- what one storage says of a page, beside those of one list or of another with the same storages on the page
-pub words_by_same : (n page : ℕ) (xs ys : List Storage) (s : Storage) → IsStorage n s → All (IsStorage n) xs → All (IsStorage n) ys → Carries page xs ys → Carries page ys xs
-    → words_by xs page (Some s) ≡ words_by ys page (Some s)
-words_by_same n page xs ys s is xs_each ys_each there back = elim (cases_Bool (is_small s)) [
-  | inl small ↦
-      let cell = small_is_cell n s is small in
-      let known : class_of_storage s < 8 = omega (arith, class_of_cell s cell, cell.known) in
-      words_by_alike page xs ys s s (record { small = small; small_too = small; words = refl; leaf = refl }) (taken_same n page (class_of_storage s) xs ys known xs_each ys_each there back)
-  | inr large ↦ words_by_large page xs s large ∙ sym (words_by_large page ys s large)
-]
+    ∙ ap (λ words. block_page (unwrap_or (class_for words) 0) s.leaf (used_word (taken_cells xs page (unwrap_or (class_for words) 0)))) alike.words
+    ∙ ap (λ leaf. block_page (class_of_storage t) leaf (used_word (taken_cells xs page (class_of_storage t)))) alike.leaf
+    ∙ sym (words_by_small page xs t alike.small_too)
 
 -- Any storage on a page says what its words are, and where there is none they are 0.
 pub words_at : (n page : ℕ) (xs : List Storage) (s : Storage) → AreLaidOut n xs → Contains xs s → stands_on page s ≡ true → words_of_storages xs page ≡ words_by xs page (Some s)
@@ -42,7 +28,7 @@ words_at n page xs s laid inside stands = elim (find_cases (stands_on page) xs) 
   | inl (t, found, t_inside, t_stands) ↦
       ap (words_by xs page) found ∙ elim (same_or_alike n xs page t s laid t_inside inside t_stands stands) [
         | inl same ↦ ap (λ (x : Storage). words_by xs page (Some x)) same
-        | inr alike ↦ words_by_alike page xs xs t s alike refl
+        | inr alike ↦ words_by_alike page xs t s alike
       ]
   | inr (none, others) ↦ absurd (false≢true (sym (others s inside) ∙ stands))
 ]
@@ -73,15 +59,4 @@ pub words_free : (page : ℕ) (xs : List Storage) → ((s : Storage) → Contain
 words_free page xs none = elim (find_cases (stands_on page) xs) [
   | inl (t, found, inside, stands) ↦ absurd (false≢true (sym (none t inside) ∙ stands))
   | inr (not_found, others) ↦ ap (words_by xs page) not_found
-]
-
--- the same storages on a page give it the same words
-pub same_words : (n page : ℕ) (xs ys : List Storage) → AreLaidOut n xs → AreLaidOut n ys → Carries page xs ys → Carries page ys xs → words_of_storages xs page ≡ words_of_storages ys page
-same_words n page xs ys xs_laid ys_laid there back = elim (find_cases (stands_on page) xs) [
-  | inl (s, found, inside, stands) ↦
-      ap (words_by xs page) found ∙ words_by_same n page xs ys s (All-contains (IsStorage n) xs s xs_laid.each inside) xs_laid.each ys_laid.each there back
-      ∙ sym (words_at n page ys s ys_laid (there s stands inside) stands)
-  | inr (none, others) ↦
-      ap (words_by xs page) none
-      ∙ sym (words_free page ys (λ s inside. false_from_ne_true (stands_on page s) (λ stands. false≢true (sym (others s (back s stands inside)) ∙ stands))))
 ]

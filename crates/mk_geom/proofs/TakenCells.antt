@@ -6,11 +6,10 @@ use Rattle.std.proofs.lemmas.List.Elements.{All-contains}
 use Rattle.std.proofs.lemmas.List.FromFn.{length-map-range_with_len, get_or-map-range_with_len}
 use Rattle.std.proofs.lemmas.Nat.{mul-le}
 use Rattle.mk_geom.specs.Classes.{class_words_of, cells_of}
-use Rattle.mk_geom.specs.Storages.{Storage, stands_on, is_cell_taken, taken_cells, used_word, IsStorage}
+use Rattle.mk_geom.specs.Storages.{Storage, stands_on, is_cell_taken, taken_cells, IsStorage}
 use Rattle.mk_geom.proofs.ClassTable.{class_words_within, cell_ends}
 use Rattle.mk_geom.proofs.ListSearch.{list_any_from, list_any_found}
 use Rattle.mk_geom.proofs.Standing.{stands_at_first}
-use Rattle.mk_geom.proofs.UsedWords.{used_word_none}
 
 -- each of these storages that stands on the page is one of those
 abbrev pub Carries : ℕ → List Storage → List Storage → Type 0
@@ -102,11 +101,3 @@ none_taken n page class xs known each none k within = false_from_ne_true _ not_t
   where
     not_taken : is_cell_taken xs page (class_words_of class) k ≡ true → ⊥
     not_taken taken = let (s, inside, first, stands) = cell_taken_by n page class k xs known within each taken in false≢true (sym (none s inside) ∙ stands)
-
-pub none_used : (n page class : ℕ) (xs : List Storage) → class < 8 → All (IsStorage n) xs → ((s : Storage) → Contains xs s → stands_on page s ≡ false) → used_word (taken_cells xs page class) ≡ 0
-none_used n page class xs known each none = used_word_none (taken_cells xs page class) unset
-  where
-    unset : (k : ℕ) → k < length (taken_cells xs page class) → get_or (taken_cells xs page class) k false ≡ false
-    unset k below =
-        let within : k < cells_of class = omega (arith, length-taken_cells xs page class) in
-        get_or-taken_cells xs page class k false within ∙ none_taken n page class xs known each none k within

@@ -1,8 +1,7 @@
 -- Used words and the bits that they are made of.
-use Rattle.std.proofs.Common.{◌≡◌, ℕ, zero, suc, ◌+◌, ◌*◌, ◌/◌, ◌^◌, ◌<◌, Bool, true, false, ◌==◌, List, [], ◌∷◌, length, get_or, set, map, refl, sym, ◌∙◌, ap, arith, pow-suc, pow_pos}
+use Rattle.std.proofs.Common.{◌≡◌, ℕ, zero, suc, ◌+◌, ◌*◌, ◌/◌, ◌<◌, Bool, true, false, ◌==◌, List, [], ◌∷◌, length, get_or, map, refl, sym, ◌∙◌, ap, arith}
 use Rattle.std.specs.Int.{bit_at}
 use Rattle.std.specs.List.{range_with_len}
-use Rattle.std.proofs.lemmas.Bool.{false≢true, true≢false}
 use Rattle.std.proofs.lemmas.List.{same_lists}
 use Rattle.std.proofs.lemmas.List.FromFn.{length-map-range_with_len, get_or-map-range_with_len}
 use Rattle.std.proofs.lemmas.Nat.Bits.{bit_at_lowest, bit_at-suc}
@@ -27,26 +26,3 @@ bits_of-used_word bits n long =
     let bit = λ (k : ℕ). bit_at (used_word bits) k == 1 in
     let len : length (map bit (range_with_len 0 n)) ≡ n = length-map-range_with_len bit 0 n in
     same_lists _ _ (len ∙ sym long) (λ k d within. get_or-map-range_with_len bit 0 n k k d (omega arith) (omega arith) ∙ bit_at-used_word bits k d (omega arith))
-
-pub used_word-set : (bits : List Bool) (k : ℕ) → k < length bits → get_or bits k true ≡ false → used_word (set bits k true) ≡ used_word bits + 2 ^ k
-used_word-set [] k within unset = absurd (omega arith)
-used_word-set (true ∷ bits) zero within unset = absurd (true≢false unset)
-used_word-set (false ∷ bits) zero within unset = omega arith
-used_word-set (bit ∷ bits) (suc k) within unset = omega (arith, used_word-set bits k (omega arith) unset, pow-suc 2 k)
-
-pub used_word-clear : (bits : List Bool) (k : ℕ) → k < length bits → get_or bits k false ≡ true → used_word (set bits k false) + 2 ^ k ≡ used_word bits
-used_word-clear [] k within is_set = absurd (omega arith)
-used_word-clear (false ∷ bits) zero within is_set = absurd (false≢true is_set)
-used_word-clear (true ∷ bits) zero within is_set = omega arith
-used_word-clear (bit ∷ bits) (suc k) within is_set = omega (arith, used_word-clear bits k (omega arith) is_set, pow-suc 2 k)
-
--- a word with no bit is 0, and one with a bit isn't
-pub used_word_none : (bits : List Bool) → ((k : ℕ) → k < length bits → get_or bits k false ≡ false) → used_word bits ≡ 0
-used_word_none [] none = refl
-used_word_none (bit ∷ bits) none =
-    let first : bit ≡ false = none 0 (omega arith) in
-    let others : used_word bits ≡ 0 = used_word_none bits (λ k within. none (suc k) (omega arith)) in
-    rw first (omega (arith, others))
-
-pub used_word_some : (bits : List Bool) (k : ℕ) → k < length bits → get_or bits k false ≡ true → 0 < used_word bits
-used_word_some bits k within is_set = omega (arith, used_word-clear bits k within is_set, pow_pos k)

@@ -1,16 +1,16 @@
 -- The laws of pages and storages. Each holds of all pages and all storages that they stand for.
-use Rattle.std.specs.Prelude.{◌≡◌, ℕ, ◌+◌, ◌*◌, ◌<◌, ◌≤◌, Bool, true, false, List, [], ◌∷◌, ◌++◌, length, slice_get, replicate, slice_set, slice_index_or, remove, ◌==◌, ◌↔◌, Some, Contains}
+use Rattle.std.specs.Prelude.{◌≡◌, ℕ, ◌+◌, ◌*◌, ◌<◌, Bool, true, false, List, [], length, replicate, slice_index_or, ◌==◌, ◌↔◌, Some, Contains}
 use Rattle.std.specs.Int.{bit_at}
 use Rattle.mk_geom.specs.declared.addresses.Cell.{Cell}
 use Rattle.mk_geom.specs.declared.pages.Page.{Page}
 use Rattle.mk_geom.specs.declared.pages.Place.{Place}
 use Rattle.mk_geom.specs.Classes.{class_words_of, cells_of, class_for, run_pages_of}
-use Rattle.mk_geom.specs.Addresses.{page_at_address, cell_at}
-use Rattle.mk_geom.specs.PageUses.{place_among, census_among}
-use Rattle.mk_geom.specs.PageWords.{use_of_page, uses_of_pages, HaveHeaderWords}
-use Rattle.mk_geom.specs.Places.{MayTakeCell, AreFree, IsCellPlace, IsRunPlace}
-use Rattle.mk_geom.specs.Storages.{Storage, uses_of_storages, place_of, census_of, taken_cells, used_word, free_page, block_page, run_page, words_of_storages, IsStorage, AreLaidOut, PagesStandFor}
-use Rattle.mk_geom.specs.StorageWords.{PointsInto, cell_of_storage, ShowsStorage, cell_on}
+use Rattle.mk_geom.specs.Addresses.{address_of, page_at_address, cell_at}
+use Rattle.mk_geom.specs.PageUses.{place_among, words_held_among, census_among}
+use Rattle.mk_geom.specs.PageWords.{uses_of_pages, HaveHeaderWords}
+use Rattle.mk_geom.specs.Places.{IsCellPlace, IsRunPlace}
+use Rattle.mk_geom.specs.Storages.{Storage, stands_on, uses_of_storages, place_of, census_of, taken_cells, used_word, free_page, block_page, run_page, words_of_storages, IsStorage, AreLaidOut, PagesStandFor}
+use Rattle.mk_geom.specs.StorageWords.{IsWordOf, PointsInto, cell_of_storage, mapped_words, ShowsStorage, cell_on}
 
 -- Pages show what stands on them,
 abbrev pub PagesShowUses : Type 0
@@ -31,6 +31,12 @@ PagesShowCensus =
     (pages : List Page) (storages : List Storage)
     → PagesStandFor pages storages → census_among (uses_of_pages pages) ≡ census_of (length pages) storages
 
+-- The words that they hold are those of the mapped storages.
+abbrev pub PagesHoldMappedWords : Type 0
+PagesHoldMappedWords =
+    (pages : List Page) (storages : List Storage)
+    → PagesStandFor pages storages → words_held_among (uses_of_pages pages) ≡ mapped_words storages
+
 -- Each header of such pages is a header word.
 abbrev pub PagesHaveHeaderWords : Type 0
 PagesHaveHeaderWords = (pages : List Page) (storages : List Storage) → PagesStandFor pages storages → HaveHeaderWords pages
@@ -44,13 +50,20 @@ CellPageHasWords =
     → s.first ≡ 64 * page + index * class_words_of class → s.words ≡ class_words_of class
     → words_of_storages storages page ≡ block_page class s.leaf (used_word (taken_cells storages page class))
 
--- and of the pages of a run.
+-- of a page of a run,
 abbrev pub RunPageHasWords : Type 0
 RunPageHasWords =
     (pages : ℕ) (storages : List Storage) (s : Storage)
     → AreLaidOut pages storages → Contains storages s
     → (first count distance : ℕ) → s.first ≡ 64 * first → s.words ≡ 64 * count → distance < count
     → words_of_storages storages (first + distance) ≡ run_page count s.mapped s.leaf distance
+
+-- and of one on which no storage stands.
+abbrev pub BarePageIsFree : Type 0
+BarePageIsFree =
+    (page : ℕ) (storages : List Storage)
+    → ((s : Storage) → Contains storages s → stands_on page s ≡ false)
+    → words_of_storages storages page ≡ free_page
 
 -- A value that points into a storage, on a page that shows it, points into its cell.
 abbrev pub PointsIntoCell : Type 0
@@ -81,6 +94,17 @@ abbrev pub CellHasFirstWord : Type 0
 CellHasFirstWord =
     (pages : ℕ) (s : Storage)
     → IsStorage pages s → 64 * (cell_of_storage s).page + (cell_of_storage s).index * s.words ≡ s.first
+
+-- Of storages that are laid out no two have one cell.
+abbrev pub CellsTellStoragesApart : Type 0
+CellsTellStoragesApart =
+    (pages : ℕ) (storages : List Storage) (s t : Storage)
+    → AreLaidOut pages storages → Contains storages s → Contains storages t
+    → cell_of_storage s ≡ cell_of_storage t → s ≡ t
+
+-- The addresses of a storage's words point into it, and no others of words do.
+abbrev pub AddressesOfWordsPointIn : Type 0
+AddressesOfWordsPointIn = (word : ℕ) (s : Storage) → PointsInto (address_of word) s ↔ IsWordOf s word
 
 -- Free pages stand for no storage.
 abbrev pub FreePagesStandForNothing : Type 0

@@ -27,8 +27,8 @@ abbrev pub header_shown : Storage → ℕ → Bool → ℕ
 header_shown s page mapped =
     word_of
     (if is_small s
-     then block_header (class_of_storage s) s.leaf
-     else run_header (s.words / 64) mapped s.leaf (page - first_page s))
+    then block_header (class_of_storage s) s.leaf
+    else run_header (s.words / 64) mapped s.leaf (page - first_page s))
 
 -- The header word is one that the storage gives the page. A run may be half unmapped, so the page alone says whether it is mapped.
 abbrev pub ShowsStorage : Storage → ℕ → ℕ → Type 0

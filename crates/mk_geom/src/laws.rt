@@ -1,19 +1,21 @@
 //! Laws of pages and the storages that they stand for: facts alone, with no code. A proof that needs a
 //! law calls its function, or cites the lemma that proves it.
-ghost use Rattle.mk_geom.specs.Laws.{PagesShowUses, PagesShowPlaces, PagesShowCensus, PagesHaveHeaderWords, FreePagesStandForNothing, CellPageHasWords, RunPageHasWords, PointsIntoCell, PointersHitCells, UsedCellHasStorage, CellHasFirstWord, FoundCellIsPlace, FoundRunIsPlace};
+ghost use Rattle.mk_geom.specs.Laws.{PagesShowUses, PagesShowPlaces, PagesShowCensus, PagesHoldMappedWords, PagesHaveHeaderWords, FreePagesStandForNothing, CellPageHasWords, RunPageHasWords, BarePageIsFree, PointsIntoCell, PointersHitCells, UsedCellHasStorage, CellsTellStoragesApart, AddressesOfWordsPointIn, CellHasFirstWord, FoundCellIsPlace, FoundRunIsPlace};
 
-/// Place, fits and census may be read off the pages as they are.
+/// Place, fits, census and the words that are held may be read off the pages as they are.
 pub fn pages_show_what_stands_there()
     ensures uses { PagesShowUses }
     ensures places { PagesShowPlaces }
     ensures census { PagesShowCensus }
+    ensures held { PagesHoldMappedWords }
     ensures header_words { PagesHaveHeaderWords }
 {}
 
-/// What stands on a page may be read off any storage that stands there.
-pub fn a_storage_says_the_words_of_its_pages()
+/// The words of a page may be read off any storage that stands there.
+pub fn pages_have_the_words_of_storages()
     ensures cell { CellPageHasWords }
     ensures run { RunPageHasWords }
+    ensures bare { BarePageIsFree }
 {}
 
 /// What points into a storage points into its cell, and on pages that stand for storages nothing else does.
@@ -22,6 +24,8 @@ pub fn a_storage_has_its_cell()
     ensures on_pages { PointersHitCells }
     ensures used { UsedCellHasStorage }
     ensures first_word { CellHasFirstWord }
+    ensures apart { CellsTellStoragesApart }
+    ensures addresses { AddressesOfWordsPointIn }
 {}
 
 /// The pages of a new heap.

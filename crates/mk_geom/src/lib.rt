@@ -12,6 +12,7 @@ pub use addresses::{Cell, lookup};
 pub use classes::{cells, class_of, class_words, run_pages};
 pub use headers::{Header, decode, encode};
 pub use laws::{
-    a_storage_has_its_cell, a_storage_says_the_words_of_its_pages, first_fit_finds_places, free_pages_stand_for_nothing, pages_show_what_stands_there,
+    a_storage_has_its_cell, first_fit_finds_places, free_pages_stand_for_nothing,
+    pages_have_the_words_of_storages, pages_show_what_stands_there,
 };
 pub use pages::{Census, FREE_PAGE, Page, Place};

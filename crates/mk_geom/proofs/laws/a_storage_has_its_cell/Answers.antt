@@ -1,5 +1,5 @@
-use Rattle.mk_geom.proofs.CellsOnPages.{points_into_iff, taken_cell_has_storage}
-use Rattle.mk_geom.proofs.PointedCells.{points_into_cell, cell_first}
+use Rattle.mk_geom.proofs.CellsOnPages.{points_into_iff, same_from_cells, taken_cell_has_storage}
+use Rattle.mk_geom.proofs.PointedCells.{points_into_cell, cell_first, address_points_into}
 use Rattle.mk_geom.proofs.laws.a_storage_has_its_cell.Goals as goal
 
 pub returns-clause-points_into : goal.returns-clause-points_into
@@ -13,3 +13,9 @@ returns-clause-used c = taken_cell_has_storage
 
 pub returns-clause-first_word : goal.returns-clause-first_word
 returns-clause-first_word c = cell_first
+
+pub returns-clause-apart : goal.returns-clause-apart
+returns-clause-apart c = same_from_cells
+
+pub returns-clause-addresses : goal.returns-clause-addresses
+returns-clause-addresses c = address_points_into
