@@ -1,11 +1,14 @@
 pub mod AllBelow
 pub mod AllBelowParts
 pub mod Bits
+pub mod BitsWithout
 pub mod Conditions
 pub mod Histories
+pub mod HistoryParts
 pub mod LayoutLemmas
 pub mod Lengths
 pub mod RegionLemmas
 pub mod Schedules
+pub mod Sizes
 pub mod Steps
 pub mod Wiped

@@ -16,6 +16,7 @@ pub mod Frames
 pub mod Growing
 pub mod HeldGates
 pub mod History
+pub mod HistoryLaws
 pub mod Image
 pub mod Layout
 pub mod LongerLists

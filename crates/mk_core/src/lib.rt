@@ -8,6 +8,7 @@ mod config;
 mod effects;
 mod events;
 mod geometry;
+mod history_laws;
 mod laws;
 mod machine;
 mod marker_conditions;
@@ -26,6 +27,9 @@ mod turn_conditions;
 pub use accesses::{Access, TableWord};
 pub use config::{Config, GlobalTable};
 pub use events::{Answer, Event, NotEnabled, Seat, Step, Tally, Word};
+pub use history_laws::{
+    bits_and_sizes_agree, enabled_events_meet_all_conditions, histories_are_of_two_parts,
+};
 pub use laws::words_have_indexes_of_their_own;
 pub use machine::Core;
 pub use seats::{

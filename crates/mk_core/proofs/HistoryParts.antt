@@ -1,0 +1,45 @@
+-- Histories in two parts: their calls, and what these leave in the heap that never reuses storage.
+use Rattle.std.proofs.Common.{◌≡◌, List, ◌++◌, sym, ◌∙◌, ap, subst}
+use Rattle.std.proofs.lemmas.List.{map-append}
+use Rattle.mk_never.specs.NeverHeap.{Call, NeverState, after_calls, replies_of}
+use Rattle.mk_never.specs.Admitted.{AreAdmitted}
+use Rattle.mk_never.proofs.Parts.{after_append, replies_append, admitted_append}
+use Rattle.mk_core.specs.declared.config.Config.{Config}
+use Rattle.mk_core.specs.declared.events.Event.{Event}
+use Rattle.mk_core.specs.Decided.{Decided, asked}
+use Rattle.mk_core.specs.History.{first_world, left, calls_from, calls, never_first, never_behind, IsHistory}
+use Rattle.mk_core.specs.HistoryLaws.{LeftInParts, EnabledInParts, CallsInParts, NeverInParts, RepliesInParts, AdmittedInParts, EarlierPartIsHistory}
+use Rattle.mk_core.proofs.Histories.{left_append, enabled_append, enabled_parts, calls_append}
+
+pub left_in_parts : (c : Config) (es more : List Event) → LeftInParts c es more
+left_in_parts c es more = left_append c (first_world c) es more
+
+pub enabled_in_parts : (c : Config) (es more : List Event) → EnabledInParts c es more
+enabled_in_parts c es more =
+    (λ h. enabled_parts c (first_world c) es more h, λ h. enabled_append c (first_world c) es more h.0 h.1)
+
+pub calls_in_parts : (c : Config) (es more : List Event) → CallsInParts c es more
+calls_in_parts c es more = calls_append c (first_world c) es more
+
+asked_in_parts : (c : Config) (es more : List Event) → asked (calls c (es ++ more)) ≡ asked (calls c es) ++ asked (calls_from c (left c es) more)
+asked_in_parts c es more = ap (λ (xs : List Decided). asked xs) (calls_in_parts c es more) ∙ map-append _ (calls c es) (calls_from c (left c es) more)
+
+pub never_in_parts : (c : Config) (es more : List Event) → NeverInParts c es more
+never_in_parts c es more =
+    ap (λ (xs : List Call). after_calls (never_first c) xs) (asked_in_parts c es more)
+    ∙ after_append (never_first c) (asked (calls c es)) (asked (calls_from c (left c es) more))
+
+pub replies_in_parts : (c : Config) (es more : List Event) → RepliesInParts c es more
+replies_in_parts c es more =
+    ap (λ (xs : List Call). replies_of (never_first c) xs) (asked_in_parts c es more)
+    ∙ replies_append (never_first c) (asked (calls c es)) (asked (calls_from c (left c es) more))
+
+pub admitted_in_parts : (c : Config) (es more : List Event) → AdmittedInParts c es more
+admitted_in_parts c es more =
+    let parts = admitted_append c.globals (never_first c) (asked (calls c es)) (asked (calls_from c (left c es) more)) in
+    (λ h. parts.0 (subst (λ (xs : List Call). AreAdmitted c.globals (never_first c) xs) (asked_in_parts c es more) h),
+    λ h. subst (λ (xs : List Call). AreAdmitted c.globals (never_first c) xs) (sym (asked_in_parts c es more)) (parts.1 h))
+
+pub earlier_part_is_history : (c : Config) (es more : List Event) → EarlierPartIsHistory c es more
+earlier_part_is_history c es more h =
+    record { within_limits = h.within_limits; enabled = ((enabled_in_parts c es more).0 h.enabled).0; admitted = ((admitted_in_parts c es more).0 h.admitted).0 }

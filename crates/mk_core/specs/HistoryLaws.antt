@@ -1,0 +1,47 @@
+-- Laws of histories: of lists of events in two parts, and of what their definitions share.
+use Rattle.std.specs.Prelude.{◌≡◌, ◌↔◌, ℕ, Bool, ◌&&◌, not, List, ◌++◌, slice_index}
+use Rattle.mk_never.specs.declared.types.Kind.{Kind}
+use Rattle.mk_never.specs.Types.{is_large}
+use Rattle.mk_never.specs.NeverHeap.{after_calls, replies_of}
+use Rattle.mk_never.specs.Admitted.{AreAdmitted}
+use Rattle.mk_geom.specs.declared.addresses.Cell.{Cell}
+use Rattle.mk_core.specs.declared.config.Config.{Config}
+use Rattle.mk_core.specs.declared.events.Event.{Event}
+use Rattle.mk_core.specs.Bits.{has_bit, without}
+use Rattle.mk_core.specs.NewPlaces.{object_of, is_small_object}
+use Rattle.mk_core.specs.Decided.{asked}
+use Rattle.mk_core.specs.History.{left_from, left, AreEnabledFrom, AreEnabled, calls_from, calls, never_first, never_behind, CallsAreAdmitted, IsHistory}
+
+-- What a list leaves is what its later part leaves behind its earlier one.
+abbrev pub LeftInParts : Config → List Event → List Event → Type 0
+LeftInParts c es more = left c (es ++ more) ≡ left_from c (left c es) more
+
+abbrev pub EnabledInParts : Config → List Event → List Event → Type 0
+EnabledInParts c es more = AreEnabled c (es ++ more) ↔ (AreEnabled c es × AreEnabledFrom c (left c es) more)
+
+abbrev pub CallsInParts : Config → List Event → List Event → Type 0
+CallsInParts c es more = calls c (es ++ more) ≡ calls c es ++ calls_from c (left c es) more
+
+abbrev pub NeverInParts : Config → List Event → List Event → Type 0
+NeverInParts c es more = never_behind c (es ++ more) ≡ after_calls (never_behind c es) (asked (calls_from c (left c es) more))
+
+abbrev pub RepliesInParts : Config → List Event → List Event → Type 0
+RepliesInParts c es more =
+    replies_of (never_first c) (asked (calls c (es ++ more)))
+    ≡ replies_of (never_first c) (asked (calls c es)) ++ replies_of (never_behind c es) (asked (calls_from c (left c es) more))
+
+abbrev pub AdmittedInParts : Config → List Event → List Event → Type 0
+AdmittedInParts c es more =
+    CallsAreAdmitted c (es ++ more) ↔ (CallsAreAdmitted c es × AreAdmitted c.globals (never_behind c es) (asked (calls_from c (left c es) more)))
+
+-- The earlier part of a history is one.
+abbrev pub EarlierPartIsHistory : Config → List Event → List Event → Type 0
+EarlierPartIsHistory c es more = IsHistory c (es ++ more) → IsHistory c es
+
+-- A word has a bit that another hasn't exactly where it has the bit and the other hasn't.
+abbrev pub BitsWithout : Type 0
+BitsWithout = (word other k : ℕ) → has_bit (without word other) k ≡ (has_bit word k && not (has_bit other k))
+
+-- What is large to the heap that never reuses storage isn't small here.
+abbrev pub LargeIsNotSmall : Type 0
+LargeIsNotSmall = (kinds : List Kind) → is_large kinds ≡ not (is_small_object (object_of kinds))

@@ -1,0 +1,31 @@
+//! Laws of histories: facts alone, with no code.
+ghost use Rattle.std.specs.Prelude.{List};
+ghost use Rattle.mk_core.specs.declared.config.Config.{Config};
+ghost use Rattle.mk_core.specs.Enabled.{EnabledEventsMeetAll};
+ghost use Rattle.mk_core.specs.HistoryLaws.{LeftInParts, EnabledInParts, CallsInParts, NeverInParts, RepliesInParts, AdmittedInParts, EarlierPartIsHistory, BitsWithout, LargeIsNotSmall};
+
+use crate::Event;
+
+/// What a list of events leaves, decides and asks for is what its earlier part does, and then its later part
+/// behind that. The earlier part of a history is a history.
+
+pub fn histories_are_of_two_parts()
+    ensures left { (c : Config) (es more : List Event) → LeftInParts c es more }
+    ensures enabled { (c : Config) (es more : List Event) → EnabledInParts c es more }
+    ensures calls { (c : Config) (es more : List Event) → CallsInParts c es more }
+    ensures never { (c : Config) (es more : List Event) → NeverInParts c es more }
+    ensures replies { (c : Config) (es more : List Event) → RepliesInParts c es more }
+    ensures admitted { (c : Config) (es more : List Event) → AdmittedInParts c es more }
+    ensures earlier { (c : Config) (es more : List Event) → EarlierPartIsHistory c es more }
+{}
+
+/// An event is enabled exactly where it meets each condition.
+pub fn enabled_events_meet_all_conditions()
+    ensures { EnabledEventsMeetAll }
+{}
+
+/// What definitions of the words and of the never-reusing heap share: bits, and which objects are large.
+pub fn bits_and_sizes_agree()
+    ensures without { BitsWithout }
+    ensures large { LargeIsNotSmall }
+{}
