@@ -34,6 +34,10 @@ header_shown s page mapped =
 abbrev pub ShowsStorage : Storage → ℕ → ℕ → Type 0
 ShowsStorage s page header = (mapped : Bool) × (header ≡ header_shown s page mapped)
 
+-- a page of these; behind the last a free one
+abbrev pub page_in : List Page → ℕ → Page
+page_in pages page = slice_index_or pages page free_page
+
 -- what a value points into, by the header of the page that it is in
 abbrev pub cell_on : List Page → ℕ → Option Cell
-cell_on pages u = cell_at (length pages) (slice_index_or pages (page_at_address u) free_page).header u
+cell_on pages u = cell_at (length pages) (page_in pages (page_at_address u)).header u
