@@ -27,7 +27,7 @@ header_by xs page s = elim (cases_Bool (is_small s)) [
   | inr large ↦ ap (λ (p : Page). p.header) (words_by_large page xs s large) ∙ sym (ap word_of (cond-false (is_small s) _ _ large))
 ]
 
--- on a heap address a value is, and its page is one of the heap's, where it points into a cell
+-- a value that points into a cell is an address of a page of the heap
 pub is_address : (pages header u : ℕ) (k : Cell) → cell_at pages header u ≡ Some k → (65536 ≤ u) × (page_at_address u < pages)
 is_address pages header u k is = elim (cases_Bool (is_heap_address pages u)) [
   | inl inside ↦
