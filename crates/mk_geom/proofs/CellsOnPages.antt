@@ -1,9 +1,7 @@
 -- What values point into on pages that stand for storages: their cells, and nothing else that is taken.
-use Rattle.std.proofs.Common.{◌≡◌, ℕ, ◌+◌, ◌*◌, ◌/◌, ◌%◌, ◌<◌, ◌≤◌, true, false, ◌==◌, nat_le, nat_lt, List, length, get_or, Some, None, Contains, find, ◌⊎◌, ◌↔◌, inl, inr, refl, sym, ◌∙◌, ap, subst, arith, leb-true, ltb-true, div-add-mod', slice_index_or}
+use Rattle.std.proofs.Common.{◌≡◌, ℕ, ◌+◌, ◌*◌, ◌/◌, ◌%◌, ◌<◌, ◌≤◌, true, false, ◌==◌, nat_le, nat_lt, List, length, Some, None, Contains, find, ◌⊎◌, ◌↔◌, inl, inr, refl, sym, ◌∙◌, ap, subst, arith, leb-true, ltb-true, div-add-mod'}
 use Rattle.std.specs.Int.{bit_at}
-use Rattle.std.proofs.lemmas.Bool.{cases_Bool, cases_eq, false≢true, and_parts, cond-true, cond-false}
-use Rattle.std.proofs.lemmas.List.{get_or_default}
-use Rattle.std.proofs.lemmas.List.Elements.{All-contains}
+use Rattle.std.proofs.lemmas.Bool.{cases_Bool, and_parts, cond-true, cond-false}
 use Rattle.std.proofs.lemmas.Nat.{div_below, mod_below}
 use Rattle.std.proofs.lemmas.Option.{none-some, same_Some, cond_some}
 use Rattle.mk_geom.specs.declared.addresses.Cell.{Cell}
@@ -12,12 +10,12 @@ use Rattle.mk_geom.specs.declared.headers.Header.TheVariants.{Free}
 use Rattle.mk_geom.specs.Addresses.{is_heap_address, page_at_address, word_at_address, cell_at}
 use Rattle.mk_geom.specs.Classes.{class_words_of, cells_of}
 use Rattle.mk_geom.specs.Headers.{word_of, header_of}
-use Rattle.mk_geom.specs.Storages.{Storage, is_small, first_page, stands_on, class_of_storage, is_cell_taken, taken_cells, used_word, free_page, words_by, IsStorage, LieApart, AreLaidOut, PagesStandFor}
-use Rattle.mk_geom.specs.StorageWords.{PointsInto, cell_of_storage, header_shown, ShowsStorage, cell_on}
+use Rattle.mk_geom.specs.Storages.{Storage, is_small, first_page, stands_on, class_of_storage, is_cell_taken, taken_cells, used_word, free_page, words_by, IsStorage, AreLaidOut, PagesStandFor}
+use Rattle.mk_geom.specs.StorageWords.{PointsInto, cell_of_storage, header_shown, ShowsStorage, page_in, cell_on}
 use Rattle.mk_geom.proofs.ClassTable.{class_words_within, cell_ends}
 use Rattle.mk_geom.proofs.ListSearch.{find_cases}
 use Rattle.mk_geom.proofs.PointedCells.{class_has_words, cell_first, cell_from_first, looked_up, small_lookup, large_lookup, cell_index, small_cell_of, large_cell_of, stands_at_address, points_into_cell}
-use Rattle.mk_geom.proofs.Standing.{AreAlike, has_words, small_is_cell, large_is_run, class_of_cell, stands_parts, stands_at_first, same_or_alike}
+use Rattle.mk_geom.proofs.Standing.{AreAlike, storage_in, same_or_apart, has_words, small_is_cell, large_is_run, class_of_cell, stands_parts, stands_at_first, same_or_alike}
 use Rattle.mk_geom.proofs.StoredWords.{words_by_small, words_by_large, words_at}
 use Rattle.mk_geom.proofs.TakenCells.{cell_taken_by, length-taken_cells, get_or-taken_cells}
 use Rattle.mk_geom.proofs.UsedWords.{bit_at-used_word}
@@ -29,7 +27,7 @@ header_by xs page s = elim (cases_Bool (is_small s)) [
   | inr large ↦ ap (λ (p : Page). p.header) (words_by_large page xs s large) ∙ sym (ap word_of (cond-false (is_small s) _ _ large))
 ]
 
--- on a heap address a value is, and its page is one of the heap's, where it points into a cell
+-- a value that points into a cell is an address of a page of the heap
 pub is_address : (pages header u : ℕ) (k : Cell) → cell_at pages header u ≡ Some k → (65536 ≤ u) × (page_at_address u < pages)
 is_address pages header u k is = elim (cases_Bool (is_heap_address pages u)) [
   | inl inside ↦
@@ -40,53 +38,62 @@ is_address pages header u k is = elim (cases_Bool (is_heap_address pages u)) [
   | inr outside ↦ absurd (none-some k (sym (cond-false (is_heap_address pages u) _ None outside) ∙ is))
 ]
 
--- The storage that a value points at, where it points into a cell: a cell on the storage's page, or the run.
+-- The storage of the page that a value is in, where the value points into a cell: a cell of its block, or the run.
 pub record IsCellOn (xs : List Storage) (u : ℕ) (k : Cell) (t : Storage) : Type 0 where
   pub inside : Contains xs t
   pub low : 65536 ≤ u
   pub stands : stands_on (page_at_address u) t ≡ true
-  pub at : ((is_small t ≡ true) × (word_at_address u < cells_of (class_of_storage t) * class_words_of (class_of_storage t))
-      × (k ≡ record { page = page_at_address u; index = word_at_address u / class_words_of (class_of_storage t) }))
-      ⊎ ((is_small t ≡ false) × (k ≡ cell_of_storage t))
+  pub at : (is_small t ≡ true) × (word_at_address u < cells_of (class_of_storage t) * class_words_of (class_of_storage t))
+      × (k ≡ record { page = page_at_address u; index = word_at_address u / class_words_of (class_of_storage t) })
+      ⊎ (is_small t ≡ false) × (k ≡ cell_of_storage t)
 
 module _ (pages : List Page) (storages : List Storage) (stand : PagesStandFor pages storages) where
   -- a page shows each storage that stands on it
-  pub page_shows_storage : (page : ℕ) (s : Storage) → Contains storages s → stands_on page s ≡ true → page < length pages → ShowsStorage s page (slice_index_or pages page free_page).header
+  pub page_shows_storage : (page : ℕ) (s : Storage) → Contains storages s → stands_on page s ≡ true → page < length pages
+      → ShowsStorage s page (page_in pages page).header
   page_shows_storage page s inside stands within =
-      (s.mapped, ap (λ (p : Page). p.header) (stand.words page free_page within ∙ words_at (length pages) page storages s stand.laid_out inside stands) ∙ header_by storages page s)
+      let words = stand.words page free_page within ∙ words_at (length pages) page storages s stand.laid_out inside stands in
+      (s.mapped, ap (λ (p : Page). p.header) words ∙ header_by storages page s)
 
   pub points_into_on_pages : (u : ℕ) (s : Storage) → Contains storages s → PointsInto u s → cell_on pages u ≡ Some (cell_of_storage s)
   points_into_on_pages u s inside into =
-      let is = All-contains (IsStorage (length pages)) storages s stand.laid_out.each inside in
+      let is = storage_in (length pages) storages s stand.laid_out inside in
       let stands = stands_at_address u s into in
       let ends = (stands_parts (page_at_address u) s stands).1 in
-      points_into_cell (length pages) (slice_index_or pages (page_at_address u) free_page).header u s is
-      (page_shows_storage (page_at_address u) s inside stands (omega (arith, is.1, has_words (length pages) s is))) into
+      let within : page_at_address u < length pages = omega (arith, is.1, has_words (length pages) s is) in
+      points_into_cell (length pages) (page_in pages (page_at_address u)).header u s is (page_shows_storage (page_at_address u) s inside stands within) into
+
+  address_within : (u : ℕ) (k : Cell) → cell_on pages u ≡ Some k → (65536 ≤ u) × (page_at_address u < length pages)
+  address_within u k is = is_address (length pages) (page_in pages (page_at_address u)).header u k is
 
   nothing_on_free : (u : ℕ) (k : Cell) → cell_on pages u ≡ Some k → find (stands_on (page_at_address u)) storages ≡ None → ⊥
   nothing_on_free u k is none =
-      let (low, within) = is_address (length pages) (slice_index_or pages (page_at_address u) free_page).header u k is in
-      let page_is : slice_index_or pages (page_at_address u) free_page ≡ free_page = stand.words (page_at_address u) free_page within ∙ ap (words_by storages (page_at_address u)) none in
-      none-some k
-      (sym (looked_up (length pages) (slice_index_or pages (page_at_address u) free_page).header u Free low within (ap (λ (p : Page). header_of p.header) page_is)) ∙ is)
+      let page = page_at_address u in
+      let (low, within) = address_within u k is in
+      let free : page_in pages page ≡ free_page = stand.words page free_page within ∙ ap (words_by storages page) none in
+      let header_free = ap (λ (p : Page). header_of p.header) free in
+      none-some k (sym (looked_up (length pages) (page_in pages page).header u Free low within header_free) ∙ is)
 
   pub cell_is_on : (u : ℕ) (k : Cell) → cell_on pages u ≡ Some k → (t : Storage) × IsCellOn storages u k t
   cell_is_on u k is =
-      let (low, within) = is_address (length pages) (slice_index_or pages (page_at_address u) free_page).header u k is in
-      elim (find_cases (stands_on (page_at_address u)) storages) [
+      let page = page_at_address u in
+      let header = (page_in pages page).header in
+      let (low, within) = address_within u k is in
+      elim (find_cases (stands_on page) storages) [
         | inl (t, found, inside, stands) ↦
-            let t_is = All-contains (IsStorage (length pages)) storages t stand.laid_out.each inside in
-            let shows = page_shows_storage (page_at_address u) t inside stands within in
+            let t_is = storage_in (length pages) storages t stand.laid_out inside in
+            let shows = page_shows_storage page t inside stands within in
+            let words = class_words_of (class_of_storage t) in
+            let end = cells_of (class_of_storage t) * words in
             elim (cases_Bool (is_small t)) [
               | inl small ↦
-                  let lookup = small_lookup (length pages) (slice_index_or pages (page_at_address u) free_page).header u t t_is low stands shows small in
-                  let (below, same) =
-                  cond_some (nat_lt (word_at_address u) (cells_of (class_of_storage t) * class_words_of (class_of_storage t)))
-                  (record { page = page_at_address u; index = word_at_address u / class_words_of (class_of_storage t) }) k (sym lookup ∙ is) in
-                  (t, record { inside = inside; low = low; stands = stands; at = inl (small, ltb-true (word_at_address u) (cells_of (class_of_storage t) * class_words_of (class_of_storage t)) below, sym same) })
+                  let lookup = small_lookup (length pages) header u t t_is low stands shows small in
+                  let (below, same) = cond_some (nat_lt (word_at_address u) end) (record { page = page; index = word_at_address u / words }) k (sym lookup ∙ is) in
+                  (t, record { inside = inside; low = low; stands = stands; at = inl (small, ltb-true (word_at_address u) end below, sym same) })
               | inr large ↦
-                  let lookup = large_lookup (length pages) (slice_index_or pages (page_at_address u) free_page).header u t t_is low stands shows large in
-                  (t, record { inside = inside; low = low; stands = stands; at = inr (large, same_Some k (cell_of_storage t) (sym is ∙ lookup ∙ ap (λ (k : Cell). Some k) (sym (large_cell_of t large)))) })
+                  let lookup = large_lookup (length pages) header u t t_is low stands shows large in
+                  let same = same_Some k (cell_of_storage t) (sym is ∙ lookup ∙ ap (λ (k : Cell). Some k) (sym (large_cell_of t large))) in
+                  (t, record { inside = inside; low = low; stands = stands; at = inr (large, same) })
             ]
         | inr (none, others) ↦ absurd (nothing_on_free u k is none)
       ]
@@ -103,26 +110,32 @@ like_small : {s t : Storage} → (s ≡ t) ⊎ AreAlike s t → is_small t ≡ t
 like_small (inl one) small = (ap is_small one ∙ small, ap (λ (x : Storage). x.words) one)
 like_small (inr alike) small = (alike.small, alike.words)
 
+-- two storages that begin on one page stand on it
+both_stand : (n : ℕ) (xs : List Storage) (s t : Storage) → AreLaidOut n xs → Contains xs s → Contains xs t → first_page s ≡ first_page t
+    → (stands_on (first_page t) s ≡ true) × (stands_on (first_page t) t ≡ true)
+both_stand n xs s t laid s_in t_in at =
+    (stands_at_first n s (first_page t) (storage_in n xs s laid s_in) at, stands_at_first n t (first_page t) (storage_in n xs t laid t_in) refl)
+
 -- two storages that have one cell are one
 pub same_from_cells : (n : ℕ) (xs : List Storage) (s t : Storage) → AreLaidOut n xs → Contains xs s → Contains xs t → cell_of_storage s ≡ cell_of_storage t → s ≡ t
-same_from_cells n xs s t laid (i, i_within, i_is) (j, j_within, j_is) same = elim (cases_eq i j) [
-  | inl one ↦ sym i_is ∙ get_or_default xs i s t i_within ∙ ap (λ (k : ℕ). get_or xs k t) one ∙ j_is
-  | inr other ↦
-      let s_is = All-contains (IsStorage n) xs s laid.each (i, i_within, i_is) in
-      let t_is = All-contains (IsStorage n) xs t laid.each (j, j_within, j_is) in
-      let s_at : get_or xs i t ≡ s = get_or_default xs i t s i_within ∙ i_is in
-      let apart : LieApart s t = subst (λ (x : Storage). LieApart x t) s_at (subst (λ (x : Storage). LieApart (get_or xs i t) x) j_is (laid.apart i j t i_within j_within other)) in
+same_from_cells n xs s t laid s_in t_in same = elim (same_or_apart n xs s t laid s_in t_in) [
+  | inl one ↦ one
+  | inr apart ↦
+      let s_is = storage_in n xs s laid s_in in
+      let t_is = storage_in n xs t laid t_in in
       let at : first_page s ≡ first_page t = ap (λ (k : Cell). k.page) same in
-      let alike = apart.alike (first_page t) (stands_at_first n s (first_page t) s_is at) (stands_at_first n t (first_page t) t_is refl) in
-      let index : (cell_of_storage s).index * s.words ≡ (cell_of_storage t).index * t.words = ap (λ (k : Cell). k.index * s.words) same ∙ ap (λ (w : ℕ). (cell_of_storage t).index * w) alike.2 in
+      let stand = both_stand n xs s t laid s_in t_in at in
+      let words : s.words ≡ t.words = (apart.alike (first_page t) stand.0 stand.1).2 in
+      let index : (cell_of_storage s).index * s.words ≡ (cell_of_storage t).index * t.words =
+      ap (λ (k : Cell). k.index * s.words) same ∙ ap (λ (w : ℕ). (cell_of_storage t).index * w) words in
       let first : s.first ≡ t.first = sym (cell_first n s s_is) ∙ omega (arith, at, index) ∙ cell_first n t t_is in
       let s_some = has_words n s s_is in
       let t_some = has_words n t t_is in
       elim apart.apart [ inl before ↦ absurd (omega arith) | inr behind ↦ absurd (omega arith) ]
 ]
 
-small_back : (n u : ℕ) (s t : Storage) → IsStorage n s → is_small s ≡ true → 65536 ≤ u → first_page s ≡ page_at_address u → class_words_of (class_of_storage t) ≡ s.words
-    → s.first % 64 / s.words ≡ word_at_address u / class_words_of (class_of_storage t) → PointsInto u s
+small_back : (n u : ℕ) (s t : Storage) → IsStorage n s → is_small s ≡ true → 65536 ≤ u → first_page s ≡ page_at_address u
+    → class_words_of (class_of_storage t) ≡ s.words → s.first % 64 / s.words ≡ word_at_address u / class_words_of (class_of_storage t) → PointsInto u s
 small_back n u s t is small low at words index =
     let cell = small_is_cell n s is small in
     let some = has_words n s is in
@@ -139,70 +152,66 @@ run_back n u s is large low stands =
 
 module _ (pages : List Page) (storages : List Storage) (stand : PagesStandFor pages storages) where
   storage_of : (s : Storage) → Contains storages s → IsStorage (length pages) s
-  storage_of s inside = All-contains (IsStorage (length pages)) storages s stand.laid_out.each inside
-
-  -- two storages that begin on one page are one, or cells of one class
-  begin_together : (s t : Storage) → Contains storages s → Contains storages t → first_page s ≡ first_page t → (s ≡ t) ⊎ AreAlike s t
-  begin_together s t s_in t_in at =
-      same_or_alike (length pages) storages (first_page t) s t stand.laid_out s_in t_in (stands_at_first (length pages) s (first_page t) (storage_of s s_in) at)
-      (stands_at_first (length pages) t (first_page t) (storage_of t t_in) refl)
+  storage_of s inside = storage_in (length pages) storages s stand.laid_out inside
 
   pub cell_has_value : (u : ℕ) (s : Storage) → Contains storages s → cell_on pages u ≡ Some (cell_of_storage s) → PointsInto u s
   cell_has_value u s inside is =
       let n = length pages in
+      let page = page_at_address u in
       let (t, on) = cell_is_on pages storages stand u (cell_of_storage s) is in
       elim on.at [
         | inl (small, below, same) ↦
             let at : first_page s ≡ page_at_address u = ap (λ (k : Cell). k.page) same in
-            let s_stands = stands_at_first n s (page_at_address u) (storage_of s inside) at in
-            let (s_small, words) = like_small (same_or_alike n storages (page_at_address u) s t stand.laid_out inside on.inside s_stands on.stands) small in
+            let s_stands = stands_at_first n s page (storage_of s inside) at in
+            let (s_small, words) = like_small (same_or_alike n storages page s t stand.laid_out inside on.inside s_stands on.stands) small in
             let t_words = class_has_words t (small_is_cell n t (storage_of t on.inside) small) in
             let index = sym (ap (λ (k : Cell). k.index) (small_cell_of s s_small)) ∙ ap (λ (k : Cell). k.index) same in
             small_back n u s t (storage_of s inside) s_small on.low at (t_words ∙ sym words) index
         | inr (large, same) ↦
-            elim (begin_together s t inside on.inside (ap (λ (k : Cell). k.page) same)) [
-              | inl one ↦ subst (λ (x : Storage). PointsInto u x) (sym one) (run_back n u t (storage_of t on.inside) large on.low on.stands)
-              | inr alike ↦ absurd (false≢true (sym large ∙ alike.small_too))
-            ]
+            let one = same_from_cells n storages s t stand.laid_out inside on.inside same in
+            subst (λ (x : Storage). PointsInto u x) (sym one) (run_back n u t (storage_of t on.inside) large on.low on.stands)
       ]
 
   pub points_into_iff : (u : ℕ) (s : Storage) → Contains storages s → PointsInto u s ↔ (cell_on pages u ≡ Some (cell_of_storage s))
   points_into_iff u s inside = (points_into_on_pages pages storages stand u s inside, cell_has_value u s inside)
 
-  taken_on_block : (u : ℕ) (k : Cell) (t : Storage) → Contains storages t → stands_on (page_at_address u) t ≡ true → page_at_address u < length pages → is_small t ≡ true → k.index < cells_of (class_of_storage t)
-      → k.page ≡ page_at_address u → (bit_at (slice_index_or pages k.page free_page).used k.index == 1) ≡ true
-      → (s : Storage) × Contains storages s × (s.first ≡ 64 * page_at_address u + k.index * class_words_of (class_of_storage t)) × (stands_on (page_at_address u) s ≡ true)
-  taken_on_block u k t inside stands within small index_within at bit =
+  -- a cell whose used bit is set, of a block of which t is a cell
+  used_cell_of_block : (u : ℕ) (k : Cell) (t : Storage) → IsCellOn storages u k t → page_at_address u < length pages → is_small t ≡ true
+      → k.index < cells_of (class_of_storage t) → k.page ≡ page_at_address u → (bit_at (page_in pages k.page).used k.index == 1) ≡ true
+      → (s : Storage) × Contains storages s × (cell_of_storage s ≡ k)
+  used_cell_of_block u k t on within small index_within at bit =
       let n = length pages in
       let page = page_at_address u in
       let c = class_of_storage t in
-      let cell = small_is_cell n t (storage_of t inside) small in
+      let cell = small_is_cell n t (storage_of t on.inside) small in
       let known : class_of_storage t < 8 = omega (arith, class_of_cell t cell, cell.known) in
-      let words : slice_index_or pages page free_page ≡ words_by storages page (Some t) = stand.words page free_page within ∙ words_at n page storages t stand.laid_out inside stands in
-      let used : (slice_index_or pages k.page free_page).used ≡ used_word (taken_cells storages page c) =
-      ap (λ (p : ℕ). (slice_index_or pages p free_page).used) at ∙ ap (λ (p : Page). p.used) (words ∙ words_by_small page storages t small) in
+      let words : page_in pages page ≡ words_by storages page (Some t) =
+      stand.words page free_page within ∙ words_at n page storages t stand.laid_out on.inside on.stands in
+      let used : (page_in pages k.page).used ≡ used_word (taken_cells storages page c) =
+      ap (λ (p : ℕ). (page_in pages p).used) at ∙ ap (λ (p : Page). p.used) (words ∙ words_by_small page storages t small) in
       let long : k.index < length (taken_cells storages page c) = omega (arith, length-taken_cells storages page c) in
       let taken : is_cell_taken storages page (class_words_of c) k.index ≡ true =
-      sym (get_or-taken_cells storages page c k.index false index_within) ∙ sym (bit_at-used_word (taken_cells storages page c) k.index false long) ∙ ap (λ (w : ℕ). bit_at w k.index == 1) (sym used) ∙ bit in
-      cell_taken_by n page c k.index storages known index_within stand.laid_out.each taken
+      sym (get_or-taken_cells storages page c k.index false index_within) ∙ sym (bit_at-used_word (taken_cells storages page c) k.index false long)
+      ∙ ap (λ (w : ℕ). bit_at w k.index == 1) (sym used) ∙ bit in
+      let (s, inside, first, stands) = cell_taken_by n page c k.index storages known index_within stand.laid_out.each taken in
+      let (s_small, alike) = like_small (same_or_alike n storages page s t stand.laid_out inside on.inside stands on.stands) small in
+      let s_words : class_words_of c ≡ s.words = class_has_words t cell ∙ sym alike in
+      let ends : k.index * s.words + s.words ≤ 64 = subst (λ (w : ℕ). k.index * w + w ≤ 64) s_words (cell_ends k.index (class_words_of c) index_within) in
+      let s_first : s.first ≡ 64 * k.page + k.index * s.words =
+      first ∙ ap (λ (w : ℕ). 64 * page + k.index * w) s_words ∙ ap (λ (p : ℕ). 64 * p + k.index * s.words) (sym at) in
+      (s, inside, cell_from_first s k.page k.index s_small (has_words n s (storage_of s inside)) ends s_first)
 
-  pub taken_cell_has_storage : (u : ℕ) (k : Cell) → cell_on pages u ≡ Some k → (bit_at (slice_index_or pages k.page free_page).used k.index == 1) ≡ true → (s : Storage) × Contains storages s × (cell_of_storage s ≡ k)
-  taken_cell_has_storage u k is bit =
-      let n = length pages in
+  pub used_cell_has_storage : (u : ℕ) (k : Cell) → cell_on pages u ≡ Some k → (bit_at (page_in pages k.page).used k.index == 1) ≡ true
+      → (s : Storage) × Contains storages s × (cell_of_storage s ≡ k)
+  used_cell_has_storage u k is bit =
       let (t, on) = cell_is_on pages storages stand u k is in
       elim on.at [
         | inl (small, below, same) ↦
-            let page = page_at_address u in
             let c = class_of_storage t in
-            let cell = small_is_cell n t (storage_of t on.inside) small in
-            let known : class_of_storage t < 8 = omega (arith, class_of_cell t cell, cell.known) in
-            let some = class_words_within c known in
-            let index_within : k.index < cells_of c = subst (λ (i : ℕ). i < cells_of c) (sym (ap (λ (k : Cell). k.index) same)) (div_below (word_at_address u) (class_words_of c) (cells_of c) (omega arith) below) in
-            let (s, inside, first, stands) = taken_on_block u k t on.inside on.stands (is_address n (slice_index_or pages (page_at_address u) free_page).header u k is).1 small index_within (ap (λ (k : Cell). k.page) same) bit in
-            let (s_small, words) = like_small (same_or_alike n storages (page_at_address u) s t stand.laid_out inside on.inside stands on.stands) small in
-            let s_words : class_words_of c ≡ s.words = class_has_words t cell ∙ sym words in
-            let ends : k.index * s.words + s.words ≤ 64 = subst (λ (w : ℕ). k.index * w + w ≤ 64) s_words (cell_ends k.index (class_words_of c) index_within) in
-            let s_first : s.first ≡ 64 * page + k.index * s.words = first ∙ ap (λ (w : ℕ). 64 * page + k.index * w) s_words in
-            (s, inside, cell_from_first s page k.index s_small (has_words n s (storage_of s inside)) ends s_first ∙ ap (λ (p : ℕ). record { page = p; index = k.index }) (sym (ap (λ (k : Cell). k.page) same)))
+            let cell = small_is_cell (length pages) t (storage_of t on.inside) small in
+            let some = class_words_within c (omega (arith, class_of_cell t cell, cell.known)) in
+            let near = div_below (word_at_address u) (class_words_of c) (cells_of c) (omega arith) below in
+            let index_within : k.index < cells_of c = subst (λ (j : Cell). j.index < cells_of c) (sym same) near in
+            used_cell_of_block u k t on (address_within pages storages stand u k is).1 small index_within (ap (λ (k : Cell). k.page) same) bit
         | inr (large, same) ↦ (t, on.inside, sym same)
       ]

@@ -24,7 +24,8 @@ sum_below-zero f zero each = refl
 sum_below-zero f (suc n) each = omega (arith, sum_below-zero f n (λ p lt. each p (omega arith)), each n (omega arith))
 
 -- where so many pages from one on have the same number, and the others nothing
-module _ (f : ℕ → ℕ) (first count a : ℕ) (before : (p : ℕ) → p < first → f p ≡ 0) (within : (p : ℕ) → first ≤ p → p < first + count → f p ≡ a) (behind : (p : ℕ) → first + count ≤ p → f p ≡ 0) where
+module _ (f : ℕ → ℕ) (first count a : ℕ) (before : (p : ℕ) → p < first → f p ≡ 0)
+    (within : (p : ℕ) → first ≤ p → p < first + count → f p ≡ a) (behind : (p : ℕ) → first + count ≤ p → f p ≡ 0) where
   sum_within : (n k : ℕ) → n ≡ first + k → k ≤ count → sum_below f n ≡ k * a
   sum_within n zero is le = omega (arith, sum_below-zero f n (λ p lt. before p (omega arith)))
   sum_within zero (suc k) is le = absurd (omega arith)

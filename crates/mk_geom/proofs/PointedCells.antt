@@ -1,21 +1,22 @@
 -- What an address in a storage points into, and in which storage an address is that points into its cell.
-use Rattle.std.proofs.Common.{◌≡◌, ℕ, zero, suc, ◌+◌, ◌-◌, ◌*◌, ◌/◌, ◌%◌, ◌<◌, ◌≤◌, Bool, true, false, nat_le, nat_lt, Option, Some, None, inl, inr, refl, sym, ◌∙◌, ap, subst, arith, le-leb, le_refl, option_and_then, unwrap_or, ◌↔◌}
+use Rattle.std.proofs.Common.{◌≡◌, ℕ, zero, suc, ◌+◌, ◌-◌, ◌*◌, ◌/◌, ◌%◌, ◌<◌, ◌≤◌, Bool, true, false, nat_le, nat_lt, Some, None, inl, inr, refl, sym, ◌∙◌, ap, subst, arith, le-leb, le_refl, option_and_then, ◌↔◌}
 use Rattle.std.proofs.lemmas.Bool.{cases_Bool, and_from, cond-true, cond-false, lt-ltb, lt-leb}
 use Rattle.std.proofs.lemmas.Nat.{mul-le, div-mul-add}
 use Rattle.mk_geom.specs.declared.addresses.Cell.{Cell}
 use Rattle.mk_geom.specs.declared.headers.Header.{Header}
 use Rattle.mk_geom.specs.Addresses.{address_of, heap_word_at, is_heap_address, page_at_address, word_at_address, cell_of_block, run_before, cell_under, cell_at}
-use Rattle.mk_geom.specs.Classes.{class_words_of, class_for, cells_of}
+use Rattle.mk_geom.specs.Classes.{class_words_of, cells_of}
 use Rattle.mk_geom.specs.Headers.{word_of, header_of}
 use Rattle.mk_geom.specs.Storages.{Storage, is_small, first_page, stands_on, class_of_storage, block_header, run_header, IsCell, IsStorage}
 use Rattle.mk_geom.specs.StorageWords.{IsWordOf, PointsInto, cell_of_storage, ShowsStorage}
 use Rattle.mk_geom.proofs.Bridge.{block_in_range, run_in_range, run_near}
-use Rattle.mk_geom.proofs.ClassTable.{class_words_within, class_for-class_words_of, cell_ends}
+use Rattle.mk_geom.proofs.ClassTable.{class_words_within, cell_ends}
 use Rattle.mk_geom.proofs.HeaderLemmas.{header_of-word_of}
-use Rattle.mk_geom.proofs.Standing.{has_words, small_is_cell, large_is_run, class_of_cell, cell_stands_at, stands_parts, stands_from}
+use Rattle.mk_geom.proofs.Standing.{class_of_words, has_words, small_is_cell, large_is_run, class_of_cell, cell_stands_at, stands_parts, stands_from}
 
 -- a heap address whose page has this header
-pub looked_up : (pages header u : ℕ) (h : Header) → 65536 ≤ u → page_at_address u < pages → header_of header ≡ Some h → cell_at pages header u ≡ cell_under h (page_at_address u) (word_at_address u)
+pub looked_up : (pages header u : ℕ) (h : Header) → 65536 ≤ u → page_at_address u < pages → header_of header ≡ Some h
+    → cell_at pages header u ≡ cell_under h (page_at_address u) (word_at_address u)
 looked_up pages header u h low within is =
     let high : u < 65536 + 512 * pages = omega arith in
     let inside : is_heap_address pages u ≡ true = and_from (nat_le 65536 u) (nat_lt u (65536 + 512 * pages)) (le-leb 65536 u low) (lt-ltb u (65536 + 512 * pages) high) in
@@ -37,7 +38,8 @@ run_found : (distance page : ℕ) → distance ≤ page → run_before distance 
 run_found distance page near = cond-true (nat_le distance page) (Some (record { page = page - distance; index = 0 })) None (le-leb distance page near)
 
 -- What an address points into whose page shows a storage that stands there.
-module _ (pages header u : ℕ) (s : Storage) (is : IsStorage pages s) (low : 65536 ≤ u) (stands : stands_on (page_at_address u) s ≡ true) (shows : ShowsStorage s (page_at_address u) header) where
+module _ (pages header u : ℕ) (s : Storage) (is : IsStorage pages s) (low : 65536 ≤ u)
+    (stands : stands_on (page_at_address u) s ≡ true) (shows : ShowsStorage s (page_at_address u) header) where
   page_within : page_at_address u < pages
   page_within = let parts = stands_parts (page_at_address u) s stands in omega (arith, is.1, has_words pages s is)
 
@@ -59,10 +61,14 @@ module _ (pages header u : ℕ) (s : Storage) (is : IsStorage pages s) (low : 65
       let h : Header = run_header (s.words / 64) shows.0 s.leaf (page - first_page s) in
       let header_is : header ≡ word_of h = shows.1 ∙ ap word_of (cond-false (is_small s) _ _ large) in
       let back : page - (page - first_page s) ≡ first_page s = omega arith in
-      looked_up pages header u h low page_within
-      (ap header_of header_is ∙ header_of-word_of h (run_in_range (s.words / 64) shows.0 s.leaf (page - first_page s) (omega (arith, run.words, run.some)) (omega (arith, run.words, run.most)) near))
+      let in_range = run_in_range (s.words / 64) shows.0 s.leaf (page - first_page s) (omega (arith, run.words, run.some)) (omega (arith, run.words, run.most)) near in
+      looked_up pages header u h low page_within (ap header_of header_is ∙ header_of-word_of h in_range)
       ∙ run_under (s.words / 64) shows.0 s.leaf (page - first_page s) page (word_at_address u)
       ∙ run_found (page - first_page s) page (omega arith) ∙ ap (λ (p : ℕ). Some (record { page = p; index = 0 })) back
+
+-- where a cell begins on its page, and its words, by the class that it has from its words
+pub first_in_page : (s : Storage) (cell : IsCell s) → s.first % 64 ≡ cell.index * class_words_of (class_of_storage s)
+first_in_page s cell = cell.first ∙ ap (λ (c : ℕ). cell.index * class_words_of c) (sym (class_of_cell s cell))
 
 pub class_has_words : (s : Storage) → IsCell s → class_words_of (class_of_storage s) ≡ s.words
 class_has_words s cell = ap class_words_of (class_of_cell s cell) ∙ sym cell.words
@@ -80,7 +86,8 @@ same_cell j k page index = λ i. record { page = page i; index = index i }
 pub small_cell_of : (s : Storage) → is_small s ≡ true → cell_of_storage s ≡ record { page = first_page s; index = s.first % 64 / s.words }
 small_cell_of s small = ap (λ (n : ℕ). record { page = first_page s; index = n }) (cond-true (is_small s) (s.first % 64 / s.words) 0 small)
 
-small_cell_is : (s : Storage) (cell : IsCell s) (page : ℕ) → is_small s ≡ true → page ≡ first_page s → Some (record { page = page; index = cell.index }) ≡ Some (cell_of_storage s)
+small_cell_is : (s : Storage) (cell : IsCell s) (page : ℕ) → is_small s ≡ true → page ≡ first_page s
+    → Some (record { page = page; index = cell.index }) ≡ Some (cell_of_storage s)
 small_cell_is s cell page small at =
     ap (λ (p : ℕ). Some (record { page = p; index = cell.index })) at ∙ ap (λ (n : ℕ). Some (record { page = first_page s; index = n })) (sym (cell_index s cell))
     ∙ ap (λ (k : Cell). Some k) (sym (small_cell_of s small))
@@ -122,13 +129,14 @@ block_cell class page index offset word within inside is =
     cond-true (nat_lt word (cells_of class * w)) (Some (record { page = page; index = word / w })) None (lt-ltb word (cells_of class * w) below)
     ∙ ap (λ (n : ℕ). Some (record { page = page; index = n })) at
 
-small_cell_at : (u : ℕ) (s : Storage) (cell : IsCell s) → is_small s ≡ true → PointsInto u s → cell_of_block (class_of_storage s) (page_at_address u) (word_at_address u) ≡ Some (cell_of_storage s)
+small_cell_at : (u : ℕ) (s : Storage) (cell : IsCell s) → is_small s ≡ true → PointsInto u s
+    → cell_of_block (class_of_storage s) (page_at_address u) (word_at_address u) ≡ Some (cell_of_storage s)
 small_cell_at u s cell small into =
     let at : page_at_address u ≡ first_page s = sym (cell_stands_at s (page_at_address u) cell (stands_at_address u s into)) in
     let words = class_has_words s cell in
     let within : cell.index < cells_of (class_of_storage s) = subst (λ (c : ℕ). cell.index < cells_of c) (sym (class_of_cell s cell)) cell.within in
     let ends = cell_ends cell.index (class_words_of (class_of_storage s)) within in
-    let first : s.first % 64 ≡ cell.index * class_words_of (class_of_storage s) = cell.first ∙ ap (λ (c : ℕ). cell.index * class_words_of c) (sym (class_of_cell s cell)) in
+    let first : s.first % 64 ≡ cell.index * class_words_of (class_of_storage s) = first_in_page s cell in
     let low = into.1.0 in
     let high = into.1.1 in
     let offset : heap_word_at u - s.first < class_words_of (class_of_storage s) = omega arith in
@@ -137,20 +145,22 @@ small_cell_at u s cell small into =
     ∙ small_cell_is s cell (page_at_address u) small at
 
 -- what the header word of its page says, by a storage's numbers
-pub shows_cell : (s : Storage) (page header class : ℕ) → class < 8 → s.words ≡ class_words_of class → header ≡ word_of (block_header class s.leaf) → ShowsStorage s page header
+pub shows_cell : (s : Storage) (page header class : ℕ) → class < 8 → s.words ≡ class_words_of class → header ≡ word_of (block_header class s.leaf)
+    → ShowsStorage s page header
 shows_cell s page header class known words is =
     let range = class_words_within class known in
-    let class_is : class_of_storage s ≡ class = ap (λ (w : ℕ). unwrap_or (class_for w) 0) words ∙ ap (λ (o : Option ℕ). unwrap_or o 0) (class_for-class_words_of class known) in
+    let class_is : class_of_storage s ≡ class = class_of_words s class known words in
     (true, is ∙ sym (ap word_of (cond-true (is_small s) _ _ (le-leb s.words 32 (omega arith))) ∙ ap (λ (c : ℕ). word_of (block_header c s.leaf)) class_is))
 
-pub shows_run : (s : Storage) (header first count distance : ℕ) (mapped : Bool) → s.first ≡ 64 * first → s.words ≡ 64 * count → 1 ≤ count → header ≡ word_of (run_header count mapped s.leaf distance)
-    → ShowsStorage s (first + distance) header
+pub shows_run : (s : Storage) (header first count distance : ℕ) (mapped : Bool) → s.first ≡ 64 * first → s.words ≡ 64 * count → 1 ≤ count
+    → header ≡ word_of (run_header count mapped s.leaf distance) → ShowsStorage s (first + distance) header
 shows_run s header first count distance mapped begins words some is =
     let pages : s.words / 64 ≡ count = omega arith in
     let behind : first + distance - first_page s ≡ distance = omega arith in (
       mapped,
       is ∙ sym (ap word_of (cond-false (is_small s) _ _ (lt-leb s.words 32 (omega arith)))
-          ∙ ap (λ (m : ℕ). word_of (run_header m mapped s.leaf (first + distance - first_page s))) pages ∙ ap (λ (d : ℕ). word_of (run_header count mapped s.leaf d)) behind),
+          ∙ ap (λ (m : ℕ). word_of (run_header m mapped s.leaf (first + distance - first_page s))) pages
+          ∙ ap (λ (d : ℕ). word_of (run_header count mapped s.leaf d)) behind),
     )
 
 pub address_points_into : (word : ℕ) (s : Storage) → PointsInto (address_of word) s ↔ IsWordOf s word
@@ -158,7 +168,8 @@ address_points_into word s =
     let at : heap_word_at (address_of word) ≡ word = omega arith in
     (λ into. subst (IsWordOf s) at into.1, λ is. (omega arith, subst (IsWordOf s) (sym at) is))
 
-pub points_into_cell : (pages header u : ℕ) (s : Storage) → IsStorage pages s → ShowsStorage s (page_at_address u) header → PointsInto u s → cell_at pages header u ≡ Some (cell_of_storage s)
+pub points_into_cell : (pages header u : ℕ) (s : Storage) → IsStorage pages s → ShowsStorage s (page_at_address u) header → PointsInto u s
+    → cell_at pages header u ≡ Some (cell_of_storage s)
 points_into_cell pages header u s is shows into =
     let stands = stands_at_address u s into in
     elim (cases_Bool (is_small s)) [

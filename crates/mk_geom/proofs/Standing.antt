@@ -1,7 +1,8 @@
 -- Which pages a storage stands on, and what two storages on one page share.
-use Rattle.std.proofs.Common.{◌≡◌, ℕ, ◌+◌, ◌-◌, ◌/◌, ◌%◌, ◌≤◌, true, false, List, get_or, Contains, ◌⊎◌, inl, inr, refl, sym, ◌∙◌, ap, subst, arith, leb-true, le-leb, nat_le}
+use Rattle.std.proofs.Common.{◌≡◌, ℕ, ◌+◌, ◌-◌, ◌/◌, ◌%◌, ◌<◌, ◌≤◌, true, false, List, get_or, Contains, ◌⊎◌, inl, inr, refl, sym, ◌∙◌, ap, subst, arith, leb-true, le-leb, nat_le}
 use Rattle.std.proofs.lemmas.Bool.{false≢true, and_parts, and_from, cases_eq, lt-leb}
 use Rattle.std.proofs.lemmas.List.{get_or_default}
+use Rattle.std.proofs.lemmas.List.Elements.{All-contains}
 use Rattle.mk_geom.specs.Classes.{class_words_of}
 use Rattle.mk_geom.specs.Storages.{Storage, is_small, first_page, last_page, stands_on, class_of_storage, IsCell, IsRun, IsStorage, LieApart, AreLaidOut}
 use Rattle.mk_geom.proofs.ClassTable.{class_for-class_words_of, class_words_within, cell_ends}
@@ -13,8 +14,11 @@ cell_within s cell =
     let ends = cell_ends cell.index (class_words_of cell.class) cell.within in
     (omega (arith, cell.words), omega (arith, cell.words), omega (arith, cell.words, cell.first))
 
+pub class_of_words : (s : Storage) (class : ℕ) → class < 8 → s.words ≡ class_words_of class → class_of_storage s ≡ class
+class_of_words s class known words = rw (words, class_for-class_words_of class known) refl
+
 pub class_of_cell : (s : Storage) (cell : IsCell s) → class_of_storage s ≡ cell.class
-class_of_cell s cell = rw (cell.words, class_for-class_words_of cell.class cell.known) refl
+class_of_cell s cell = class_of_words s cell.class cell.known cell.words
 
 pub cell_is_small : (s : Storage) → IsCell s → is_small s ≡ true
 cell_is_small s cell = le-leb s.words 32 (cell_within s cell).1
@@ -59,13 +63,23 @@ pub record AreAlike (s t : Storage) : Type 0 where
   pub words : s.words ≡ t.words
   pub leaf : s.leaf ≡ t.leaf
 
-pub same_or_alike : (n : ℕ) (xs : List Storage) (page : ℕ) (s t : Storage) → AreLaidOut n xs → Contains xs s → Contains xs t → stands_on page s ≡ true → stands_on page t ≡ true
-    → (s ≡ t) ⊎ AreAlike s t
-same_or_alike n xs page s t laid (i, i_within, i_is) (j, j_within, j_is) s_stands t_stands = elim (cases_eq i j) [
+pub storage_in : (n : ℕ) (xs : List Storage) (s : Storage) → AreLaidOut n xs → Contains xs s → IsStorage n s
+storage_in n xs s laid inside = All-contains (IsStorage n) xs s laid.each inside
+
+pub same_or_apart : (n : ℕ) (xs : List Storage) (s t : Storage) → AreLaidOut n xs → Contains xs s → Contains xs t → (s ≡ t) ⊎ LieApart s t
+same_or_apart n xs s t laid (i, i_within, i_is) (j, j_within, j_is) = elim (cases_eq i j) [
   | inl same ↦ inl (sym i_is ∙ get_or_default xs i s t i_within ∙ ap (λ k. get_or xs k t) same ∙ j_is)
   | inr other ↦
       let s_is : get_or xs i t ≡ s = get_or_default xs i t s i_within ∙ i_is in
-      let apart : LieApart s t = subst (λ (x : Storage). LieApart x t) s_is (subst (λ (x : Storage). LieApart (get_or xs i t) x) j_is (laid.apart i j t i_within j_within other)) in
+      let apart = laid.apart i j t i_within j_within other in
+      inr (subst (λ (x : Storage). LieApart x t) s_is (subst (λ (x : Storage). LieApart (get_or xs i t) x) j_is apart))
+]
+
+pub same_or_alike : (n : ℕ) (xs : List Storage) (page : ℕ) (s t : Storage) → AreLaidOut n xs → Contains xs s → Contains xs t
+    → stands_on page s ≡ true → stands_on page t ≡ true → (s ≡ t) ⊎ AreAlike s t
+same_or_alike n xs page s t laid s_in t_in s_stands t_stands = elim (same_or_apart n xs s t laid s_in t_in) [
+  | inl same ↦ inl same
+  | inr apart ↦
       let alike = apart.alike page s_stands t_stands in
       inr (record { small = alike.0; small_too = alike.1; words = alike.2; leaf = alike.3 })
 ]

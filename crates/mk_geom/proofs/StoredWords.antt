@@ -1,14 +1,14 @@
 -- The words of a page, by any storage that stands on it.
-use Rattle.std.proofs.Common.{◌≡◌, ℕ, ◌+◌, ◌-◌, ◌*◌, ◌/◌, ◌<◌, true, false, List, Option, Some, Contains, inl, inr, sym, ◌∙◌, ap, arith, unwrap_or, le-leb}
+use Rattle.std.proofs.Common.{◌≡◌, ℕ, ◌+◌, ◌-◌, ◌*◌, ◌/◌, ◌<◌, true, false, List, Some, Contains, inl, inr, sym, ◌∙◌, ap, arith, unwrap_or, le-leb}
 use Rattle.std.proofs.lemmas.Bool.{false≢true, cond-true, cond-false, lt-leb}
-use Rattle.std.proofs.lemmas.List.Elements.{All-contains}
 use Rattle.mk_geom.specs.Classes.{class_words_of, class_for, cells_of}
-use Rattle.mk_geom.specs.Storages.{Storage, is_small, first_page, stands_on, class_of_storage, taken_cells, used_word, free_page, block_page, run_page, words_by, words_of_storages, IsStorage, AreLaidOut}
-use Rattle.mk_geom.proofs.ClassTable.{class_words_within, class_for-class_words_of, cell_ends}
+use Rattle.mk_geom.specs.Storages.{Storage, is_small, first_page, stands_on, class_of_storage, taken_cells, used_word, free_page, block_page, run_page, words_by, words_of_storages, AreLaidOut}
+use Rattle.mk_geom.proofs.ClassTable.{class_words_within, cell_ends}
 use Rattle.mk_geom.proofs.ListSearch.{find_cases}
-use Rattle.mk_geom.proofs.Standing.{AreAlike, same_or_alike, stands_at_first, stands_from}
+use Rattle.mk_geom.proofs.Standing.{class_of_words, storage_in, AreAlike, same_or_alike, stands_at_first, stands_from}
 
-pub words_by_small : (page : ℕ) (xs : List Storage) (s : Storage) → is_small s ≡ true → words_by xs page (Some s) ≡ block_page (class_of_storage s) s.leaf (used_word (taken_cells xs page (class_of_storage s)))
+pub words_by_small : (page : ℕ) (xs : List Storage) (s : Storage) → is_small s ≡ true
+    → words_by xs page (Some s) ≡ block_page (class_of_storage s) s.leaf (used_word (taken_cells xs page (class_of_storage s)))
 words_by_small page xs s small = cond-true (is_small s) _ _ small
 
 pub words_by_large : (page : ℕ) (xs : List Storage) (s : Storage) → is_small s ≡ false
@@ -23,7 +23,8 @@ words_by_alike page xs s t alike =
     ∙ sym (words_by_small page xs t alike.small_too)
 
 -- Any storage on a page says what its words are, and where there is none they are 0.
-pub words_at : (n page : ℕ) (xs : List Storage) (s : Storage) → AreLaidOut n xs → Contains xs s → stands_on page s ≡ true → words_of_storages xs page ≡ words_by xs page (Some s)
+pub words_at : (n page : ℕ) (xs : List Storage) (s : Storage) → AreLaidOut n xs → Contains xs s → stands_on page s ≡ true
+    → words_of_storages xs page ≡ words_by xs page (Some s)
 words_at n page xs s laid inside stands = elim (find_cases (stands_on page) xs) [
   | inl (t, found, t_inside, t_stands) ↦
       ap (words_by xs page) found ∙ elim (same_or_alike n xs page t s laid t_inside inside t_stands stands) [
@@ -42,8 +43,8 @@ module _ (n : ℕ) (xs : List Storage) (s : Storage) (laid : AreLaidOut n xs) (i
       let range = class_words_within class known in
       let ends = cell_ends index (class_words_of class) within in
       let small : is_small s ≡ true = le-leb s.words 32 (omega arith) in
-      let class_is : class_of_storage s ≡ class = ap (λ (w : ℕ). unwrap_or (class_for w) 0) words ∙ ap (λ (o : Option ℕ). unwrap_or o 0) (class_for-class_words_of class known) in
-      words_at n page xs s laid inside (stands_at_first n s page (All-contains (IsStorage n) xs s laid.each inside) (omega arith)) ∙ words_by_small page xs s small
+      let class_is : class_of_storage s ≡ class = class_of_words s class known words in
+      words_at n page xs s laid inside (stands_at_first n s page (storage_in n xs s laid inside) (omega arith)) ∙ words_by_small page xs s small
       ∙ ap (λ (c : ℕ). block_page c s.leaf (used_word (taken_cells xs page c))) class_is
 
   pub run_page_words : (first count distance : ℕ) → s.first ≡ 64 * first → s.words ≡ 64 * count → distance < count

@@ -1,5 +1,5 @@
 -- The laws of pages and storages. Each holds of all pages and all storages that they stand for.
-use Rattle.std.specs.Prelude.{◌≡◌, ℕ, ◌+◌, ◌*◌, ◌<◌, Bool, true, false, List, [], length, replicate, slice_index_or, ◌==◌, ◌↔◌, Some, Contains}
+use Rattle.std.specs.Prelude.{◌≡◌, ℕ, ◌+◌, ◌*◌, ◌<◌, Bool, true, false, List, [], length, replicate, ◌==◌, ◌↔◌, Some, Contains}
 use Rattle.std.specs.Int.{bit_at}
 use Rattle.mk_geom.specs.declared.addresses.Cell.{Cell}
 use Rattle.mk_geom.specs.declared.pages.Page.{Page}
@@ -10,7 +10,7 @@ use Rattle.mk_geom.specs.PageUses.{place_among, words_held_among, census_among}
 use Rattle.mk_geom.specs.PageWords.{uses_of_pages, HaveHeaderWords}
 use Rattle.mk_geom.specs.Places.{IsCellPlace, IsRunPlace}
 use Rattle.mk_geom.specs.Storages.{Storage, stands_on, uses_of_storages, place_of, census_of, taken_cells, used_word, free_page, block_page, run_page, words_of_storages, IsStorage, AreLaidOut, PagesStandFor}
-use Rattle.mk_geom.specs.StorageWords.{IsWordOf, PointsInto, cell_of_storage, mapped_words, ShowsStorage, cell_on}
+use Rattle.mk_geom.specs.StorageWords.{IsWordOf, PointsInto, cell_of_storage, mapped_words, ShowsStorage, page_in, cell_on}
 
 -- Pages show what stands on them,
 abbrev pub PagesShowUses : Type 0
@@ -86,7 +86,7 @@ UsedCellHasStorage =
     (pages : List Page) (storages : List Storage)
     → PagesStandFor pages storages
     → (u : ℕ) (k : Cell) → cell_on pages u ≡ Some k
-    → (bit_at (slice_index_or pages k.page free_page).used k.index == 1) ≡ true
+    → (bit_at (page_in pages k.page).used k.index == 1) ≡ true
     → (s : Storage) × Contains storages s × (cell_of_storage s ≡ k)
 
 -- The cell of a storage begins at its first word.

@@ -22,7 +22,7 @@ cell_of_storage s = record { page = first_page s; index = if is_small s then s.f
 abbrev pub mapped_words : List Storage → ℕ
 mapped_words storages = sum_by (λ s. if s.mapped then s.words else 0) storages
 
--- the header word of a page that the storage stands on, where that page is mapped or not. Only a run's says which.
+-- the header word of a page that the storage stands on, mapped or not; a cell's page is always mapped
 abbrev pub header_shown : Storage → ℕ → Bool → ℕ
 header_shown s page mapped =
     word_of
@@ -30,10 +30,14 @@ header_shown s page mapped =
     then block_header (class_of_storage s) s.leaf
     else run_header (s.words / 64) mapped s.leaf (page - first_page s))
 
--- The header word is one that the storage gives the page. A run may be half unmapped, so the page alone says whether it is mapped.
+-- The header word is one that the storage gives the page. The pages of a run may be mapped and unmapped, each by itself.
 abbrev pub ShowsStorage : Storage → ℕ → ℕ → Type 0
 ShowsStorage s page header = (mapped : Bool) × (header ≡ header_shown s page mapped)
 
+-- a page of these; behind the last a free one
+abbrev pub page_in : List Page → ℕ → Page
+page_in pages page = slice_index_or pages page free_page
+
 -- what a value points into, by the header of the page that it is in
 abbrev pub cell_on : List Page → ℕ → Option Cell
-cell_on pages u = cell_at (length pages) (slice_index_or pages (page_at_address u) free_page).header u
+cell_on pages u = cell_at (length pages) (page_in pages (page_at_address u)).header u

@@ -1,4 +1,4 @@
-use Rattle.mk_geom.proofs.CellsOnPages.{points_into_iff, same_from_cells, taken_cell_has_storage}
+use Rattle.mk_geom.proofs.CellsOnPages.{points_into_iff, same_from_cells, used_cell_has_storage}
 use Rattle.mk_geom.proofs.PointedCells.{points_into_cell, cell_first, address_points_into}
 use Rattle.mk_geom.proofs.laws.a_storage_has_its_cell.Goals as goal
 
@@ -9,7 +9,7 @@ pub returns-clause-on_pages : goal.returns-clause-on_pages
 returns-clause-on_pages c = points_into_iff
 
 pub returns-clause-used : goal.returns-clause-used
-returns-clause-used c = taken_cell_has_storage
+returns-clause-used c = used_cell_has_storage
 
 pub returns-clause-first_word : goal.returns-clause-first_word
 returns-clause-first_word c = cell_first
