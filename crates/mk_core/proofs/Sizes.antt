@@ -1,9 +1,7 @@
 -- Small and large objects.
-use Rattle.std.proofs.Common.{◌≡◌, ℕ, ◌<◌, ◌∙◌, Bool, refl, sym, ap, inl, inr, arith, length, lt-ltb, le-ltb}
-use Rattle.std.specs.Prelude.{List, not, nat_le, nat_lt}
-use Rattle.std.proofs.lemmas.Bool.{cases_lt}
+use Rattle.std.proofs.Common.{◌≡◌, ℕ, ◌∙◌, sym, ap, inl, inr, length, lt-ltb, le-ltb}
+use Rattle.std.specs.Prelude.{not, nat_le, nat_lt}
 use Rattle.std.proofs.lemmas.Bool.Decides.{leb_tells}
-use Rattle.mk_never.specs.declared.types.Kind.{Kind}
 use Rattle.mk_core.specs.HistoryLaws.{LargeIsNotSmall}
 
 over_is_not : (n : ℕ) → nat_lt 32 n ≡ not (nat_le n 32)

@@ -1,10 +1,9 @@
 -- Laws of histories: of lists of events in two parts, and of what their definitions share.
-use Rattle.std.specs.Prelude.{◌≡◌, ◌↔◌, ℕ, Bool, ◌&&◌, not, List, ◌++◌, slice_index}
+use Rattle.std.specs.Prelude.{◌≡◌, ◌↔◌, ℕ, ◌&&◌, not, List, ◌++◌}
 use Rattle.mk_never.specs.declared.types.Kind.{Kind}
 use Rattle.mk_never.specs.Types.{is_large}
 use Rattle.mk_never.specs.NeverHeap.{after_calls, replies_of}
 use Rattle.mk_never.specs.Admitted.{AreAdmitted}
-use Rattle.mk_geom.specs.declared.addresses.Cell.{Cell}
 use Rattle.mk_core.specs.declared.config.Config.{Config}
 use Rattle.mk_core.specs.declared.events.Event.{Event}
 use Rattle.mk_core.specs.Bits.{has_bit, without}
