@@ -10,7 +10,7 @@ use Rattle.mk_core.specs.declared.accesses.TableWord.{TableWord}
 use Rattle.mk_core.specs.declared.accesses.TableWord.TheVariants.{Turn, Named}
 use Rattle.mk_core.specs.declared.accesses.Access.{Access}
 use Rattle.mk_core.specs.declared.accesses.Access.TheVariants.{Load, Store, Exchange, Or, Add, Sub}
-use Rattle.mk_core.specs.Words.{Words, zero_words_of, with_named, with_table_word, word_in, becomes, accessed}
+use Rattle.mk_core.specs.Words.{Words, zero_words_of, with_named, with_word_in, word_in, becomes, accessed}
 use Rattle.mk_core.specs.Layout.{AreOfPages}
 use Rattle.mk_core.specs.Accesses.{reached, access}
 use Rattle.mk_core.specs.History.{World, first_world, world_behind, left_from, left}
@@ -54,7 +54,7 @@ named_lengths count w (word.Heap n) v h =
 named_lengths count w _ v h =
     record { gates = h.gates; registers = h.registers; globals = h.globals; pages = h.pages; freed = h.freed; snapshot = h.snapshot; marks = h.marks; blacks = h.blacks; dirty = h.dirty; heap = h.heap }
 
-word_lengths : (count : ℕ) (w : Words) (x : TableWord) (v : ℕ) → AreOfPages count w → AreOfPages count (with_table_word w x v)
+word_lengths : (count : ℕ) (w : Words) (x : TableWord) (v : ℕ) → AreOfPages count w → AreOfPages count (with_word_in w x v)
 word_lengths count w Turn v h =
     record { gates = h.gates; registers = h.registers; globals = h.globals; pages = h.pages; freed = h.freed; snapshot = h.snapshot; marks = h.marks; blacks = h.blacks; dirty = h.dirty; heap = h.heap }
 word_lengths count w (Named x) v h = named_lengths count w x v h

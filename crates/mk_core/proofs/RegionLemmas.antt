@@ -11,7 +11,7 @@ use Rattle.mk_core.specs.declared.accesses.TableWord.{TableWord}
 use Rattle.mk_core.specs.declared.accesses.TableWord.TheVariants.{Turn, Named}
 use Rattle.mk_core.specs.declared.accesses.Access.{Access}
 use Rattle.mk_core.specs.declared.accesses.Access.TheVariants.{Load, Store, Exchange, Or, Add, Sub}
-use Rattle.mk_core.specs.Words.{Words, zero_words_of, quarantine_word, word_in, with_table_word, becomes, accessed}
+use Rattle.mk_core.specs.Words.{Words, zero_words_of, quarantine_word, word_in, with_word_in, becomes, accessed}
 use Rattle.mk_core.specs.Layout.{index_of, IsOfTable, quarantine_words, gap, spread, regions, joined, in_order, AreOfPages, ListHasAllWords, FirstWordsAreZero, AccessesStandAtTheirIndexes}
 
 -- how many words stand before a region
@@ -214,7 +214,7 @@ quarantine_whole : (v : ℕ) → quarantine_word (v % 2 ^ 32) (v / 2 ^ 32) ≡ v
 quarantine_whole v = mod-add-div v (2 ^ 32)
 
 named_changes : (pages : ℕ) (w : Words) (x : Word) (v : ℕ) → AreOfPages pages w → Begins pages w → IsOfTable pages (Named x)
-    → in_order (with_table_word w (Named x) v) ≡ slice_set (in_order w) (index_of pages (Named x)) v
+    → in_order (with_word_in w (Named x) v) ≡ slice_set (in_order w) (index_of pages (Named x)) v
 named_changes pages w word.Phase v h b t = refl
 named_changes pages w word.Held v h b t = refl
 named_changes pages w word.Fresh v h b t = refl
@@ -251,7 +251,7 @@ named_changes pages w (word.Dirty p) v h b t = let l = h.dirty in set_at w 15 p 
 named_changes pages w (word.Heap n) v h b t = let l = h.heap in set_at w 16 n (640 + 6 * pages + n) (640 + 6 * pages) v b.heap refl (omega arith)
 
 pub words_change : (pages : ℕ) (w : Words) (x : TableWord) (v : ℕ) → AreOfPages pages w → IsOfTable pages x
-    → in_order (with_table_word w x v) ≡ slice_set (in_order w) (index_of pages x) v
+    → in_order (with_word_in w x v) ≡ slice_set (in_order w) (index_of pages x) v
 words_change pages w Turn v h t = refl
 words_change pages w (Named x) v h t = named_changes pages w x v h (begins pages w h) t
 
@@ -291,11 +291,11 @@ first_are_zero pages =
 
 pub accesses_change : AccessesStandAtTheirIndexes
 accesses_change pages w x a h t =
-    let changed : in_order (with_table_word w x (becomes a (word_in w x))) ≡ slice_set (in_order w) (index_of pages x) (becomes a (slice_index (in_order w) (index_of pages x))) =
+    let changed : in_order (with_word_in w x (becomes a (word_in w x))) ≡ slice_set (in_order w) (index_of pages x) (becomes a (slice_index (in_order w) (index_of pages x))) =
     words_change pages w x (becomes a (word_in w x)) h t ∙ ap (λ found. slice_set (in_order w) (index_of pages x) (becomes a found)) (sym (words_stand pages w x h t)) in
     by a changed
   where
-    by : (a : Access) → in_order (with_table_word w x (becomes a (word_in w x))) ≡ slice_set (in_order w) (index_of pages x) (becomes a (slice_index (in_order w) (index_of pages x)))
+    by : (a : Access) → in_order (with_word_in w x (becomes a (word_in w x))) ≡ slice_set (in_order w) (index_of pages x) (becomes a (slice_index (in_order w) (index_of pages x)))
         → in_order (accessed w x a) ≡ slice_set (in_order w) (index_of pages x) (becomes a (slice_index (in_order w) (index_of pages x)))
     by Load e = sym (set-get_or (in_order w) (index_of pages x) 0)
     by (Store v) e = e

@@ -7,7 +7,7 @@ use Rattle.mk_geom.specs.declared.addresses.Cell.{Cell}
 use Rattle.mk_geom.specs.declared.pages.Place.{Place}
 use Rattle.mk_geom.specs.declared.pages.Census.{Census}
 use Rattle.mk_geom.specs.Classes.{class_words_of}
-use Rattle.mk_geom.specs.StorageWords.{mapped_words}
+use Rattle.mk_geom.specs.StorageWords.{mapped_words, cell_of_storage}
 use Rattle.mk_geom.specs.Storages.{Storage, place_of, census_of, Fits}
 use Rattle.mk_core.specs.declared.config.Config.{Config}
 use Rattle.mk_core.specs.declared.events.Step.{Step}
@@ -88,6 +88,10 @@ storage_words c a =
 abbrev pub storage_of : Config → PlacedAllocation → Storage
 storage_of c a =
     record { first = a.base; words = storage_words c a; mapped = is_mapped c a; leaf = (object_of (kinds_of c.types a.ty)).leaf }
+
+-- the cell at its first word; a large one's is cell 0 of its head page
+abbrev pub cell_of_allocation : Config → PlacedAllocation → Cell
+cell_of_allocation c a = cell_of_storage (storage_of c a)
 
 unfoldable pub unreleased_storage : Config → List PlacedAllocation → List Storage
 unreleased_storage c [] = []

@@ -84,6 +84,9 @@ is_used w cell = has_bit (used_at w cell.page) cell.index
 abbrev pub is_freed : Words → Cell → Bool
 is_freed w cell = has_bit (slice_index w.freed cell.page) cell.index
 
+abbrev pub is_in_snapshot : Words → Cell → Bool
+is_in_snapshot w cell = has_bit (slice_index w.snapshot cell.page) cell.index
+
 abbrev pub is_marked : Words → Cell → Bool
 is_marked w cell = has_bit (slice_index w.marks cell.page) cell.index
 

@@ -12,7 +12,7 @@ use Rattle.mk_core.specs.declared.accesses.Access.{Access}
 use Rattle.mk_core.specs.declared.config.Config.{Config}
 use Rattle.mk_core.specs.declared.events.Event.{Event}
 use Rattle.mk_core.specs.History.{left}
-use Rattle.mk_core.specs.Words.{Words, zero_words_of, quarantine_word, word_in, with_table_word, becomes, accessed}
+use Rattle.mk_core.specs.Words.{Words, zero_words_of, quarantine_word, word_in, with_word_in, becomes, accessed}
 
 -- the index of a word by its name, in a table of so many pages
 abbrev pub index_of_named : ℕ → Word → ℕ
@@ -132,7 +132,7 @@ WordsStandAtTheirIndexes =
 abbrev pub ChangesStandAtTheirIndexes : Type 0
 ChangesStandAtTheirIndexes =
     (pages : ℕ) (w : Words) (x : TableWord) (value : ℕ) → AreOfPages pages w → IsOfTable pages x
-    → in_order (with_table_word w x value) ≡ slice_set (in_order w) (index_of pages x) value
+    → in_order (with_word_in w x value) ≡ slice_set (in_order w) (index_of pages x) value
 
 -- As a list, the words are as many as the table's; the first are all 0.
 abbrev pub ListHasAllWords : Type 0

@@ -1,5 +1,5 @@
 -- What a look at a word of the table tells: the reading laws.
-use Rattle.std.specs.Prelude.{◌≡◌, ◌≢◌, ◌↔◌, ℕ, ◌+◌, ◌-◌, ◌/◌, ◌<◌, ◌≤◌, Bool, true, false, not, ◌&&◌, List, slice_index, Some, count_by}
+use Rattle.std.specs.Prelude.{◌≡◌, ◌≢◌, ◌↔◌, ℕ, ◌+◌, ◌-◌, ◌/◌, ◌<◌, ◌≤◌, Bool, true, false, not, ◌&&◌, ◌||◌, List, slice_index, Some, count_by}
 use Rattle.mk_geom.specs.declared.headers.Header.TheVariants.{Later}
 use Rattle.mk_geom.specs.Headers.{IsHeaderWord}
 use Rattle.mk_geom.specs.declared.addresses.Cell.{Cell}
@@ -14,13 +14,16 @@ use Rattle.mk_core.specs.declared.seats.Marker.{Marker as MarkerState}
 use Rattle.mk_core.specs.declared.seats.RunPages.{RunPages}
 use Rattle.mk_core.specs.Words.{header_at, phase_of}
 use Rattle.mk_core.specs.Calls.{is_under_turn}
-use Rattle.mk_core.specs.Cells.{header_in, cells_under, run_headed, is_freed}
+use Rattle.mk_core.specs.Cells.{header_in, cells_under, run_headed, is_freed, is_in_snapshot}
 use Rattle.mk_core.specs.Moments.{Moment, flight_of, marker_of}
 use Rattle.mk_core.specs.StopConditions.{is_attending}
 use Rattle.mk_core.specs.MarkerConditions.{is_out}
-use Rattle.mk_core.specs.Allocations.{placed_at, stands_in}
+use Rattle.mk_core.specs.Allocations.{placed_at, stands_in, cell_of_allocation}
 use Rattle.mk_core.specs.History.{World, left}
 use Rattle.mk_core.specs.HeldGates.{is_gate_held}
+use Rattle.mk_core.specs.Cycles.{is_begin, is_release, At, is_quarantined}
+use Rattle.mk_core.specs.Counts.{TalliesAreExact, TalliesAreTidy, IsTidy}
+use Rattle.std.specs.List.{list_any}
 
 -- what a caller is in: no call, a call between `enter` and `leave`, or one between `take` and `give`
 
@@ -89,3 +92,19 @@ pub record WordsTellWhatStands (w : World) : Type 0 where
   pub freed : phase_of w.now.words ≢ 4 → (cell : Cell) → is_freed w.now.words cell ≡ true
       → (a : IsTaken w cell) × ((placed_at w.allocations a.number).freed ≡ true)
   pub quarantined : (cell : Cell) (a : IsTaken w cell) → (placed_at w.allocations a.number).freed ≡ true → is_freed w.now.words cell ≡ true
+
+-- What the snapshot halves of the quarantine words tell from a `begin` on, up to the next `release`: the snapshot.
+pub record SnapshotTells (c : Config) {es : List Event} (begin : At is_begin es) : Type 0 where
+  pub has : (i : ℕ) → is_quarantined (placed_at (left c begin.before).allocations i) ≡ true
+      → is_in_snapshot (left c es).now.words (cell_of_allocation c (placed_at (left c begin.before).allocations i)) ≡ true
+  pub is : (cell : Cell) → is_in_snapshot (left c es).now.words cell ≡ true
+      → (i : ℕ) × (is_quarantined (placed_at (left c begin.before).allocations i) ≡ true)
+      × (cell_of_allocation c (placed_at (left c begin.before).allocations i) ≡ cell)
+
+abbrev pub SnapshotsTell : Config → List Event → Type 0
+SnapshotsTell c es =
+    (begin : At is_begin es) → list_any (λ (e : Event). is_begin e.step || is_release e.step) begin.behind ≡ false → SnapshotTells c begin
+
+-- What the tallies tell where nobody holds the turn: the counts.
+abbrev pub TalliesTell : Config → List Event → Type 0
+TalliesTell c es = (left c es).now.words.turn ≡ 0 → TalliesAreExact c es × (IsTidy c es → TalliesAreTidy c es)

@@ -109,9 +109,9 @@ with_named w word.Cycles value = record w { cycles = value }
 with_named w word.Released value = record w { released = value }
 with_named w word.Full value = record w { full = value }
 
-abbrev pub with_table_word : Words → TableWord → ℕ → Words
-with_table_word w Turn value = record w { turn = value }
-with_table_word w (Named name) value = with_named w name value
+abbrev pub with_word_in : Words → TableWord → ℕ → Words
+with_word_in w Turn value = record w { turn = value }
+with_word_in w (Named name) value = with_named w name value
 
 -- what an access makes of the word that it finds
 abbrev pub becomes : Access → ℕ → ℕ
@@ -125,11 +125,11 @@ becomes (Sub n) found = (found + (2 ^ 64 - n)) % 2 ^ 64
 -- the words behind an access to one of them
 abbrev pub accessed : Words → TableWord → Access → Words
 accessed w name Load = w
-accessed w name (Store value) = with_table_word w name value
-accessed w name (Exchange old new) = with_table_word w name (becomes (Exchange old new) (word_in w name))
-accessed w name (Or bits) = with_table_word w name (becomes (Or bits) (word_in w name))
-accessed w name (Add n) = with_table_word w name (becomes (Add n) (word_in w name))
-accessed w name (Sub n) = with_table_word w name (becomes (Sub n) (word_in w name))
+accessed w name (Store value) = with_word_in w name value
+accessed w name (Exchange old new) = with_word_in w name (becomes (Exchange old new) (word_in w name))
+accessed w name (Or bits) = with_word_in w name (becomes (Or bits) (word_in w name))
+accessed w name (Add n) = with_word_in w name (becomes (Add n) (word_in w name))
+accessed w name (Sub n) = with_word_in w name (becomes (Sub n) (word_in w name))
 
 -- The phase word has the phase in its low three bits, and the markers that are in above them.
 abbrev pub phase_of : Words → ℕ

@@ -2,7 +2,7 @@
 ghost use Rattle.std.specs.Prelude.{◌≡◌, ℕ, ◌+◌, ◌*◌, ◌^◌, ◌<◌, IfOk, replicate, slice_index, slice_set};
 ghost use Rattle.mk_core.specs.declared.events.Word.TheVariants as word;
 ghost use Rattle.mk_geom.specs.Storages.{free_page};
-ghost use Rattle.mk_core.specs.Words.{Words, zero_words_of, page_of, header_at, used_at, quarantine_word, register_word, named_word, word_in, with_named, with_table_word, becomes, accessed, phase_of};
+ghost use Rattle.mk_core.specs.Words.{Words, zero_words_of, page_of, header_at, used_at, quarantine_word, register_word, named_word, word_in, with_named, with_word_in, becomes, accessed, phase_of};
 
 use crate::{Access, TableWord, Word};
 use mk_geom::{FREE_PAGE, Page};
@@ -310,7 +310,7 @@ impl Table {
     }
 
     fn set_word(&mut self, name: TableWord, value: u64)
-        ensures { self.new ≡ with_table_word self.old name value }
+        ensures { self.new ≡ with_word_in self.old name value }
     {
         match name {
             TableWord::Turn => self.turn = value,
