@@ -97,7 +97,9 @@ module _ (pages : List Page) (storages : List Storage) (stand : PagesStandFor pa
       let page = page_at_address u in
       let (low, within) = address_within u k is in
       elim (find_cases (stands_on page) storages) [
-        | inl (t, found, inside, stands) ↦ (t, cell_is_shown (length pages) (page_in pages page).header u k storages t stand.laid_out inside stands (page_shows_storage page t inside stands within) is)
+        | inl (t, found, inside, stands) ↦
+            let shows = page_shows_storage page t inside stands within in
+            (t, cell_is_shown (length pages) (page_in pages page).header u k storages t stand.laid_out inside stands shows is)
         | inr (none, others) ↦ absurd (nothing_on_free u k is none)
       ]
 
