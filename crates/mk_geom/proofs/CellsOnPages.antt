@@ -47,6 +47,24 @@ pub record IsCellOn (xs : List Storage) (u : ℕ) (k : Cell) (t : Storage) : Typ
       × (k ≡ record { page = page_at_address u; index = word_at_address u / class_words_of (class_of_storage t) })
       ⊎ (is_small t ≡ false) × (k ≡ cell_of_storage t)
 
+pub cell_is_shown : (n header u : ℕ) (k : Cell) (xs : List Storage) (t : Storage) → AreLaidOut n xs → Contains xs t
+    → stands_on (page_at_address u) t ≡ true → ShowsStorage t (page_at_address u) header → cell_at n header u ≡ Some k → IsCellOn xs u k t
+cell_is_shown n header u k xs t laid inside stands shows is =
+    let low = (is_address n header u k is).0 in
+    let t_is = storage_in n xs t laid inside in
+    let words = class_words_of (class_of_storage t) in
+    let end = cells_of (class_of_storage t) * words in
+    elim (cases_Bool (is_small t)) [
+      | inl small ↦
+          let lookup = small_lookup n header u t t_is low stands shows small in
+          let (below, same) = cond_some (nat_lt (word_at_address u) end) (record { page = page_at_address u; index = word_at_address u / words }) k (sym lookup ∙ is) in
+          record { inside = inside; low = low; stands = stands; at = inl (small, ltb-true (word_at_address u) end below, sym same) }
+      | inr large ↦
+          let lookup = large_lookup n header u t t_is low stands shows large in
+          let same = same_Some k (cell_of_storage t) (sym is ∙ lookup ∙ ap (λ (k : Cell). Some k) (sym (large_cell_of t large))) in
+          record { inside = inside; low = low; stands = stands; at = inr (large, same) }
+    ]
+
 module _ (pages : List Page) (storages : List Storage) (stand : PagesStandFor pages storages) where
   -- a page shows each storage that stands on it
   pub page_shows_storage : (page : ℕ) (s : Storage) → Contains storages s → stands_on page s ≡ true → page < length pages
@@ -77,24 +95,11 @@ module _ (pages : List Page) (storages : List Storage) (stand : PagesStandFor pa
   pub cell_is_on : (u : ℕ) (k : Cell) → cell_on pages u ≡ Some k → (t : Storage) × IsCellOn storages u k t
   cell_is_on u k is =
       let page = page_at_address u in
-      let header = (page_in pages page).header in
       let (low, within) = address_within u k is in
       elim (find_cases (stands_on page) storages) [
         | inl (t, found, inside, stands) ↦
-            let t_is = storage_in (length pages) storages t stand.laid_out inside in
             let shows = page_shows_storage page t inside stands within in
-            let words = class_words_of (class_of_storage t) in
-            let end = cells_of (class_of_storage t) * words in
-            elim (cases_Bool (is_small t)) [
-              | inl small ↦
-                  let lookup = small_lookup (length pages) header u t t_is low stands shows small in
-                  let (below, same) = cond_some (nat_lt (word_at_address u) end) (record { page = page; index = word_at_address u / words }) k (sym lookup ∙ is) in
-                  (t, record { inside = inside; low = low; stands = stands; at = inl (small, ltb-true (word_at_address u) end below, sym same) })
-              | inr large ↦
-                  let lookup = large_lookup (length pages) header u t t_is low stands shows large in
-                  let same = same_Some k (cell_of_storage t) (sym is ∙ lookup ∙ ap (λ (k : Cell). Some k) (sym (large_cell_of t large))) in
-                  (t, record { inside = inside; low = low; stands = stands; at = inr (large, same) })
-            ]
+            (t, cell_is_shown (length pages) (page_in pages page).header u k storages t stand.laid_out inside stands shows is)
         | inr (none, others) ↦ absurd (nothing_on_free u k is none)
       ]
 
@@ -150,30 +155,40 @@ run_back n u s is large low stands =
     let parts = stands_parts (page_at_address u) s stands in
     (low, (omega (arith, run.first), omega (arith, run.first, run.words, run.some)))
 
+-- a value that points into a storage's cell is in the storage
+pub cell_has_value : (n u : ℕ) (xs : List Storage) (s t : Storage) → AreLaidOut n xs → Contains xs s → IsCellOn xs u (cell_of_storage s) t → PointsInto u s
+cell_has_value n u xs s t laid inside on =
+    let page = page_at_address u in
+    let s_is = storage_in n xs s laid inside in
+    let t_is = storage_in n xs t laid on.inside in
+    elim on.at [
+      | inl (small, below, same) ↦
+          let at : first_page s ≡ page_at_address u = ap (λ (k : Cell). k.page) same in
+          let (s_small, words) = like_small (same_or_alike n xs page s t laid inside on.inside (stands_at_first n s page s_is at) on.stands) small in
+          let t_words = class_has_words t (small_is_cell n t t_is small) in
+          let index = sym (ap (λ (k : Cell). k.index) (small_cell_of s s_small)) ∙ ap (λ (k : Cell). k.index) same in
+          small_back n u s t s_is s_small on.low at (t_words ∙ sym words) index
+      | inr (large, same) ↦
+          let one = same_from_cells n xs s t laid inside on.inside same in
+          subst (λ (x : Storage). PointsInto u x) (sym one) (run_back n u t t_is large on.low on.stands)
+    ]
+
+pub shown_cell_has_value : (n header u : ℕ) (xs : List Storage) (s t : Storage) → AreLaidOut n xs → Contains xs s → Contains xs t
+    → stands_on (page_at_address u) t ≡ true → ShowsStorage t (page_at_address u) header → cell_at n header u ≡ Some (cell_of_storage s) → PointsInto u s
+shown_cell_has_value n header u xs s t laid s_in t_in stands shows is =
+    cell_has_value n u xs s t laid s_in (cell_is_shown n header u (cell_of_storage s) xs t laid t_in stands shows is)
+
 module _ (pages : List Page) (storages : List Storage) (stand : PagesStandFor pages storages) where
   storage_of : (s : Storage) → Contains storages s → IsStorage (length pages) s
   storage_of s inside = storage_in (length pages) storages s stand.laid_out inside
 
-  pub cell_has_value : (u : ℕ) (s : Storage) → Contains storages s → cell_on pages u ≡ Some (cell_of_storage s) → PointsInto u s
-  cell_has_value u s inside is =
-      let n = length pages in
-      let page = page_at_address u in
-      let (t, on) = cell_is_on pages storages stand u (cell_of_storage s) is in
-      elim on.at [
-        | inl (small, below, same) ↦
-            let at : first_page s ≡ page_at_address u = ap (λ (k : Cell). k.page) same in
-            let s_stands = stands_at_first n s page (storage_of s inside) at in
-            let (s_small, words) = like_small (same_or_alike n storages page s t stand.laid_out inside on.inside s_stands on.stands) small in
-            let t_words = class_has_words t (small_is_cell n t (storage_of t on.inside) small) in
-            let index = sym (ap (λ (k : Cell). k.index) (small_cell_of s s_small)) ∙ ap (λ (k : Cell). k.index) same in
-            small_back n u s t (storage_of s inside) s_small on.low at (t_words ∙ sym words) index
-        | inr (large, same) ↦
-            let one = same_from_cells n storages s t stand.laid_out inside on.inside same in
-            subst (λ (x : Storage). PointsInto u x) (sym one) (run_back n u t (storage_of t on.inside) large on.low on.stands)
-      ]
-
   pub points_into_iff : (u : ℕ) (s : Storage) → Contains storages s → PointsInto u s ↔ (cell_on pages u ≡ Some (cell_of_storage s))
-  points_into_iff u s inside = (points_into_on_pages pages storages stand u s inside, cell_has_value u s inside)
+  points_into_iff u s inside = (
+    points_into_on_pages pages storages stand u s inside,
+    λ is.
+        let (t, on) = cell_is_on pages storages stand u (cell_of_storage s) is in
+        cell_has_value (length pages) u storages s t stand.laid_out inside on,
+  )
 
   -- a cell whose used bit is set, of a block of which t is a cell
   used_cell_of_block : (u : ℕ) (k : Cell) (t : Storage) → IsCellOn storages u k t → page_at_address u < length pages → is_small t ≡ true

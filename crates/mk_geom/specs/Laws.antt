@@ -72,6 +72,14 @@ PointsIntoCell =
     → IsStorage pages s → ShowsStorage s (page_at_address u) header → PointsInto u s
     → cell_at pages header u ≡ Some (cell_of_storage s)
 
+-- A value that points into a storage's cell points into the storage, where its page shows one that stands there.
+abbrev pub CellHasPointers : Type 0
+CellHasPointers =
+    (pages header u : ℕ) (storages : List Storage) (s t : Storage)
+    → AreLaidOut pages storages → Contains storages s → Contains storages t
+    → stands_on (page_at_address u) t ≡ true → ShowsStorage t (page_at_address u) header
+    → cell_at pages header u ≡ Some (cell_of_storage s) → PointsInto u s
+
 -- On pages that stand for storages a value points into one of them exactly where it points into its cell.
 abbrev pub PointersHitCells : Type 0
 PointersHitCells =

@@ -1,6 +1,6 @@
 //! Laws of pages and the storages that they stand for: facts alone, with no code. A proof that needs a
 //! law calls its function, or cites the lemma that proves it.
-ghost use Rattle.mk_geom.specs.Laws.{PagesShowUses, PagesShowPlaces, PagesShowCensus, PagesHoldMappedWords, PagesHaveHeaderWords, FreePagesStandForNothing, CellPageHasWords, RunPageHasWords, BarePageIsFree, PointsIntoCell, PointersHitCells, UsedCellHasStorage, CellsTellStoragesApart, AddressesOfWordsPointIn, CellHasFirstWord, FoundCellIsPlace, FoundRunIsPlace};
+ghost use Rattle.mk_geom.specs.Laws.{PagesShowUses, PagesShowPlaces, PagesShowCensus, PagesHoldMappedWords, PagesHaveHeaderWords, FreePagesStandForNothing, CellPageHasWords, RunPageHasWords, BarePageIsFree, PointsIntoCell, CellHasPointers, PointersHitCells, UsedCellHasStorage, CellsTellStoragesApart, AddressesOfWordsPointIn, CellHasFirstWord, FoundCellIsPlace, FoundRunIsPlace};
 
 /// Place, fits, census and the words that are held may be read off the pages as they are.
 pub fn pages_show_what_stands_there()
@@ -18,9 +18,11 @@ pub fn pages_have_the_words_of_storages()
     ensures bare { BarePageIsFree }
 {}
 
-/// What points into a storage points into its cell, and on pages that stand for storages nothing else does.
+/// What points into a storage points into its cell, and nothing else does, where the header of its page shows
+/// what stands there. So it is on pages that stand for storages.
 pub fn a_storage_has_its_cell()
     ensures points_into { PointsIntoCell }
+    ensures points_back { CellHasPointers }
     ensures on_pages { PointersHitCells }
     ensures used { UsedCellHasStorage }
     ensures first_word { CellHasFirstWord }
