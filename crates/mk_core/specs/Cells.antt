@@ -7,7 +7,7 @@ use Rattle.mk_geom.specs.declared.pages.Page.{Page}
 use Rattle.mk_geom.specs.Storages.{free_page}
 use Rattle.mk_geom.specs.Classes.{cells_of, class_words_of}
 use Rattle.mk_geom.specs.Headers.{header_of}
-use Rattle.mk_geom.specs.Addresses.{cell_at, page_at_address}
+use Rattle.mk_geom.specs.Addresses.{cell_at, page_at_address, head_page_under}
 use Rattle.mk_core.specs.declared.seats.RunPages.{RunPages}
 use Rattle.mk_core.specs.Words.{Words, header_at, used_at}
 use Rattle.mk_core.specs.Bits.{has_bit, without}
@@ -55,13 +55,9 @@ is_unmapped_header _ = false
 abbrev pub header_in : Words → ℕ → Option Header
 header_in w p = header_of (header_at w p)
 
-abbrev pub head_behind : Option Header → ℕ → ℕ
-head_behind (Some (Later distance mapped)) page = page - distance
-head_behind _ page = page
-
 -- the head page of a page's run; another page is its own
 abbrev pub head_page : Words → ℕ → ℕ
-head_page w p = head_behind (header_in w p) p
+head_page w p = head_page_under (header_in w p) p
 
 -- the bits of a page's cells
 abbrev pub cell_bits : Words → ℕ → ℕ

@@ -1,10 +1,10 @@
 -- What an address in a storage points into, and in which storage an address is that points into its cell.
-use Rattle.std.proofs.Common.{◌≡◌, ℕ, zero, suc, ◌+◌, ◌-◌, ◌*◌, ◌/◌, ◌%◌, ◌<◌, ◌≤◌, Bool, true, false, nat_le, nat_lt, Some, None, inl, inr, refl, sym, ◌∙◌, ap, subst, arith, le-leb, le_refl, option_and_then, ◌↔◌}
+use Rattle.std.proofs.Common.{Option, ◌≡◌, ℕ, zero, suc, ◌+◌, ◌-◌, ◌*◌, ◌/◌, ◌%◌, ◌<◌, ◌≤◌, Bool, true, false, nat_le, nat_lt, Some, None, inl, inr, refl, sym, ◌∙◌, ap, subst, arith, le-leb, le_refl, option_and_then, ◌↔◌}
 use Rattle.std.proofs.lemmas.Bool.{cases_Bool, and_from, cond-true, cond-false, lt-ltb, lt-leb}
 use Rattle.std.proofs.lemmas.Nat.{mul-le, div-mul-add}
 use Rattle.mk_geom.specs.declared.addresses.Cell.{Cell}
 use Rattle.mk_geom.specs.declared.headers.Header.{Header}
-use Rattle.mk_geom.specs.Addresses.{address_of, heap_word_at, is_heap_address, page_at_address, word_at_address, cell_of_block, run_before, cell_under, cell_at}
+use Rattle.mk_geom.specs.Addresses.{address_of, heap_word_at, is_heap_address, page_at_address, word_at_address, cell_of_block, cell_under, cell_at}
 use Rattle.mk_geom.specs.Classes.{class_words_of, cells_of}
 use Rattle.mk_geom.specs.Headers.{word_of, header_of}
 use Rattle.mk_geom.specs.Storages.{Storage, is_small, first_page, stands_on, class_of_storage, block_header, run_header, IsCell, IsStorage}
@@ -27,15 +27,17 @@ block_under : (class : ℕ) (leaf : Bool) (page word : ℕ) → cell_under (bloc
 block_under class true page word = refl
 block_under class false page word = refl
 
-run_under : (pages : ℕ) (mapped leaf : Bool) (distance page word : ℕ) → cell_under (run_header pages mapped leaf distance) page word ≡ run_before distance page
-run_under pages true true zero page word = refl
-run_under pages true false zero page word = refl
-run_under pages false true zero page word = refl
-run_under pages false false zero page word = refl
-run_under pages mapped leaf (suc distance) page word = refl
+own_page : (page : ℕ) → ◌≡◌ {A = Option Cell} (Some (record { page = page; index = 0 })) (Some (record { page = page - 0; index = 0 }))
+own_page page = let same : page ≡ page - 0 = omega arith in ap (λ p. Some (record { page = p; index = 0 })) same
 
-run_found : (distance page : ℕ) → distance ≤ page → run_before distance page ≡ Some (record { page = page - distance; index = 0 })
-run_found distance page near = cond-true (nat_le distance page) (Some (record { page = page - distance; index = 0 })) None (le-leb distance page near)
+run_under : (pages : ℕ) (mapped leaf : Bool) (distance page word : ℕ) → distance ≤ page
+    → cell_under (run_header pages mapped leaf distance) page word ≡ Some (record { page = page - distance; index = 0 })
+run_under pages true true zero page word near = own_page page
+run_under pages true false zero page word near = own_page page
+run_under pages false true zero page word near = own_page page
+run_under pages false false zero page word near = own_page page
+run_under pages mapped leaf (suc distance) page word near =
+    cond-true (nat_le (suc distance) page) (Some (record { page = page - suc distance; index = 0 })) None (le-leb (suc distance) page near)
 
 -- What an address points into whose page shows a storage that stands there.
 module _ (pages header u : ℕ) (s : Storage) (is : IsStorage pages s) (low : 65536 ≤ u)
@@ -63,8 +65,8 @@ module _ (pages header u : ℕ) (s : Storage) (is : IsStorage pages s) (low : 65
       let back : page - (page - first_page s) ≡ first_page s = omega arith in
       let in_range = run_in_range (s.words / 64) shows.0 s.leaf (page - first_page s) (omega (arith, run.words, run.some)) (omega (arith, run.words, run.most)) near in
       looked_up pages header u h low page_within (ap header_of header_is ∙ header_of-word_of h in_range)
-      ∙ run_under (s.words / 64) shows.0 s.leaf (page - first_page s) page (word_at_address u)
-      ∙ run_found (page - first_page s) page (omega arith) ∙ ap (λ (p : ℕ). Some (record { page = p; index = 0 })) back
+      ∙ run_under (s.words / 64) shows.0 s.leaf (page - first_page s) page (word_at_address u) (omega arith)
+      ∙ ap (λ (p : ℕ). Some (record { page = p; index = 0 })) back
 
 -- where a cell begins on its page, and its words, by the class that it has from its words
 pub first_in_page : (s : Storage) (cell : IsCell s) → s.first % 64 ≡ cell.index * class_words_of (class_of_storage s)

@@ -32,19 +32,24 @@ cell_of_block class page word =
     then Some (record { page = page; index = word / class_words_of class })
     else None
 
--- the run whose head lies so many pages before the page
-abbrev pub run_before : ℕ → ℕ → Option Cell
-run_before distance page =
-    if nat_le distance page then Some (record { page = page - distance; index = 0 }) else None
+-- the head page of a page's run, which a later page lies behind; another page is its own
+abbrev pub head_page_under : Option Header → ℕ → ℕ
+head_page_under (Some (Later distance mapped)) page = page - distance
+head_page_under _ page = page
+
+-- a run, which is cell 0 of its head page
+abbrev pub run_of_page : Header → ℕ → Cell
+run_of_page header page = record { page = head_page_under (Some header) page; index = 0 }
 
 -- the cell or run that has a word of a page of this header
 abbrev pub cell_under : Header → ℕ → ℕ → Option Cell
 cell_under Free page word = None
 cell_under (Block class) page word = cell_of_block class page word
-cell_under (Run pages mapped) page word = run_before 0 page
-cell_under (Later distance mapped) page word = run_before distance page
+cell_under (Run pages mapped) page word = Some (run_of_page (Run pages mapped) page)
+cell_under (Later distance mapped) page word =
+    if nat_le distance page then Some (run_of_page (Later distance mapped) page) else None
 cell_under (LeafBlock class) page word = cell_of_block class page word
-cell_under (LeafRun pages) page word = run_before 0 page
+cell_under (LeafRun pages) page word = Some (run_of_page (LeafRun pages) page)
 
 -- what the address points into, in a heap of so many pages, where its page has this header word
 abbrev pub cell_at : ℕ → ℕ → ℕ → Option Cell
