@@ -1,6 +1,6 @@
 -- A narrow script runs on the plain heap as on the one that never reuses storage.
 use Rattle.std.proofs.Common.{◌≡◌, ℕ, ◌*◌, true, List, [], ◌∷◌, ◌++◌, length, refl, ap, sym, ◌∙◌, subst, inl, inr, arith}
-use Rattle.std.specs.Prelude.{slice_index, replicate, Some, Option}
+use Rattle.std.specs.Prelude.{slice_index, replicate, Some}
 use Rattle.std.proofs.lemmas.Bool.{cases_lt}
 use Rattle.std.proofs.lemmas.List.{length-replicate, get_or-replicate, get_or_past, map-append}
 use Rattle.mk_never.specs.declared.types.Kind.{Kind}
@@ -13,7 +13,7 @@ use Rattle.mk_core.specs.Decided.{flagged}
 use Rattle.mk_core.specs.Image.{answer_of, answers_of}
 use Rattle.mk_script.specs.declared.items.Item.{Item}
 use Rattle.mk_script.specs.declared.items.Item.TheVariants.{New, Getn, Setn}
-use Rattle.mk_check.specs.Blocks.{Blocks, Line, blocks_from, script_of}
+use Rattle.mk_check.specs.Blocks.{blocks_from, script_of}
 use Rattle.mk_check.specs.Declarations.{types_of, pages_of}
 use Rattle.mk_check.specs.Feed.{Fed, op_of, begun, feed, has_ended}
 use Rattle.mk_check.specs.Feeding.{FeedState, script_scope, next_op, FeedStandsFor, TakesAnswer}
