@@ -4,6 +4,8 @@ pub mod Bits
 pub mod BitsWithout
 pub mod Conditions
 pub mod Histories
+pub mod EventsAt
+pub mod EvaluatedHistories
 pub mod HistoryParts
 pub mod LayoutLemmas
 pub mod Lengths

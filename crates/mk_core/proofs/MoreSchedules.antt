@@ -10,7 +10,6 @@ use Rattle.mk_core.specs.declared.events.Event.{Event}
 use Rattle.mk_core.specs.Bounded.{all_below}
 use Rattle.mk_core.specs.Cells.{pointed_cell}
 use Rattle.mk_core.specs.StopConditions.{may_turn_black}
-use Rattle.mk_core.specs.Enabled.{meets_own}
 use Rattle.mk_core.proofs.Schedules.{by, c0, host, fault, first_fault, one_page, pointer_page}
 
 -- Two objects fill the page. One is freed, but a register still points to it, so a New is refused behind a cycle of its
@@ -33,7 +32,7 @@ full_then_reused =
     step.Used 0 3 ∷ step.Grant ∷ step.Tally tally.Held 64 ∷ step.Give ∷ [])
 
 pub no_fault_full : first_fault one_page full_then_reused ≡ None
-unfolding first_fault fault meets_own by c0 host all_below pointed_cell may_turn_black one_page full_then_reused
+unfolding first_fault fault by c0 host all_below pointed_cell may_turn_black one_page full_then_reused
 no_fault_full = refl
 
 unfoldable pub two_pages : Config
@@ -58,7 +57,7 @@ a_quarter_and_all =
     ++ by c0 (step.Take (Some (op.Free 1)) ∷ step.Reg ∷ step.Quar 1 1 ∷ step.Tally tally.Fresh 8 ∷ step.Give ∷ [])
 
 pub no_fault_quarter : first_fault two_pages a_quarter_and_all ≡ None
-unfolding first_fault fault meets_own by c0 all_below pointed_cell two_pages a_quarter_and_all
+unfolding first_fault fault by c0 all_below pointed_cell two_pages a_quarter_and_all
 no_fault_quarter = refl
 
 -- Twice the pointer word of one object is exchanged for null: it is null only the first time.
@@ -74,7 +73,7 @@ exchanged =
     step.Leave ∷ [])
 
 pub no_fault_exchanged : first_fault pointer_page exchanged ≡ None
-unfolding first_fault fault meets_own by c0 all_below pointed_cell pointer_page exchanged
+unfolding first_fault fault by c0 all_below pointed_cell pointer_page exchanged
 no_fault_exchanged = refl
 
 -- In the stop the host looks at the pointer word of an object that has no mark, and marks by it.
@@ -85,5 +84,5 @@ unfoldable pub sweeping_mark : Event
 sweeping_mark = record { seat = host; step = step.Mark 0 2 }
 
 pub no_fault_swept : first_fault pointer_page (before_the_sweep ++ sweeping_mark ∷ []) ≡ None
-unfolding first_fault fault meets_own by c0 host all_below pointed_cell pointer_page exchanged before_the_sweep sweeping_mark
+unfolding first_fault fault by c0 host all_below pointed_cell pointer_page exchanged before_the_sweep sweeping_mark
 no_fault_swept = refl

@@ -15,7 +15,7 @@ use Rattle.mk_core.specs.declared.events.Event.{Event}
 use Rattle.mk_core.specs.Bounded.{all_below}
 use Rattle.mk_core.specs.Cells.{pointed_cell}
 use Rattle.mk_core.specs.StopConditions.{may_turn_black}
-use Rattle.mk_core.specs.Enabled.{meets_own, failing}
+use Rattle.mk_core.specs.Enabled.{failing}
 use Rattle.mk_core.specs.History.{World, first_world, world_behind, left_from, calls_from, calls}
 use Rattle.mk_core.specs.Decided.{answered}
 
@@ -66,7 +66,7 @@ freed_after_begin =
     ++ by c0 (step.Enter (op.IsNull 2) ∷ step.Reg ∷ step.Leave ∷ [])
 
 pub no_fault_freed : first_fault one_page freed_after_begin ≡ None
-unfolding first_fault fault meets_own by c0 host all_below pointed_cell one_page freed_after_begin
+unfolding first_fault fault by c0 host all_below pointed_cell one_page freed_after_begin
 no_fault_freed = refl
 
 pub answers_freed : answered (calls one_page freed_after_begin) ≡ answer.Done ∷ answer.Done ∷ answer.Done ∷ answer.Done ∷ answer.Done ∷ answer.Done ∷ answer.Done ∷ answer.Num 0 ∷ []
@@ -107,5 +107,5 @@ blackened_before_the_move =
     ++ by c0 (step.Enter (op.GetNum 2 1) ∷ step.Reg ∷ step.Probe ∷ step.Read ∷ step.Leave ∷ [])
 
 pub no_fault_blackened : first_fault pointer_page blackened_before_the_move ≡ None
-unfolding first_fault fault meets_own by c0 m0 host all_below pointed_cell may_turn_black pointer_page blackened_before_the_move
+unfolding first_fault fault by c0 m0 host all_below pointed_cell may_turn_black pointer_page blackened_before_the_move
 no_fault_blackened = refl
