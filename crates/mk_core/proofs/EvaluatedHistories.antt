@@ -1,5 +1,5 @@
 -- Each of the schedules is a history.
-use Rattle.std.proofs.Common.{◌≡◌, ℕ, ◌+◌, ◌≤◌, ◌<◌, arith, true, false, List, [], ◌∷◌, ◌++◌, ◌==◌, if◌then◌else◌, Option, Some, None, refl, replicate, eqb-true, Bool}
+use Rattle.std.proofs.Common.{◌≡◌, ℕ, ◌+◌, ◌≤◌, ◌<◌, arith, true, false, List, [], ◌∷◌, ◌++◌, ◌==◌, if◌then◌else◌, Option, Some, None, refl, replicate, drop, eqb-true, Bool}
 use Rattle.std.specs.Prelude.{⊤}
 use Rattle.mk_never.specs.declared.types.Kind.TheVariants.{Num, To}
 use Rattle.std.proofs.lemmas.List.Elements.{All-nil, All-cons, All-replicate}
@@ -10,8 +10,10 @@ use Rattle.mk_core.specs.Enabled.{failing}
 use Rattle.mk_core.specs.History.{left_from, calls_from, World, first_world, world_behind, AreEnabledFrom, AreEnabled, IsHistory, CallsAreAdmitted}
 use Rattle.mk_core.specs.Bounded.{all_below}
 use Rattle.mk_core.specs.Cells.{pointed_cell}
+use Rattle.mk_core.specs.StopConditions.{may_turn_black}
 use Rattle.mk_core.proofs.Schedules.{by, c0, m0, host, fault, first_fault, one_page, pointer_page, freed_after_begin, blackened_before_the_move, no_fault_freed, no_fault_blackened}
-use Rattle.mk_core.proofs.MoreSchedules.{two_pages, full_then_reused, a_quarter_and_all, exchanged, no_fault_full, no_fault_quarter, no_fault_exchanged}
+use Rattle.mk_core.proofs.MoreSchedules.{two_pages, full_then_reused, a_quarter_and_all, exchanged, before_the_sweep, sweeping_mark, no_fault_full, no_fault_quarter, no_fault_swept}
+use Rattle.mk_core.proofs.HistoryParts.{earlier_part_is_history}
 
 -- Where no fault is found, each event is enabled.
 
@@ -100,3 +102,75 @@ freed_is_history =
       enabled = enabled one_page freed_after_begin no_fault_freed;
       admitted = freed_is_admitted;
     }
+
+blackened_is_admitted : CallsAreAdmitted pointer_page blackened_before_the_move
+unfolding by c0 m0 host all_below pointed_cell may_turn_black pointer_page blackened_before_the_move left_from calls_from
+blackened_is_admitted =
+    (record { of_a_caller = omega arith; in_range = (omega arith, omega arith); access = tt; store = tt },
+    (record { of_a_caller = omega arith; in_range = (omega arith, omega arith); access = tt; store = tt },
+    (record { of_a_caller = omega arith; in_range = (omega arith, omega arith); access = tt; store = tt },
+    (record { of_a_caller = omega arith; in_range = (omega arith, omega arith); access = (omega arith, refl); store = (omega arith, (refl, refl)) },
+    (record { of_a_caller = omega arith; in_range = omega arith; access = (omega arith, refl); store = tt },
+    (record { of_a_caller = omega arith; in_range = omega arith; access = tt; store = refl },
+    (record { of_a_caller = omega arith; in_range = omega arith; access = tt; store = tt },
+    (record { of_a_caller = omega arith; in_range = (omega arith, omega arith); access = (omega arith, refl); store = tt },
+    (record { of_a_caller = omega arith; in_range = (omega arith, omega arith); access = (omega arith, refl); store = (omega arith, (refl, refl)) },
+    (record { of_a_caller = omega arith; in_range = (omega arith, omega arith); access = (omega arith, refl); store = (omega arith, tt) },
+    (record { of_a_caller = omega arith; in_range = omega arith; access = tt; store = tt },
+    (record { of_a_caller = omega arith; in_range = (omega arith, omega arith); access = (omega arith, refl); store = tt },
+    (record { of_a_caller = omega arith; in_range = omega arith; access = (omega arith, refl); store = tt }, tt)))))))))))))
+
+pub blackened_is_history : IsHistory pointer_page blackened_before_the_move
+blackened_is_history =
+    record {
+      within_limits = pointer_page_limits;
+      enabled = enabled pointer_page blackened_before_the_move no_fault_blackened;
+      admitted = blackened_is_admitted;
+    }
+
+full_is_admitted : CallsAreAdmitted one_page full_then_reused
+unfolding by c0 all_below pointed_cell may_turn_black one_page full_then_reused left_from calls_from
+full_is_admitted =
+    (record { of_a_caller = omega arith; in_range = (omega arith, omega arith); access = tt; store = tt },
+    (record { of_a_caller = omega arith; in_range = (omega arith, omega arith); access = tt; store = tt },
+    (record { of_a_caller = omega arith; in_range = omega arith; access = tt; store = refl },
+    (record { of_a_caller = omega arith; in_range = (omega arith, omega arith); access = tt; store = tt },
+    (record { of_a_caller = omega arith; in_range = omega arith; access = tt; store = tt },
+    (record { of_a_caller = omega arith; in_range = (omega arith, omega arith); access = tt; store = tt }, tt))))))
+
+pub full_is_history : IsHistory one_page full_then_reused
+full_is_history =
+    record { within_limits = one_page_limits; enabled = enabled one_page full_then_reused no_fault_full; admitted = full_is_admitted }
+
+quarter_is_admitted : CallsAreAdmitted two_pages a_quarter_and_all
+unfolding by c0 all_below pointed_cell two_pages a_quarter_and_all left_from calls_from
+quarter_is_admitted =
+    (record { of_a_caller = omega arith; in_range = (omega arith, omega arith); access = tt; store = tt },
+    (record { of_a_caller = omega arith; in_range = (omega arith, omega arith); access = tt; store = tt },
+    (record { of_a_caller = omega arith; in_range = omega arith; access = tt; store = refl },
+    (record { of_a_caller = omega arith; in_range = omega arith; access = tt; store = refl }, tt))))
+
+pub quarter_is_history : IsHistory two_pages a_quarter_and_all
+quarter_is_history =
+    record { within_limits = two_pages_limits; enabled = enabled two_pages a_quarter_and_all no_fault_quarter; admitted = quarter_is_admitted }
+
+swept_is_admitted : CallsAreAdmitted pointer_page (before_the_sweep ++ sweeping_mark ∷ [])
+unfolding by c0 host all_below pointed_cell pointer_page exchanged before_the_sweep sweeping_mark left_from calls_from
+swept_is_admitted =
+    (record { of_a_caller = omega arith; in_range = (omega arith, omega arith); access = tt; store = tt },
+    (record { of_a_caller = omega arith; in_range = (omega arith, omega arith); access = tt; store = tt },
+    (record { of_a_caller = omega arith; in_range = (omega arith, omega arith, omega arith); access = (omega arith, refl); store = (omega arith, (tt, (refl, refl))) },
+    (record { of_a_caller = omega arith; in_range = (omega arith, omega arith, omega arith); access = (omega arith, refl); store = (omega arith, (tt, (refl, refl))) }, tt))))
+
+pub swept_is_history : IsHistory pointer_page (before_the_sweep ++ sweeping_mark ∷ [])
+swept_is_history =
+    record {
+      within_limits = pointer_page_limits;
+      enabled = enabled pointer_page (before_the_sweep ++ sweeping_mark ∷ []) no_fault_swept;
+      admitted = swept_is_admitted;
+    }
+
+-- so is its earlier part
+pub exchanged_is_history : IsHistory pointer_page exchanged
+unfolding before_the_sweep exchanged by c0
+exchanged_is_history = earlier_part_is_history pointer_page exchanged (drop 27 (before_the_sweep ++ sweeping_mark ∷ [])) swept_is_history

@@ -1,12 +1,37 @@
 -- What is to be shown at each event of a kind in a list, as a product of one part for each of them.
-use Rattle.std.proofs.Common.{◌≡◌, ℕ, Bool, true, false, List, [], ◌∷◌, ◌++◌, ◌==◌, if◌then◌else◌, Option, Some, None, refl, sym, subst, append-nil, append_assoc}
-use Rattle.std.specs.Prelude.{⊤}
+use Rattle.std.proofs.Common.{◌≡◌, ℕ, ◌+◌, Bool, ◌&&◌, Option, true, false, List, [], ◌∷◌, ◌++◌, take, drop, sym, subst, append-nil, append_assoc}
+use Rattle.std.specs.Prelude.{⊤, slice_index_or}
+use Rattle.std.specs.List.{list_any}
+use Rattle.mk_never.specs.declared.operations.Op.{Op}
 use Rattle.mk_core.specs.declared.config.Config.{Config}
+use Rattle.mk_core.specs.declared.events.Seat.{Seat}
+use Rattle.mk_core.specs.declared.events.Seat.TheVariants as seat
 use Rattle.mk_core.specs.declared.events.Step.{Step}
+use Rattle.mk_core.specs.declared.events.Step.TheVariants as step
 use Rattle.mk_core.specs.declared.events.Event.{Event}
-use Rattle.mk_core.specs.Enabled.{failing}
-use Rattle.mk_core.specs.History.{World, world_behind, AreEnabledFrom, AreEnabled, first_world}
-use Rattle.mk_core.proofs.Schedules.{fault, first_fault}
+use Rattle.mk_core.specs.Growing.{is_same_seat}
+use Rattle.mk_core.specs.History.{left}
+use Rattle.mk_core.specs.Cycles.{At, is_give, TurnOf}
+
+-- so many events from one on, counted from 0; and that one
+unfoldable pub events_from : ℕ → ℕ → List Event → List Event
+events_from first count es = take count (drop first es)
+
+unfoldable pub event_number : ℕ → List Event → Event
+event_number n es = slice_index_or es n (record { seat = seat.Host; step = step.Give })
+
+-- an event of a kind by its number, and a turn by that of its `take`
+
+unfoldable pub at_number : (kind : Step → Bool) (n : ℕ) (es : List Event) → es ≡ take n es ++ event_number n es ∷ drop (n + 1) es
+    → kind (event_number n es).step ≡ true → At kind es
+at_number kind n es is of_kind =
+    record { before = take n es; event = event_number n es; behind = drop (n + 1) es; is = is; of_kind = of_kind }
+
+unfoldable pub turn_number : (c : Config) (s : Seat) (n : ℕ) (o : Option Op) (es : List Event)
+    → es ≡ take n es ++ record { seat = s; step = step.Take o } ∷ drop (n + 1) es → (left c (take n es)).now.words.turn ≡ 0
+    → list_any (λ (e : Event). is_same_seat s e.seat && is_give e.step) (drop (n + 1) es) ≡ false → TurnOf c s es
+turn_number c s n o es is took goes_on =
+    record { before = take n es; op = o; behind = drop (n + 1) es; is = is; took = took; goes_on = goes_on }
 
 -- where the test holds, the first is asked too
 unfoldable pub Also : Bool → Type 0 → Type 0 → Type 0

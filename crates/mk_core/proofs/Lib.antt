@@ -5,7 +5,10 @@ pub mod BitsWithout
 pub mod Conditions
 pub mod Histories
 pub mod EventsAt
+pub mod EvaluatedAnswers
+pub mod EvaluatedCounts
 pub mod EvaluatedHistories
+pub mod EvaluatedPlaces
 pub mod HistoryParts
 pub mod LayoutLemmas
 pub mod Lengths
