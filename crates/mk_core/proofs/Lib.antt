@@ -6,7 +6,10 @@ pub mod Conditions
 pub mod Histories
 pub mod EventsAt
 pub mod EvaluatedAnswers
+pub mod EvaluatedCalls
 pub mod EvaluatedCounts
+pub mod EvaluatedCycles
+pub mod EvaluatedExchanges
 pub mod EvaluatedHistories
 pub mod EvaluatedPlaces
 pub mod HistoryParts
