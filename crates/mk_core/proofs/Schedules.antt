@@ -15,36 +15,36 @@ use Rattle.mk_core.specs.declared.events.Event.{Event}
 use Rattle.mk_core.specs.Bounded.{all_below}
 use Rattle.mk_core.specs.Cells.{pointed_cell}
 use Rattle.mk_core.specs.StopConditions.{may_turn_black}
-use Rattle.mk_core.specs.Enabled.{meets_own, failing}
+use Rattle.mk_core.specs.Enabled.{failing}
 use Rattle.mk_core.specs.History.{World, first_world, world_behind, left_from, calls_from, calls}
 use Rattle.mk_core.specs.Decided.{answered}
 
-by : Seat → List Step → List Event
+unfoldable pub by : Seat → List Step → List Event
 by s steps = map (λ (x : Step). record { seat = s; step = x }) steps
 
-c0 : Seat
+unfoldable pub c0 : Seat
 c0 = seat.Caller 0
 
-m0 : Seat
+unfoldable pub m0 : Seat
 m0 = seat.Marker 0
 
-host : Seat
+unfoldable pub host : Seat
 host = seat.Host
 
 -- the first condition that fails along the events, and how many events stand before it
-fault : Config → ℕ → World → List Event → Option (ℕ × ℕ)
+unfoldable pub fault : Config → ℕ → World → List Event → Option (ℕ × ℕ)
 fault c n w [] = None
 fault c n w (e ∷ es) =
     if failing c w.now e == 0 then fault c (n + 1) (world_behind c w e) es else Some (n, failing c w.now e)
 
-first_fault : Config → List Event → Option (ℕ × ℕ)
+unfoldable pub first_fault : Config → List Event → Option (ℕ × ℕ)
 first_fault c es = fault c 0 (first_world c) es
 
-one_page : Config
+unfoldable pub one_page : Config
 one_page = record { pages = 1; resident = 1; callers = 1; markers = 0; types = replicate 32 Num ∷ []; globals = [] }
 
 -- Two objects are freed, one before a cycle begins and one behind its begin. The first alone is released by it.
-freed_after_begin : List Event
+unfoldable pub freed_after_begin : List Event
 freed_after_begin =
     by c0 (step.Take (Some (op.New 0 0 false)) ∷ step.Head 0 125 ∷ step.Used 0 1 ∷ step.Grant ∷ step.Tally
     tally.Held 32 ∷ step.Give ∷ [])
@@ -65,19 +65,19 @@ freed_after_begin =
     32 ∷ step.Give ∷ [])
     ++ by c0 (step.Enter (op.IsNull 2) ∷ step.Reg ∷ step.Leave ∷ [])
 
-no_fault_freed : first_fault one_page freed_after_begin ≡ None
-unfolding first_fault fault meets_own by c0 host all_below pointed_cell one_page freed_after_begin
+pub no_fault_freed : first_fault one_page freed_after_begin ≡ None
+unfolding first_fault fault by c0 host all_below pointed_cell one_page freed_after_begin
 no_fault_freed = refl
 
-answers_freed : answered (calls one_page freed_after_begin) ≡ answer.Done ∷ answer.Done ∷ answer.Done ∷ answer.Done ∷ answer.Done ∷ answer.Done ∷ answer.Done ∷ answer.Num 0 ∷ []
+pub answers_freed : answered (calls one_page freed_after_begin) ≡ answer.Done ∷ answer.Done ∷ answer.Done ∷ answer.Done ∷ answer.Done ∷ answer.Done ∷ answer.Done ∷ answer.Num 0 ∷ []
 unfolding by c0 host all_below pointed_cell one_page freed_after_begin left_from calls_from
 answers_freed = refl
 
-pointer_page : Config
+unfoldable pub pointer_page : Config
 pointer_page = record { pages = 1; resident = 1; callers = 1; markers = 0; types = (To 0 0 ∷ Num ∷ []) ∷ []; globals = [] }
 
 -- A marker blackens an object, and then a pointer to a freed object moves into it. The dirty page is scanned again.
-blackened_before_the_move : List Event
+unfoldable pub blackened_before_the_move : List Event
 blackened_before_the_move =
     by c0 (step.Take (Some (op.New 0 0 false)) ∷ step.Head 0 1 ∷ step.Used 0 1 ∷ step.Grant ∷ step.Tally
     tally.Held 2 ∷ step.Give ∷ [])
@@ -106,6 +106,6 @@ blackened_before_the_move =
     ++ by c0 (step.Enter (op.GetPtr 2 0 0) ∷ step.Reg ∷ step.Probe ∷ step.Read ∷ step.Reg ∷ step.Leave ∷ [])
     ++ by c0 (step.Enter (op.GetNum 2 1) ∷ step.Reg ∷ step.Probe ∷ step.Read ∷ step.Leave ∷ [])
 
-no_fault_blackened : first_fault pointer_page blackened_before_the_move ≡ None
-unfolding first_fault fault meets_own by c0 m0 host all_below pointed_cell may_turn_black pointer_page blackened_before_the_move
+pub no_fault_blackened : first_fault pointer_page blackened_before_the_move ≡ None
+unfolding first_fault fault by c0 m0 host all_below pointed_cell may_turn_black pointer_page blackened_before_the_move
 no_fault_blackened = refl

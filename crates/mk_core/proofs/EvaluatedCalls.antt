@@ -1,0 +1,73 @@
+-- Calls among events of other seats: gates that are held, what a call has found, and lists that go on.
+use Rattle.std.proofs.Common.{◌≡◌, ℕ, true, false, List, [], ◌∷◌, ◌++◌, take, None, refl, sym, subst}
+use Rattle.std.proofs.lemmas.Bool.{false≢true}
+use Rattle.std.proofs.lemmas.List.{append_cancel_left}
+use Rattle.mk_never.specs.declared.operations.Op.TheVariants as op
+use Rattle.mk_core.specs.declared.events.Word.TheVariants as word
+use Rattle.mk_core.specs.declared.events.Step.TheVariants as step
+use Rattle.mk_core.specs.declared.events.Event.{Event}
+use Rattle.mk_core.specs.Bounded.{all_below}
+use Rattle.mk_core.specs.Cells.{pointed_cell}
+use Rattle.mk_core.specs.StopConditions.{may_turn_black}
+use Rattle.mk_core.specs.History.{left_from}
+use Rattle.mk_core.specs.HeldGates.{is_gate_held_from, is_gate_held}
+use Rattle.mk_core.specs.Growing.{AreOfOthers, Grows, own_from, in_this_call}
+use Rattle.mk_core.proofs.EventsAt.{events_from}
+use Rattle.mk_core.proofs.Schedules.{by, c0, m0, host, fault, first_fault, one_page, pointer_page, freed_after_begin, blackened_before_the_move}
+
+-- In a call of its own a caller's gate isn't held. It is behind the host's `hold`, and no longer behind its `open`.
+pub not_held_in_call : is_gate_held one_page 0 (take 23 freed_after_begin) ≡ false
+unfolding by c0 host all_below pointed_cell one_page freed_after_begin is_gate_held_from
+not_held_in_call = refl
+
+pub held_by_the_host : is_gate_held one_page 0 (take 30 freed_after_begin) ≡ true
+unfolding by c0 host all_below pointed_cell one_page freed_after_begin is_gate_held_from
+held_by_the_host = refl
+
+pub held_no_longer : is_gate_held one_page 0 freed_after_begin ≡ false
+unfolding by c0 host all_below pointed_cell one_page freed_after_begin is_gate_held_from
+held_no_longer = refl
+
+-- The marker scans the first object while the caller loads the pointer in the second.
+unfoldable pub before_the_load : List Event
+before_the_load = take 41 blackened_before_the_move
+
+unfoldable pub load_among_a_scan : List Event
+load_among_a_scan =
+    by c0 (step.Enter (op.GetPtr 2 1 0) ∷ []) ++ by m0 (step.Attend ∷ step.Mlook (word.Head 0) ∷ [])
+    ++ by c0 (step.Reg ∷ []) ++ by m0 (step.Claim 0 0 ∷ step.Mload ∷ []) ++ by c0 (step.Probe ∷ [])
+    ++ by m0 (step.Mload ∷ step.Mblack ∷ step.Quit ∷ []) ++ by c0 (step.Read ∷ [])
+
+pub no_fault_among : first_fault pointer_page (before_the_load ++ load_among_a_scan) ≡ None
+unfolding first_fault fault by c0 m0 all_below pointed_cell may_turn_black pointer_page blackened_before_the_move before_the_load load_among_a_scan
+no_fault_among = refl
+
+-- The caller's own steps have found its gate free, the address of the second object, at heap word 2, the header of cells
+-- of 2 words, and the address of the third object, at heap word 4.
+pub found_in_the_call : in_this_call pointer_page c0 before_the_load load_among_a_scan
+    ≡ record { event = record { seat = c0; step = step.Enter (op.GetPtr 2 1 0) }; found = 0 }
+    ∷ record { event = record { seat = c0; step = step.Reg }; found = 65552 }
+    ∷ record { event = record { seat = c0; step = step.Probe }; found = 1 }
+    ∷ record { event = record { seat = c0; step = step.Read }; found = 65568 } ∷ []
+unfolding by c0 m0 all_below pointed_cell may_turn_black pointer_page blackened_before_the_move before_the_load load_among_a_scan left_from own_from
+found_in_the_call = refl
+
+-- The seven events of the marker are of others than the caller, and not of others than the marker.
+pub scan_is_of_others : AreOfOthers (c0 ∷ host ∷ []) (events_from 41 7 blackened_before_the_move)
+unfolding by c0 m0 host blackened_before_the_move events_from AreOfOthers
+scan_is_of_others = (refl, (refl, (refl, (refl, (refl, (refl, (refl, tt)))))))
+
+pub scan_is_of_the_marker : AreOfOthers (m0 ∷ []) (events_from 41 7 blackened_before_the_move) → ⊥
+unfolding by c0 m0 host blackened_before_the_move events_from AreOfOthers
+scan_is_of_the_marker h = false≢true (sym h.0)
+
+pub grows_for_the_caller : Grows (c0 ∷ host ∷ []) before_the_load (take 48 blackened_before_the_move)
+unfolding by c0 m0 host blackened_before_the_move before_the_load events_from
+grows_for_the_caller =
+    record { more = events_from 41 7 blackened_before_the_move; is = refl; of_others = scan_is_of_others }
+
+pub not_for_the_marker : Grows (m0 ∷ []) before_the_load (take 48 blackened_before_the_move) → ⊥
+unfolding by c0 m0 host blackened_before_the_move before_the_load events_from
+not_for_the_marker h =
+    scan_is_of_the_marker (subst (λ (es : List Event). AreOfOthers (m0 ∷ []) es)
+    (sym (append_cancel_left before_the_load (events_from 41 7 blackened_before_the_move) h.more h.is)) h.of_others)

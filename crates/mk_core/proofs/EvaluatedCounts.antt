@@ -1,0 +1,89 @@
+-- What the schedules leave, counted: allocations, held and fresh words, tallies, and frees that are due.
+use Rattle.std.proofs.Common.{◌≡◌, ℕ, ◌*◌, ◌<◌, true, false, List, [], ◌∷◌, ◌++◌, take, refl, ap, arith}
+use Rattle.std.proofs.lemmas.Bool.{false≢true}
+use Rattle.mk_core.specs.declared.events.Step.TheVariants as step
+use Rattle.mk_core.specs.declared.events.Event.{Event}
+use Rattle.mk_core.specs.Bounded.{all_below}
+use Rattle.mk_core.specs.Cells.{pointed_cell}
+use Rattle.mk_core.specs.StopConditions.{may_turn_black}
+use Rattle.mk_core.specs.Allocations.{PlacedAllocation, unreleased_storage, held_words, fresh_words_of}
+use Rattle.mk_core.specs.Cycles.{is_give}
+use Rattle.mk_core.specs.Counts.{ends, releases, fulls, TalliesAreTidy, IsTidy, TalliesAreExact, IsDue}
+use Rattle.mk_core.specs.History.{left_from, left, calls_from}
+use Rattle.mk_core.proofs.EventsAt.{AtEach, Also, at_each}
+use Rattle.mk_core.proofs.Schedules.{by, c0, host, one_page, freed_after_begin}
+use Rattle.mk_core.proofs.MoreSchedules.{two_pages, full_then_reused, a_quarter_and_all}
+
+-- Both freed objects are released at the end. The third has taken the cell of the first.
+pub allocations_freed : (left one_page freed_after_begin).allocations
+    ≡ record { base = 0; ty = 0; freed = true; fresh = false; released = true }
+    ∷ record { base = 32; ty = 0; freed = true; fresh = false; released = true }
+    ∷ record { base = 0; ty = 0; freed = false; fresh = false; released = false } ∷ []
+unfolding by c0 host all_below pointed_cell one_page freed_after_begin left_from
+allocations_freed = refl
+
+-- The third object alone is held, in 32 words.
+pub counts_at_the_end : (held_words one_page (left one_page freed_after_begin).allocations ≡ 32)
+    × (fresh_words_of one_page (left one_page freed_after_begin).allocations ≡ 0)
+unfolding by c0 host all_below pointed_cell one_page freed_after_begin left_from unreleased_storage
+counts_at_the_end = (refl, refl)
+
+-- Behind the event that frees the first object both are held, and it is fresh.
+pub counts_behind_first_free : (held_words one_page (left one_page (take 14 freed_after_begin)).allocations ≡ 64)
+    × (fresh_words_of one_page (left one_page (take 14 freed_after_begin)).allocations ≡ 32)
+unfolding by c0 host all_below pointed_cell one_page freed_after_begin left_from unreleased_storage
+counts_behind_first_free = (refl, refl)
+
+-- Behind the one that frees the second, behind the `begin`, the second alone is fresh.
+pub counts_behind_second_free : (held_words one_page (left one_page (take 20 freed_after_begin)).allocations ≡ 64)
+    × (fresh_words_of one_page (left one_page (take 20 freed_after_begin)).allocations ≡ 32)
+unfolding by c0 host all_below pointed_cell one_page freed_after_begin left_from unreleased_storage
+counts_behind_second_free = (refl, refl)
+
+-- Two cycles have ended, each with a released object, and no call was refused.
+pub tallies_freed : (ends freed_after_begin ≡ 2) × (releases (left one_page freed_after_begin).allocations ≡ 2)
+    × (fulls one_page freed_after_begin ≡ 0)
+unfolding by c0 host all_below pointed_cell one_page freed_after_begin left_from calls_from
+tallies_freed = (refl, refl, refl)
+
+-- Before the last `give` the tallies of held and fresh words are right. That of cycles isn't: it was never stored.
+pub freed_is_exact : TalliesAreExact one_page (take 55 freed_after_begin)
+unfolding by c0 host all_below pointed_cell one_page freed_after_begin left_from unreleased_storage
+freed_is_exact = record { held = refl; fresh = refl }
+
+pub freed_is_not_tidy : TalliesAreTidy one_page (take 55 freed_after_begin) → ⊥
+unfolding by c0 host all_below pointed_cell one_page freed_after_begin left_from
+freed_is_not_tidy h = let wrong : ◌≡◌ {A = ℕ} 0 2 = h.cycles in omega arith
+
+-- Here every tally is stored before its `give`.
+pub full_is_tidy : IsTidy one_page full_then_reused
+unfolding by c0 all_below pointed_cell may_turn_black one_page full_then_reused left_from calls_from AtEach Also
+full_is_tidy before e behind is give =
+    at_each is_give (λ (es : List Event) (x : Event). TalliesAreTidy one_page es) [] full_then_reused
+    (record { cycles = refl; released = refl; full = refl }, (record { cycles = refl; released = refl; full = refl },
+    (record { cycles = refl; released = refl; full = refl }, (record { cycles = refl; released = refl; full = refl },
+    (record { cycles = refl; released = refl; full = refl }, tt))))) before e behind is (ap is_give give)
+
+-- Of its two cycles the second releases an object, and one New is refused.
+pub tallies_full : (ends full_then_reused ≡ 2) × (releases (left one_page full_then_reused).allocations ≡ 1)
+    × (fulls one_page full_then_reused ≡ 1)
+unfolding by c0 all_below pointed_cell may_turn_black one_page full_then_reused left_from calls_from
+tallies_full = (refl, refl, refl)
+
+pub full_is_exact : TalliesAreExact one_page (take 56 full_then_reused)
+unfolding by c0 all_below pointed_cell may_turn_black one_page full_then_reused left_from unreleased_storage
+full_is_exact = record { held = refl; fresh = refl }
+
+-- 2 fresh words of 8 are a quarter, and no more: the first free isn't due. The second is, with 8 of 8.
+pub first_free_is_not_due : IsDue two_pages (take 14 a_quarter_and_all) (record { seat = c0; step = step.Quar 0 1 }) → ⊥
+unfolding by c0 all_below pointed_cell two_pages a_quarter_and_all left_from unreleased_storage
+first_free_is_not_due h = let wrong : 8 < 8 = h.quarter in omega arith
+
+pub second_free_is_due : IsDue two_pages (take 19 a_quarter_and_all) (record { seat = c0; step = step.Quar 1 1 })
+unfolding by c0 all_below pointed_cell two_pages a_quarter_and_all left_from unreleased_storage
+second_free_is_due = record { decides = refl; quarter = omega arith }
+
+-- The step that takes the snapshot frees nothing, though half of the held words is fresh behind it.
+pub snapshot_is_not_due : IsDue one_page (take 14 freed_after_begin) (record { seat = c0; step = step.Quar 0 4294967297 }) → ⊥
+unfolding by c0 host all_below pointed_cell one_page freed_after_begin left_from unreleased_storage
+snapshot_is_not_due h = let wrong : false ≡ true = h.decides in false≢true wrong

@@ -1,0 +1,98 @@
+-- The two exchanges of a schedule compare what the heap that never reuses storage compares.
+use Rattle.std.proofs.Common.{◌≡◌, ◌↔◌, ℕ, Bool, true, false, List, [], ◌∷◌, ◌++◌, take, Some, refl, sym, ◌∙◌, ap, subst, arith}
+use Rattle.std.proofs.lemmas.Bool.{false≢true}
+use Rattle.mk_never.specs.declared.values.Value.{Value}
+use Rattle.mk_never.specs.declared.values.Value.TheVariants.{Null, Ptr}
+use Rattle.mk_never.specs.declared.values.Target.{Target}
+use Rattle.mk_never.specs.declared.values.Target.TheVariants.{Nothing, Unmapped, WordOf}
+use Rattle.mk_never.specs.declared.operations.Op.{Op}
+use Rattle.mk_never.specs.declared.operations.Op.TheVariants as op
+use Rattle.mk_never.specs.NeverHeap.{register_at, word_at, target_of}
+use Rattle.mk_core.specs.declared.config.Config.{Config}
+use Rattle.mk_core.specs.declared.events.Answer.TheVariants as answer
+use Rattle.mk_core.specs.declared.events.Seat.TheVariants.{Caller}
+use Rattle.mk_core.specs.declared.events.Step.{Step}
+use Rattle.mk_core.specs.declared.events.Step.TheVariants as step
+use Rattle.mk_core.specs.declared.events.Event.{Event}
+use Rattle.mk_core.specs.Bounded.{all_below}
+use Rattle.mk_core.specs.Cells.{pointed_cell}
+use Rattle.mk_core.specs.Calls.{q_of, i_of, p_of}
+use Rattle.mk_core.specs.Accesses.{caller_number}
+use Rattle.mk_core.specs.Moments.{flight_of}
+use Rattle.mk_core.specs.Effects.{answer_decided}
+use Rattle.mk_core.specs.History.{left_from, left, calls_from, never_behind}
+use Rattle.mk_core.specs.Exchanges.{ComparesValues, ExchangesCompareValues}
+use Rattle.mk_core.proofs.EventsAt.{AtEach, Also, at_each}
+use Rattle.mk_core.proofs.Schedules.{by, c0, pointer_page}
+use Rattle.mk_core.proofs.MoreSchedules.{exchanged}
+
+abbrev pub is_cas : Step → Bool
+is_cas step.Cas = true
+is_cas _ = false
+
+number_in : Target → ℕ
+number_in (WordOf number place) = number
+number_in _ = 0
+
+place_in : Target → ℕ
+place_in (WordOf number place) = place
+place_in _ = 0
+
+-- what is compared, where the answer is 1
+abbrev Compares : Config → List Event → ℕ → ℕ → ℕ → ℕ → Type 0
+Compares c es k p number place =
+    (answer_decided c (left c es).now (record { seat = Caller k; step = step.Cas }) ≡ Some (answer.Num 1))
+    ↔ (word_at (never_behind c es) number place ≡ register_at (never_behind c es) k p)
+
+-- what is to be shown of an exchange by the caller of an event
+abbrev ExchangeCompares : Config → List Event → Event → Type 0
+ExchangeCompares c es e =
+    (k q i p r number : ℕ) → e ≡ record { seat = Caller k; step = step.Cas } → (flight_of (left c es).now (Caller k)).op ≡ op.CasPtr q i p r
+    → ComparesValues c es k q i p number
+
+-- The operation and the word that are compared are these alone.
+compares_there : (c : Config) (es : List Event) (q i p r number place : ℕ) → (flight_of (left c es).now (Caller 0)).op ≡ op.CasPtr q i p r
+    → target_of (never_behind c es) (register_at (never_behind c es) 0 q) i ≡ WordOf number place → Compares c es 0 p number place
+    → ExchangeCompares c es (record { seat = Caller 0; step = step.Cas })
+unfolding number_in place_in
+compares_there c es q i p r number place is there same k' q' i' p' r' number' is_event is' =
+    subst (λ (x : ℕ). (flight_of (left c es).now (Caller x)).op ≡ op.CasPtr q' i' p' r' → ComparesValues c es x q' i' p' number')
+    (ap (λ (e : Event). caller_number e.seat) is_event)
+    (λ (here : (flight_of (left c es).now (Caller 0)).op ≡ op.CasPtr q' i' p' r').
+    let both : op.CasPtr q i p r ≡ op.CasPtr q' i' p' r' = sym is ∙ here in
+    λ (place' : ℕ) (there' : target_of (never_behind c es) (register_at (never_behind c es) 0 q') i' ≡ WordOf number' place').
+    let moved : WordOf number place ≡ WordOf number' place' =
+      sym there ∙ ap (λ (o : Op). target_of (never_behind c es) (register_at (never_behind c es) 0 (q_of o)) (i_of o)) both ∙ there' in
+    subst (λ (x : ℕ). Compares c es 0 x number' place') (ap p_of both)
+    (subst (λ (x : ℕ). Compares c es 0 p x place') (ap number_in moved)
+    (subst (λ (x : ℕ). Compares c es 0 p number x) (ap place_in moved) same)))
+    is'
+
+answered_zero : Some (answer.Num 0) ≡ Some (answer.Num 1) → ⊥
+answered_zero h = let no : ◌≡◌ {A = ℕ} 0 1 = cc in omega arith
+
+is_null : Value → Bool
+is_null Null = true
+is_null _ = false
+
+not_null : (number ty offset : ℕ) → Ptr number ty offset ≡ Null → ⊥
+unfolding is_null
+not_null number ty offset h = false≢true (ap is_null h)
+
+-- Before the first exchange the word is null, as register 2 is: both compare equal values.
+first_exchange : ExchangeCompares pointer_page (take 16 exchanged) (record { seat = c0; step = step.Cas })
+unfolding by c0 all_below pointed_cell pointer_page exchanged left_from calls_from
+first_exchange = compares_there pointer_page (take 16 exchanged) 0 0 2 1 0 0 refl refl ((λ h. refl), (λ h. refl))
+
+-- Before the second it is the pointer that the first has stored.
+second_exchange : ExchangeCompares pointer_page (take 24 exchanged) (record { seat = c0; step = step.Cas })
+unfolding by c0 all_below pointed_cell pointer_page exchanged left_from calls_from
+second_exchange =
+    compares_there pointer_page (take 24 exchanged) 0 0 2 1 0 0 refl refl
+    ((λ h. absurd (answered_zero h)), (λ h. absurd (not_null 1 0 0 h)))
+
+pub exchanges_compare : ExchangesCompareValues pointer_page exchanged
+unfolding by c0 exchanged AtEach Also
+exchanges_compare before behind k q i p r number is at =
+    at_each is_cas (λ (es : List Event) (e : Event). ExchangeCompares pointer_page es e) [] exchanged
+    (first_exchange, (second_exchange, tt)) before (record { seat = Caller k; step = step.Cas }) behind is refl k q i p r number refl at

@@ -1,0 +1,119 @@
+-- Places in the schedules: what fits, where each object is granted, and where a New is refused.
+use Rattle.std.proofs.Common.{◌≡◌, ℕ, Bool, true, false, List, [], ◌∷◌, ◌++◌, take, Some, None, refl, ap}
+use Rattle.std.proofs.lemmas.Bool.{false≢true}
+use Rattle.mk_never.specs.declared.operations.Op.TheVariants as op
+use Rattle.mk_core.specs.declared.events.Step.{Step}
+use Rattle.mk_core.specs.declared.events.Step.TheVariants as step
+use Rattle.mk_core.specs.declared.events.Event.{Event}
+use Rattle.mk_core.specs.Bounded.{all_below}
+use Rattle.mk_core.specs.Cells.{pointed_cell}
+use Rattle.mk_core.specs.StopConditions.{may_turn_black}
+use Rattle.mk_core.specs.Allocations.{unreleased_storage, place_among_allocations, FitsAmongAllocations}
+use Rattle.mk_core.specs.Cycles.{is_begin, is_close, is_release, is_end}
+use Rattle.mk_core.specs.History.{left_from, left}
+use Rattle.mk_core.specs.Placement.{NoneServesFrom, StandsAtItsPlace, GrantsStandAtTheirPlaces, IsFull, FullsFitNowhere}
+use Rattle.mk_core.proofs.EventsAt.{events_from, event_number, at_number, turn_number, AtEach, Also, at_each}
+use Rattle.mk_core.proofs.Schedules.{by, c0, host, one_page, freed_after_begin}
+use Rattle.mk_core.proofs.MoreSchedules.{full_then_reused}
+
+-- One cell of 32 words is taken, and the other is free. An object of 2 words needs a page of its own size, which isn't there.
+pub place_beside : place_among_allocations one_page 32 true (left one_page freed_after_begin).allocations
+    ≡ Some (record { page = 0; index = 1; carve = false })
+unfolding by c0 host all_below pointed_cell one_page freed_after_begin left_from unreleased_storage
+place_beside = refl
+
+pub fits_beside : FitsAmongAllocations one_page 32 true (left one_page freed_after_begin).allocations
+unfolding by c0 host all_below pointed_cell one_page freed_after_begin left_from unreleased_storage
+fits_beside = refl
+
+pub other_size_fits_nowhere : FitsAmongAllocations one_page 2 true (left one_page freed_after_begin).allocations → ⊥
+unfolding by c0 host all_below pointed_cell one_page freed_after_begin left_from unreleased_storage
+other_size_fits_nowhere h = false≢true h
+
+abbrev pub is_grant : Step → Bool
+is_grant step.Grant = true
+is_grant _ = false
+
+-- The first object carves the page, and the second takes the cell beside it. The third is served only behind the cycle in
+-- its turn: the `used` and the `head` of the cycle serve nothing. So it stands where the first one stood.
+pub first_grant : StandsAtItsPlace one_page (take 3 freed_after_begin) c0
+unfolding by c0 host all_below pointed_cell one_page freed_after_begin left_from unreleased_storage events_from event_number at_number turn_number NoneServesFrom
+first_grant =
+    record {
+      turn = turn_number one_page c0 0 (Some (op.New 0 0 false)) (take 3 freed_after_begin) refl refl refl;
+      first = record {
+        before = [];
+        event = event_number 1 freed_after_begin;
+        behind = events_from 2 1 freed_after_begin;
+        is = refl;
+        none_before = tt;
+        serves = refl;
+      };
+      place = record { page = 0; index = 0; carve = true };
+      fits = refl;
+      base = refl;
+    }
+
+pub second_grant : StandsAtItsPlace one_page (take 8 freed_after_begin) c0
+unfolding by c0 host all_below pointed_cell one_page freed_after_begin left_from unreleased_storage events_from event_number at_number turn_number NoneServesFrom
+second_grant =
+    record {
+      turn = turn_number one_page c0 6 (Some (op.New 1 0 false)) (take 8 freed_after_begin) refl refl refl;
+      first = record { before = []; event = event_number 7 freed_after_begin; behind = []; is = refl; none_before = tt; serves = refl };
+      place = record { page = 0; index = 1; carve = false };
+      fits = refl;
+      base = refl;
+    }
+
+pub third_grant : StandsAtItsPlace one_page (take 53 freed_after_begin) c0
+unfolding by c0 host all_below pointed_cell one_page freed_after_begin left_from unreleased_storage events_from event_number at_number turn_number NoneServesFrom
+third_grant =
+    record {
+      turn = turn_number one_page c0 39 (Some (op.New 2 0 false)) (take 53 freed_after_begin) refl refl refl;
+      first = record {
+        before = events_from 40 11 freed_after_begin;
+        event = event_number 51 freed_after_begin;
+        behind = events_from 52 1 freed_after_begin;
+        is = refl;
+        none_before = (refl, (refl, (refl, (refl, (refl, (refl, (refl, (refl, (refl, (refl, (refl, tt)))))))))));
+        serves = refl;
+      };
+      place = record { page = 0; index = 0; carve = true };
+      fits = refl;
+      base = refl;
+    }
+
+pub grants_stand : GrantsStandAtTheirPlaces one_page freed_after_begin
+unfolding by c0 host freed_after_begin AtEach Also
+grants_stand before e behind is grant =
+    at_each is_grant (λ (es : List Event) (x : Event). StandsAtItsPlace one_page es x.seat) [] freed_after_begin
+    (first_grant, (second_grant, (third_grant, tt))) before e behind is (ap is_grant grant)
+
+-- The refused New begins and ends a cycle in its turn. Both cells are still taken behind it, so it doesn't fit.
+pub full : IsFull one_page (take 31 full_then_reused) c0
+unfolding by c0 all_below pointed_cell may_turn_black one_page full_then_reused left_from unreleased_storage events_from event_number at_number turn_number
+full =
+    record {
+      turn = turn_number one_page c0 16 (Some (op.New 2 0 false)) (take 31 full_then_reused) refl refl refl;
+      cycle = record {
+        releasing = record {
+          marking = record {
+            begin = at_number is_begin 2 (events_from 17 14 full_then_reused) refl refl;
+            close = record { at = at_number is_close 7 (events_from 20 11 full_then_reused) refl refl; none_before = refl };
+          };
+          release = record { at = at_number is_release 0 (events_from 28 3 full_then_reused) refl refl; none_before = refl };
+        };
+        end = record { at = at_number is_end 0 (events_from 29 2 full_then_reused) refl refl; none_before = refl };
+      };
+      no_fit = λ h. false≢true h;
+    }
+
+abbrev pub is_full_step : Step → Bool
+is_full_step step.Full = true
+is_full_step _ = false
+
+pub fulls_fit_nowhere : FullsFitNowhere one_page full_then_reused
+unfolding by c0 full_then_reused AtEach Also
+fulls_fit_nowhere before e behind is kind =
+    at_each is_full_step (λ (es : List Event) (x : Event). IsFull one_page es x.seat) [] full_then_reused
+    (full, tt) before e behind is (ap is_full_step kind)
