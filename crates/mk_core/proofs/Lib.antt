@@ -7,6 +7,7 @@ pub mod LayoutLemmas
 pub mod Lengths
 pub mod RegionLemmas
 pub mod Schedules
+pub mod Spread
 pub mod Steps
 pub mod FirstWhere
 pub mod UsedBits
