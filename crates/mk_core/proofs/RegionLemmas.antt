@@ -7,10 +7,11 @@ use Rattle.mk_geom.specs.declared.pages.Page.{Page}
 use Rattle.mk_geom.specs.Storages.{free_page}
 use Rattle.mk_core.specs.declared.events.Word.{Word}
 use Rattle.mk_core.specs.declared.events.Word.TheVariants as word
+use Rattle.mk_core.specs.declared.accesses.TableWord.{TableWord}
 use Rattle.mk_core.specs.declared.accesses.TableWord.TheVariants.{Turn, Named}
 use Rattle.mk_core.specs.declared.accesses.Access.{Access}
 use Rattle.mk_core.specs.declared.accesses.Access.TheVariants.{Load, Store, Exchange, Or, Add, Sub}
-use Rattle.mk_core.specs.Words.{Words, zero_words_of, quarantine_word, word_in, with_word, becomes, accessed}
+use Rattle.mk_core.specs.Words.{Words, zero_words_of, quarantine_word, word_in, with_word, becomes}
 use Rattle.mk_core.proofs.Spread.{set_later, length_spread, spread_at, spread_set, gates_at, gates_set}
 use Rattle.mk_core.specs.Layout.{index_of, IsOfTable, quarantine_words, gap, spread, regions, joined, in_order, AreOfPages, WordsStandAtTheirIndexes, ChangesStandAtTheirIndexes, ListHasAllWords, FirstWordsAreZero, AccessesStandAtTheirIndexes}
 
@@ -56,7 +57,7 @@ quarantine_set (x ∷ fs) [] k f s e = absurd (omega arith)
 quarantine_set (x ∷ fs) (y ∷ ss) zero f s e = refl
 quarantine_set (x ∷ fs) (y ∷ ss) (suc k) f s e = ap (λ xs. quarantine_word x y ∷ xs) (quarantine_set fs ss k f s (omega arith))
 
--- where each region begins
+-- where each region begins, and where the last ends
 record Begins (pages : ℕ) (w : Words) : Type 0 where
   gates : before (regions w) 6 ≡ 48
   registers : before (regions w) 7 ≡ 304
@@ -200,6 +201,7 @@ length_joined (xs ∷ xss) = length-append xs (joined xss) ∙ ap (λ n. length 
 pub has_all_words : ListHasAllWords
 has_all_words pages w h = length_joined (regions w) ∙ (begins pages w h).all
 
+-- A table of zeros is gaps alone.
 abbrev total : List ℕ → ℕ
 total [] = 0
 total (n ∷ counts) = n + total counts
@@ -227,17 +229,17 @@ first_are_zero pages =
     ∙ joined_gaps counts
     ∙ ap gap (omega arith)
 
+-- what an access makes of a word, made of the list's
+made : (pages : ℕ) (w : Words) (x : TableWord) (a : Access) → AreOfPages pages w → IsOfTable pages x
+    → in_order (with_word w x (becomes a (word_in w x))) ≡ slice_set (in_order w) (index_of pages x) (becomes a (slice_index (in_order w) (index_of pages x)))
+made pages w x a h t =
+    words_change pages w x (becomes a (word_in w x)) h t
+    ∙ ap (λ found. slice_set (in_order w) (index_of pages x) (becomes a found)) (sym (words_stand pages w x h t))
+
 pub accesses_change : AccessesStandAtTheirIndexes
-accesses_change pages w x a h t =
-    let changed : in_order (with_word w x (becomes a (word_in w x))) ≡ slice_set (in_order w) (index_of pages x) (becomes a (slice_index (in_order w) (index_of pages x))) =
-    words_change pages w x (becomes a (word_in w x)) h t ∙ ap (λ found. slice_set (in_order w) (index_of pages x) (becomes a found)) (sym (words_stand pages w x h t)) in
-    by a changed
-  where
-    by : (a : Access) → in_order (with_word w x (becomes a (word_in w x))) ≡ slice_set (in_order w) (index_of pages x) (becomes a (slice_index (in_order w) (index_of pages x)))
-        → in_order (accessed w x a) ≡ slice_set (in_order w) (index_of pages x) (becomes a (slice_index (in_order w) (index_of pages x)))
-    by Load e = sym (set-get_or (in_order w) (index_of pages x) 0)
-    by (Store v) e = e
-    by (Exchange old new) e = e
-    by (Or bits) e = e
-    by (Add n) e = e
-    by (Sub n) e = e
+accesses_change pages w x Load h t = sym (set-get_or (in_order w) (index_of pages x) 0)
+accesses_change pages w x (Store v) h t = made pages w x (Store v) h t
+accesses_change pages w x (Exchange old new) h t = made pages w x (Exchange old new) h t
+accesses_change pages w x (Or bits) h t = made pages w x (Or bits) h t
+accesses_change pages w x (Add n) h t = made pages w x (Add n) h t
+accesses_change pages w x (Sub n) h t = made pages w x (Sub n) h t
