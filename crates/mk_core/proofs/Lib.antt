@@ -3,8 +3,6 @@ pub mod AllBelowParts
 pub mod Bits
 pub mod BitsWithout
 pub mod Conditions
-pub mod Histories
-pub mod EventsAt
 pub mod EvaluatedAnswers
 pub mod EvaluatedCalls
 pub mod EvaluatedCounts
@@ -12,6 +10,8 @@ pub mod EvaluatedCycles
 pub mod EvaluatedExchanges
 pub mod EvaluatedHistories
 pub mod EvaluatedPlaces
+pub mod EventsAt
+pub mod Histories
 pub mod HistoryParts
 pub mod LayoutLemmas
 pub mod Lengths
@@ -19,5 +19,6 @@ pub mod MoreSchedules
 pub mod RegionLemmas
 pub mod Schedules
 pub mod Sizes
+pub mod Spread
 pub mod Steps
 pub mod Wiped

@@ -1,7 +1,7 @@
 -- The table's words as one list: each stands at its index, and a change of one, or an access to it, is a change there.
-use Rattle.std.proofs.Common.{◌≡◌, ℕ, zero, suc, ◌+◌, ◌*◌, ◌/◌, ◌%◌, ◌^◌, ◌<◌, List, [], ◌∷◌, ◌++◌, length, map, take, drop, replicate, slice_index, slice_index_or, slice_set, refl, sym, ◌∙◌, ap, arith}
-use Rattle.std.proofs.lemmas.List.{get_or_append_left, get_or-append-add, get_or-take, get_or-drop, set-append_left, set-append_right, set-get_or, take-set-le, drop-set-lt, drop-set-add, map-set, length-map, length-append, length-drop, length-take-le, length-replicate, replicate-append-replicate, get_or-map}
-use Rattle.std.proofs.Math.Seq.{map-set_same, take-set-lt}
+use Rattle.std.proofs.Common.{◌≡◌, ℕ, zero, suc, ◌+◌, ◌*◌, ◌/◌, ◌%◌, ◌^◌, ◌<◌, List, [], ◌∷◌, ◌++◌, length, map, replicate, slice_index, slice_index_or, slice_set, refl, sym, ◌∙◌, ap, arith}
+use Rattle.std.proofs.lemmas.List.{get_or_append_left, get_or-append-add, set-append_left, set-get_or, map-set, length-map, length-append, replicate-append-replicate, get_or-map}
+use Rattle.std.proofs.Math.Seq.{map-set_same}
 use Rattle.std.proofs.Math.Nat.{mod-add-div}
 use Rattle.mk_geom.specs.declared.pages.Page.{Page}
 use Rattle.mk_geom.specs.Storages.{free_page}
@@ -11,8 +11,9 @@ use Rattle.mk_core.specs.declared.accesses.TableWord.{TableWord}
 use Rattle.mk_core.specs.declared.accesses.TableWord.TheVariants.{Turn, Named}
 use Rattle.mk_core.specs.declared.accesses.Access.{Access}
 use Rattle.mk_core.specs.declared.accesses.Access.TheVariants.{Load, Store, Exchange, Or, Add, Sub}
-use Rattle.mk_core.specs.Words.{Words, zero_words_of, quarantine_word, word_in, with_word_in, becomes, accessed}
-use Rattle.mk_core.specs.Layout.{index_of, IsOfTable, quarantine_words, gap, spread, regions, joined, in_order, AreOfPages, ListHasAllWords, FirstWordsAreZero, AccessesStandAtTheirIndexes}
+use Rattle.mk_core.specs.Words.{Words, zero_words_of, quarantine_word, word_in, with_word_in, becomes}
+use Rattle.mk_core.proofs.Spread.{set_later, length_spread, spread_at, spread_set, gates_at, gates_set}
+use Rattle.mk_core.specs.Layout.{index_of, IsOfTable, quarantine_words, gap, spread, regions, joined, in_order, AreOfPages, WordsStandAtTheirIndexes, ChangesStandAtTheirIndexes, ListHasAllWords, FirstWordsAreZero, AccessesStandAtTheirIndexes}
 
 -- how many words stand before a region
 abbrev before : List (List ℕ) → ℕ → ℕ
@@ -29,9 +30,6 @@ joined_at [] (suc j) k lt = absurd (omega arith)
 joined_at (xs ∷ xss) zero k lt = ap (λ n. slice_index (xs ++ joined xss) n) (omega arith) ∙ get_or_append_left xs (joined xss) 0 k lt
 joined_at (xs ∷ xss) (suc j) k lt =
     ap (λ n. slice_index (xs ++ joined xss) n) (omega arith) ∙ get_or-append-add xs (joined xss) (before xss j + k) 0 ∙ joined_at xss j k lt
-
-set_later : (xs ys : List ℕ) (n v : ℕ) → slice_set (xs ++ ys) (length xs + n) v ≡ xs ++ slice_set ys n v
-set_later xs ys n v = set-append_right xs ys (length xs) (length xs + n) v refl (omega arith) ∙ ap (λ k. xs ++ slice_set ys k v) (omega arith)
 
 joined_set : (xss : List (List ℕ)) (j k v : ℕ) → k < length (region xss j) → slice_set (joined xss) (before xss j + k) v ≡ joined (slice_set xss j (slice_set (region xss j) k v))
 joined_set [] zero k v lt = absurd (omega arith)
@@ -51,70 +49,15 @@ quarantine_at (f ∷ fs) [] k e lt = absurd (omega arith)
 quarantine_at (f ∷ fs) (s ∷ ss) zero e lt = refl
 quarantine_at (f ∷ fs) (s ∷ ss) (suc k) e lt = quarantine_at fs ss k (omega arith) (omega arith)
 
-quarantine_set : (fs ss : List ℕ) (k f s : ℕ) → length fs ≡ length ss → quarantine_words (slice_set fs k f) (slice_set ss k s) ≡ slice_set (quarantine_words fs ss) k (quarantine_word f s)
+quarantine_set : (fs ss : List ℕ) (k f s : ℕ) → length fs ≡ length ss
+    → quarantine_words (slice_set fs k f) (slice_set ss k s) ≡ slice_set (quarantine_words fs ss) k (quarantine_word f s)
 quarantine_set [] [] k f s e = refl
 quarantine_set [] (x ∷ ss) k f s e = absurd (omega arith)
 quarantine_set (x ∷ fs) [] k f s e = absurd (omega arith)
 quarantine_set (x ∷ fs) (y ∷ ss) zero f s e = refl
 quarantine_set (x ∷ fs) (y ∷ ss) (suc k) f s e = ap (λ xs. quarantine_word x y ∷ xs) (quarantine_set fs ss k f s (omega arith))
 
--- Groups of words with gaps: their length, the word r of group i, and a change of it.
-length_spread : (n size between : ℕ) (xs : List ℕ) → length xs ≡ n * size → length (spread n size between xs) ≡ n * (size + between)
-unfolding spread
-length_spread zero size between xs e = omega arith
-length_spread (suc n) size between xs e =
-    let here : length (take size xs) ≡ size = length-take-le size xs (omega arith) in
-    let left : length (drop size xs) ≡ n * size = omega (arith, length-drop size xs) in
-    let rest = length_spread n size between (drop size xs) left in
-    simp (length-append, length-replicate) (omega arith)
-
-spread_at : (n size between : ℕ) (xs : List ℕ) (i r : ℕ) → length xs ≡ n * size → i < n → r < size
-    → slice_index (spread n size between xs) ((size + between) * i + r) ≡ slice_index xs (size * i + r)
-unfolding spread
-spread_at zero size between xs i r e li lr = absurd (omega arith)
-spread_at (suc n) size between xs zero r e li lr =
-    let here : length (take size xs) ≡ size = length-take-le size xs (omega arith) in
-    ap (λ k. slice_index (spread (suc n) size between xs) k) (omega arith)
-    ∙ get_or_append_left (take size xs) (gap between ++ spread n size between (drop size xs)) 0 r (omega arith)
-    ∙ get_or-take size xs r 0 lr ∙ ap (λ k. slice_index xs k) (omega arith)
-spread_at (suc n) size between xs (suc i) r e li lr =
-    let here : length (take size xs) ≡ size = length-take-le size xs (omega arith) in
-    let empty : length (gap between) ≡ between = length-replicate between 0 in
-    let left : length (drop size xs) ≡ n * size = omega (arith, length-drop size xs) in
-    let k = (size + between) * i + r in
-    ap (λ m. slice_index (spread (suc n) size between xs) m) (omega arith)
-    ∙ get_or-append-add (take size xs) (gap between ++ spread n size between (drop size xs)) (length (gap between) + k) 0
-    ∙ get_or-append-add (gap between) (spread n size between (drop size xs)) k 0
-    ∙ spread_at n size between (drop size xs) i r left (omega arith) lr
-    ∙ get_or-drop size xs (size * i + r) 0 ∙ ap (λ m. slice_index xs m) (omega arith)
-
-spread_set : (n size between : ℕ) (xs : List ℕ) (i r v : ℕ) → length xs ≡ n * size → i < n → r < size
-    → slice_set (spread n size between xs) ((size + between) * i + r) v ≡ spread n size between (slice_set xs (size * i + r) v)
-unfolding spread
-spread_set zero size between xs i r v e li lr = absurd (omega arith)
-spread_set (suc n) size between xs zero r v e li lr =
-    let here : length (take size xs) ≡ size = length-take-le size xs (omega arith) in
-    let rest = λ (ys : List ℕ). gap between ++ spread n size between ys in
-    ap (λ k. slice_set (spread (suc n) size between xs) k v) (omega arith)
-    ∙ set-append_left (take size xs) (rest (drop size xs)) r v (omega arith)
-    ∙ ap (λ ys. ys ++ rest (drop size xs)) (sym (take-set-lt size xs r v lr))
-    ∙ ap (λ ys. take size (slice_set xs r v) ++ rest ys) (sym (drop-set-lt size xs r v lr))
-    ∙ ap (λ k. spread (suc n) size between (slice_set xs k v)) (omega arith)
-spread_set (suc n) size between xs (suc i) r v e li lr =
-    let here : length (take size xs) ≡ size = length-take-le size xs (omega arith) in
-    let empty : length (gap between) ≡ between = length-replicate between 0 in
-    let left : length (drop size xs) ≡ n * size = omega (arith, length-drop size xs) in
-    let k = (size + between) * i + r in
-    let place = size * i + r in
-    ap (λ m. slice_set (spread (suc n) size between xs) m v) (omega arith)
-    ∙ set_later (take size xs) (gap between ++ spread n size between (drop size xs)) (length (gap between) + k) v
-    ∙ ap (λ ys. take size xs ++ ys) (set_later (gap between) (spread n size between (drop size xs)) k v)
-    ∙ ap (λ ys. take size xs ++ (gap between ++ ys)) (spread_set n size between (drop size xs) i r v left (omega arith) lr)
-    ∙ ap (λ ys. take size xs ++ (gap between ++ spread n size between ys)) (sym (drop-set-add size xs place v))
-    ∙ ap (λ ys. ys ++ (gap between ++ spread n size between (drop size (slice_set xs (size + place) v)))) (sym (take-set-le size xs (size + place) v (omega arith)))
-    ∙ ap (λ m. spread (suc n) size between (slice_set xs m v)) (omega arith)
-
--- where each region begins
+-- where each region begins, and where the last ends
 record Begins (pages : ℕ) (w : Words) : Type 0 where
   gates : before (regions w) 6 ≡ 48
   registers : before (regions w) 7 ≡ 304
@@ -160,14 +103,8 @@ set_at : (w : Words) (j k i n v : ℕ) → before (regions w) j ≡ n → i ≡ 
     → joined (slice_set (regions w) j (slice_set (region (regions w) j) k v)) ≡ slice_set (in_order w) i v
 set_at w j k i n v b e lt = sym (ap (λ x. slice_set (in_order w) x v) (e ∙ ap (λ x. x + k) (sym b)) ∙ joined_set (regions w) j k v lt)
 
-gates_at : (xs : List ℕ) (j : ℕ) → length xs ≡ 16 → j < 16 → slice_index (spread 16 1 15 xs) (16 * j) ≡ slice_index xs j
-gates_at xs j e lt = ap (λ k. slice_index (spread 16 1 15 xs) k) (omega arith) ∙ spread_at 16 1 15 xs j 0 e lt (omega arith) ∙ ap (λ k. slice_index xs k) (omega arith)
-
-gates_set : (xs : List ℕ) (j v : ℕ) → length xs ≡ 16 → j < 16 → spread 16 1 15 (slice_set xs j v) ≡ slice_set (spread 16 1 15 xs) (16 * j) v
-gates_set xs j v e lt =
-    ap (λ k. spread 16 1 15 (slice_set xs k v)) (omega arith) ∙ sym (spread_set 16 1 15 xs j 0 v e lt (omega arith)) ∙ ap (λ k. slice_set (spread 16 1 15 xs) k v) (omega arith)
-
-named_stands : (pages : ℕ) (w : Words) (x : Word) → AreOfPages pages w → Begins pages w → IsOfTable pages (Named x) → slice_index (in_order w) (index_of pages (Named x)) ≡ word_in w (Named x)
+named_stands : (pages : ℕ) (w : Words) (x : Word) → AreOfPages pages w → Begins pages w → IsOfTable pages (Named x)
+    → slice_index (in_order w) (index_of pages (Named x)) ≡ word_in w (Named x)
 named_stands pages w word.Phase h b t = refl
 named_stands pages w word.Held h b t = refl
 named_stands pages w word.Fresh h b t = refl
@@ -195,7 +132,7 @@ named_stands pages w (word.Black p) h b t = let l = h.blacks in at w 14 p (640 +
 named_stands pages w (word.Dirty p) h b t = let l = h.dirty in at w 15 p (640 + 5 * pages + p) (640 + 5 * pages) b.dirty refl (omega arith)
 named_stands pages w (word.Heap n) h b t = let l = h.heap in at w 16 n (640 + 6 * pages + n) (640 + 6 * pages) b.heap refl (omega arith)
 
-pub words_stand : (pages : ℕ) (w : Words) (x : TableWord) → AreOfPages pages w → IsOfTable pages x → slice_index (in_order w) (index_of pages x) ≡ word_in w x
+pub words_stand : WordsStandAtTheirIndexes
 words_stand pages w Turn h t = refl
 words_stand pages w (Named x) h t = named_stands pages w x h (begins pages w h) t
 
@@ -204,10 +141,12 @@ abbrev put : Words → ℕ → List ℕ → List ℕ
 put w j xs = joined (slice_set (regions w) j xs)
 
 -- a page's other word stays
-headers_kept : (ps : List Page) (p v : ℕ) → map (λ (page : Page). page.header) (slice_set ps p (record { header = (slice_index_or ps p free_page).header; used = v })) ≡ map (λ (page : Page). page.header) ps
+headers_kept : (ps : List Page) (p v : ℕ)
+    → map (λ (page : Page). page.header) (slice_set ps p (record { header = (slice_index_or ps p free_page).header; used = v })) ≡ map (λ (page : Page). page.header) ps
 headers_kept ps p v = map-set_same (λ (page : Page). page.header) ps p (record { header = (slice_index_or ps p free_page).header; used = v }) free_page refl
 
-used_kept : (ps : List Page) (p v : ℕ) → map (λ (page : Page). page.used) (slice_set ps p (record { header = v; used = (slice_index_or ps p free_page).used })) ≡ map (λ (page : Page). page.used) ps
+used_kept : (ps : List Page) (p v : ℕ)
+    → map (λ (page : Page). page.used) (slice_set ps p (record { header = v; used = (slice_index_or ps p free_page).used })) ≡ map (λ (page : Page). page.used) ps
 used_kept ps p v = map-set_same (λ (page : Page). page.used) ps p (record { header = v; used = (slice_index_or ps p free_page).used }) free_page refl
 
 quarantine_whole : (v : ℕ) → quarantine_word (v % 2 ^ 32) (v / 2 ^ 32) ≡ v
@@ -243,15 +182,15 @@ named_changes pages w (word.Used p) v h b t =
     ∙ set_at w 11 p (640 + pages + p) (640 + pages) v b.used refl (omega arith)
 named_changes pages w (word.Quar p) v h b t =
     let l = h.freed in let s = h.snapshot in let q = quarantine_length w.freed w.snapshot (h.freed ∙ sym h.snapshot) in
-    ap (λ xs. put w 12 xs) (quarantine_set w.freed w.snapshot p (v % 2 ^ 32) (v / 2 ^ 32) (h.freed ∙ sym h.snapshot) ∙ ap (λ x. slice_set (quarantine_words w.freed w.snapshot) p x) (quarantine_whole v))
+    ap (λ xs. put w 12 xs) (quarantine_set w.freed w.snapshot p (v % 2 ^ 32) (v / 2 ^ 32) (h.freed ∙ sym h.snapshot))
+    ∙ ap (λ x. put w 12 (slice_set (quarantine_words w.freed w.snapshot) p x)) (quarantine_whole v)
     ∙ set_at w 12 p (640 + 2 * pages + p) (640 + 2 * pages) v b.quarantine refl (omega arith)
 named_changes pages w (word.Mark p) v h b t = let l = h.marks in set_at w 13 p (640 + 3 * pages + p) (640 + 3 * pages) v b.marks refl (omega arith)
 named_changes pages w (word.Black p) v h b t = let l = h.blacks in set_at w 14 p (640 + 4 * pages + p) (640 + 4 * pages) v b.blacks refl (omega arith)
 named_changes pages w (word.Dirty p) v h b t = let l = h.dirty in set_at w 15 p (640 + 5 * pages + p) (640 + 5 * pages) v b.dirty refl (omega arith)
 named_changes pages w (word.Heap n) v h b t = let l = h.heap in set_at w 16 n (640 + 6 * pages + n) (640 + 6 * pages) v b.heap refl (omega arith)
 
-pub words_change : (pages : ℕ) (w : Words) (x : TableWord) (v : ℕ) → AreOfPages pages w → IsOfTable pages x
-    → in_order (with_word_in w x v) ≡ slice_set (in_order w) (index_of pages x) v
+pub words_change : ChangesStandAtTheirIndexes
 words_change pages w Turn v h t = refl
 words_change pages w (Named x) v h t = named_changes pages w x v h (begins pages w h) t
 
@@ -262,6 +201,7 @@ length_joined (xs ∷ xss) = length-append xs (joined xss) ∙ ap (λ n. length 
 pub has_all_words : ListHasAllWords
 has_all_words pages w h = length_joined (regions w) ∙ (begins pages w h).all
 
+-- A table of zeros is gaps alone.
 abbrev total : List ℕ → ℕ
 total [] = 0
 total (n ∷ counts) = n + total counts
@@ -289,17 +229,17 @@ first_are_zero pages =
     ∙ joined_gaps counts
     ∙ ap gap (omega arith)
 
+-- what an access makes of a word, made of the list's
+made : (pages : ℕ) (w : Words) (x : TableWord) (a : Access) → AreOfPages pages w → IsOfTable pages x
+    → in_order (with_word_in w x (becomes a (word_in w x))) ≡ slice_set (in_order w) (index_of pages x) (becomes a (slice_index (in_order w) (index_of pages x)))
+made pages w x a h t =
+    words_change pages w x (becomes a (word_in w x)) h t
+    ∙ ap (λ found. slice_set (in_order w) (index_of pages x) (becomes a found)) (sym (words_stand pages w x h t))
+
 pub accesses_change : AccessesStandAtTheirIndexes
-accesses_change pages w x a h t =
-    let changed : in_order (with_word_in w x (becomes a (word_in w x))) ≡ slice_set (in_order w) (index_of pages x) (becomes a (slice_index (in_order w) (index_of pages x))) =
-    words_change pages w x (becomes a (word_in w x)) h t ∙ ap (λ found. slice_set (in_order w) (index_of pages x) (becomes a found)) (sym (words_stand pages w x h t)) in
-    by a changed
-  where
-    by : (a : Access) → in_order (with_word_in w x (becomes a (word_in w x))) ≡ slice_set (in_order w) (index_of pages x) (becomes a (slice_index (in_order w) (index_of pages x)))
-        → in_order (accessed w x a) ≡ slice_set (in_order w) (index_of pages x) (becomes a (slice_index (in_order w) (index_of pages x)))
-    by Load e = sym (set-get_or (in_order w) (index_of pages x) 0)
-    by (Store v) e = e
-    by (Exchange old new) e = e
-    by (Or bits) e = e
-    by (Add n) e = e
-    by (Sub n) e = e
+accesses_change pages w x Load h t = sym (set-get_or (in_order w) (index_of pages x) 0)
+accesses_change pages w x (Store v) h t = made pages w x (Store v) h t
+accesses_change pages w x (Exchange old new) h t = made pages w x (Exchange old new) h t
+accesses_change pages w x (Or bits) h t = made pages w x (Or bits) h t
+accesses_change pages w x (Add n) h t = made pages w x (Add n) h t
+accesses_change pages w x (Sub n) h t = made pages w x (Sub n) h t
