@@ -8,7 +8,7 @@ use Rattle.mk_core.specs.declared.config.Config.{Config}
 use Rattle.mk_core.specs.declared.events.Event.{Event}
 use Rattle.mk_core.specs.Decided.{Decided, asked}
 use Rattle.mk_core.specs.History.{first_world, left, calls_from, calls, never_first}
-use Rattle.mk_core.specs.HistoryLaws.{LeftInParts, EnabledInParts, CallsInParts, NeverInParts, RepliesInParts, AdmittedInParts, EarlierPartIsHistory}
+use Rattle.mk_core.specs.HistoryLaws.{LeftInParts, EnabledInParts, CallsInParts, NeverInParts, NeverRepliesInParts, CallsAreAdmittedInParts, EarlierPartIsHistory}
 use Rattle.mk_core.proofs.Histories.{left_append, enabled_append, enabled_parts, calls_append}
 
 pub left_in_parts : (c : Config) (es more : List Event) → LeftInParts c es more
@@ -29,12 +29,12 @@ never_in_parts c es more =
     ap (λ (xs : List Call). after_calls (never_first c) xs) (asked_in_parts c es more)
     ∙ after_append (never_first c) (asked (calls c es)) (asked (calls_from c (left c es) more))
 
-pub replies_in_parts : (c : Config) (es more : List Event) → RepliesInParts c es more
+pub replies_in_parts : (c : Config) (es more : List Event) → NeverRepliesInParts c es more
 replies_in_parts c es more =
     ap (λ (xs : List Call). replies_of (never_first c) xs) (asked_in_parts c es more)
     ∙ replies_append (never_first c) (asked (calls c es)) (asked (calls_from c (left c es) more))
 
-pub admitted_in_parts : (c : Config) (es more : List Event) → AdmittedInParts c es more
+pub admitted_in_parts : (c : Config) (es more : List Event) → CallsAreAdmittedInParts c es more
 admitted_in_parts c es more =
     let parts = admitted_append c.globals (never_first c) (asked (calls c es)) (asked (calls_from c (left c es) more)) in
     (λ h. parts.0 (subst (λ (xs : List Call). AreAdmitted c.globals (never_first c) xs) (asked_in_parts c es more) h),

@@ -29,11 +29,11 @@ pub record Grows (seats : List Seat) (seen es : List Event) : Type 0 where
   pub of_others : AreOfOthers seats more
 
 -- an event, and what its access found
-pub record Found : Type 0 where
+pub record Finding : Type 0 where
   pub event : Event
   pub found : ℕ
 
-unfoldable pub own_from : Config → Seat → World → List Event → List Found
+unfoldable pub own_from : Config → Seat → World → List Event → List Finding
 own_from c s w [] = []
 own_from c s w (e ∷ es) =
     if is_same_seat s e.seat
@@ -41,5 +41,5 @@ own_from c s w (e ∷ es) =
     else own_from c s (world_behind c w e) es
 
 -- In a call: the events of the call's own seat behind what was seen as it began, and what each of them found.
-abbrev pub in_this_call : Config → Seat → List Event → List Event → List Found
+abbrev pub in_this_call : Config → Seat → List Event → List Event → List Finding
 in_this_call c s seen more = own_from c s (left c seen) more

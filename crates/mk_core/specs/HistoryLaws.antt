@@ -24,13 +24,13 @@ CallsInParts c es more = calls c (es ++ more) ≡ calls c es ++ calls_from c (le
 abbrev pub NeverInParts : Config → List Event → List Event → Type 0
 NeverInParts c es more = never_behind c (es ++ more) ≡ after_calls (never_behind c es) (asked (calls_from c (left c es) more))
 
-abbrev pub RepliesInParts : Config → List Event → List Event → Type 0
-RepliesInParts c es more =
+abbrev pub NeverRepliesInParts : Config → List Event → List Event → Type 0
+NeverRepliesInParts c es more =
     replies_of (never_first c) (asked (calls c (es ++ more)))
     ≡ replies_of (never_first c) (asked (calls c es)) ++ replies_of (never_behind c es) (asked (calls_from c (left c es) more))
 
-abbrev pub AdmittedInParts : Config → List Event → List Event → Type 0
-AdmittedInParts c es more =
+abbrev pub CallsAreAdmittedInParts : Config → List Event → List Event → Type 0
+CallsAreAdmittedInParts c es more =
     CallsAreAdmitted c (es ++ more) ↔ (CallsAreAdmitted c es × AreAdmitted c.globals (never_behind c es) (asked (calls_from c (left c es) more)))
 
 -- The earlier part of a history is one.

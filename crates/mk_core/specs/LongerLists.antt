@@ -18,7 +18,7 @@ pub record IsStillTheSame (c : Config) (es fs : List Event) (e : Event) : Type 0
   pub decides : e.step ≡ step.Probe → is_some (answer_decided c (left c fs).now e) ≡ is_some (answer_decided c (left c es).now e)
 
 -- An event that makes a history of the shorter list makes one of the longer one, whose further events are of other seats.
-pub record GoesOn (c : Config) (es more : List Event) (e : Event) : Type 0 where
+pub record IsStillAHistory (c : Config) (es more : List Event) (e : Event) : Type 0 where
   pub history : IsHistory c (es ++ more ++ e ∷ [])
   pub same : IsStillTheSame c es (es ++ more) e
   pub tidy : IsTidy c (es ++ e ∷ []) → IsTidy c (es ++ more) → IsTidy c (es ++ more ++ e ∷ [])
@@ -26,4 +26,4 @@ pub record GoesOn (c : Config) (es more : List Event) (e : Event) : Type 0 where
 abbrev pub LongerListsGoOn : Type 0
 LongerListsGoOn =
     (c : Config) (es more : List Event) (e : Event) → IsHistory c (es ++ e ∷ []) → IsHistory c (es ++ more) → AreOfOthers (e.seat ∷ []) more
-    → GoesOn c es more e
+    → IsStillAHistory c es more e

@@ -2,7 +2,7 @@
 ghost use Rattle.std.specs.Prelude.{List};
 ghost use Rattle.mk_core.specs.declared.config.Config.{Config};
 ghost use Rattle.mk_core.specs.Enabled.{EnabledEventsMeetAll};
-ghost use Rattle.mk_core.specs.HistoryLaws.{LeftInParts, EnabledInParts, CallsInParts, NeverInParts, RepliesInParts, AdmittedInParts, EarlierPartIsHistory, BitsWithout, LargeIsNotSmall};
+ghost use Rattle.mk_core.specs.HistoryLaws.{LeftInParts, EnabledInParts, CallsInParts, NeverInParts, NeverRepliesInParts, CallsAreAdmittedInParts, EarlierPartIsHistory, BitsWithout, LargeIsNotSmall};
 
 use crate::Event;
 
@@ -14,8 +14,8 @@ pub fn histories_are_of_two_parts()
     ensures enabled { (c : Config) (es more : List Event) → EnabledInParts c es more }
     ensures calls { (c : Config) (es more : List Event) → CallsInParts c es more }
     ensures never { (c : Config) (es more : List Event) → NeverInParts c es more }
-    ensures replies { (c : Config) (es more : List Event) → RepliesInParts c es more }
-    ensures admitted { (c : Config) (es more : List Event) → AdmittedInParts c es more }
+    ensures replies { (c : Config) (es more : List Event) → NeverRepliesInParts c es more }
+    ensures admitted { (c : Config) (es more : List Event) → CallsAreAdmittedInParts c es more }
     ensures earlier { (c : Config) (es more : List Event) → EarlierPartIsHistory c es more }
 {}
 
