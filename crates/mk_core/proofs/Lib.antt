@@ -10,5 +10,6 @@ pub mod Lengths
 pub mod RegionLemmas
 pub mod Schedules
 pub mod Sizes
+pub mod SmallCycles
 pub mod Steps
 pub mod Wiped
