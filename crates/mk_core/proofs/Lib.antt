@@ -3,10 +3,12 @@ pub mod AllBelowParts
 pub mod Bits
 pub mod BitsWithout
 pub mod Conditions
+pub mod EvaluatedReach
 pub mod Histories
 pub mod HistoryParts
 pub mod LayoutLemmas
 pub mod Lengths
+pub mod ListTests
 pub mod RegionLemmas
 pub mod Schedules
 pub mod Sizes

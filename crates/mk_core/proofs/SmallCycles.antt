@@ -1,8 +1,7 @@
 -- Two small heaps along a cycle, as checked examples of the definitions: one whose caller is stopped from before the
 -- `begin` on, and one whose caller writes beside a marker.
-use Rattle.std.proofs.Common.{◌≡◌, ℕ, Bool, true, false, ◌&&◌, List, [], ◌∷◌, ◌++◌, map, Some, None, refl}
+use Rattle.std.proofs.Common.{◌≡◌, Bool, true, false, ◌&&◌, List, [], ◌∷◌, ◌++◌, map, Some, None, refl}
 use Rattle.std.specs.Prelude.{◌==◌}
-use Rattle.std.proofs.Math.Bool.{and-true}
 use Rattle.mk_never.specs.declared.types.Kind.TheVariants.{Num, To}
 use Rattle.mk_never.specs.declared.operations.Op.TheVariants as op
 use Rattle.mk_core.specs.declared.config.Config.{Config}
@@ -16,8 +15,8 @@ use Rattle.mk_core.specs.declared.events.Event.{Event}
 use Rattle.mk_core.specs.Bounded.{all_below}
 use Rattle.mk_core.specs.Cells.{pointed_cell}
 use Rattle.mk_core.specs.StopConditions.{may_turn_black}
-use Rattle.mk_core.specs.Enabled.{meets_own, failing}
-use Rattle.mk_core.specs.History.{World, first_world, world_behind, left, left_from, AreEnabledFrom, AreEnabled}
+use Rattle.mk_core.specs.Enabled.{failing}
+use Rattle.mk_core.specs.History.{World, first_world, world_behind}
 
 abbrev pub by : Seat → List Step → List Event
 by s steps = map (λ (x : Step). record { seat = s; step = x }) steps
@@ -98,9 +97,9 @@ all_enabled c w [] = true
 all_enabled c w (e ∷ es) = (failing c w.now e == 0) && all_enabled c (world_behind c w e) es
 
 stopped_are_enabled : all_enabled small (first_world small) (begun_in_stop ++ by_host (step.Begin ∷ []) ++ marked_in_stop ++ third_released) ≡ true
-unfolding all_enabled meets_own all_below pointed_cell may_turn_black begun_in_stop three_objects pointer_written page_dirtied second_cleared marked_in_stop third_released
+unfolding all_enabled all_below pointed_cell may_turn_black begun_in_stop three_objects pointer_written page_dirtied second_cleared marked_in_stop third_released
 stopped_are_enabled = refl
 
 beside_are_enabled : all_enabled small (first_world small) (marked_beside ++ third_released) ≡ true
-unfolding all_enabled meets_own all_below pointed_cell may_turn_black marked_beside written_beside three_objects pointer_written page_dirtied second_cleared first_marked marker_in scanned_again third_released
+unfolding all_enabled all_below pointed_cell may_turn_black marked_beside written_beside three_objects pointer_written page_dirtied second_cleared first_marked marker_in scanned_again third_released
 beside_are_enabled = refl
