@@ -3,12 +3,15 @@ pub mod AllBelowParts
 pub mod Bits
 pub mod BitsWithout
 pub mod Conditions
+pub mod EvaluatedGuards
+pub mod EvaluatedMarks
 pub mod EvaluatedReach
 pub mod Histories
 pub mod HistoryParts
 pub mod LayoutLemmas
 pub mod Lengths
 pub mod ListTests
+pub mod MarkTests
 pub mod RegionLemmas
 pub mod Schedules
 pub mod Sizes
