@@ -6,6 +6,7 @@ pub mod Conditions
 pub mod EvaluatedGuards
 pub mod EvaluatedMarks
 pub mod EvaluatedReach
+pub mod EvaluatedTouched
 pub mod Histories
 pub mod HistoryParts
 pub mod LayoutLemmas
@@ -17,4 +18,6 @@ pub mod Schedules
 pub mod Sizes
 pub mod SmallCycles
 pub mod Steps
+pub mod Touched
+pub mod TouchedTests
 pub mod Wiped

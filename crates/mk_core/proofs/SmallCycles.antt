@@ -54,7 +54,7 @@ unfoldable pub second_cleared : List Event
 second_cleared = by_caller (step.Enter (op.Clear 1) ∷ step.Reg ∷ step.Leave ∷ [])
 
 -- what releases the third, from the `close` on
-unfoldable pub third_released : List Event
+abbrev pub third_released : List Event
 third_released =
     by_host (step.Close ∷ step.Release ∷ step.Used 0 3 ∷ step.Quar 0 0 ∷ step.Tally tally.Held 4 ∷ step.End ∷ step.Open 0 ∷ step.Give ∷ [])
 
@@ -67,6 +67,9 @@ begun_in_stop =
 unfoldable pub marked_in_stop : List Event
 marked_in_stop =
     by_host (step.Want ∷ step.Look (word.Reg 0 0) ∷ step.Mark 0 1 ∷ step.Look (word.Heap 0) ∷ step.Mark 0 2 ∷ step.Black 0 1 ∷ step.Black 0 2 ∷ [])
+
+abbrev pub stopped_cycle : List Event
+stopped_cycle = begun_in_stop ++ record { seat = seat.Host; step = step.Begin } ∷ (marked_in_stop ++ third_released)
 
 -- A cycle begins, and the first object is marked.
 unfoldable pub first_marked : List Event
@@ -96,10 +99,10 @@ unfoldable pub all_enabled : Config → World → List Event → Bool
 all_enabled c w [] = true
 all_enabled c w (e ∷ es) = (failing c w.now e == 0) && all_enabled c (world_behind c w e) es
 
-stopped_are_enabled : all_enabled small (first_world small) (begun_in_stop ++ by_host (step.Begin ∷ []) ++ marked_in_stop ++ third_released) ≡ true
-unfolding all_enabled all_below pointed_cell may_turn_black begun_in_stop three_objects pointer_written page_dirtied second_cleared marked_in_stop third_released
+stopped_are_enabled : all_enabled small (first_world small) stopped_cycle ≡ true
+unfolding all_enabled all_below pointed_cell may_turn_black begun_in_stop three_objects pointer_written page_dirtied second_cleared marked_in_stop
 stopped_are_enabled = refl
 
 beside_are_enabled : all_enabled small (first_world small) (marked_beside ++ third_released) ≡ true
-unfolding all_enabled all_below pointed_cell may_turn_black marked_beside written_beside three_objects pointer_written page_dirtied second_cleared first_marked marker_in scanned_again third_released
+unfolding all_enabled all_below pointed_cell may_turn_black marked_beside written_beside three_objects pointer_written page_dirtied second_cleared first_marked marker_in scanned_again
 beside_are_enabled = refl

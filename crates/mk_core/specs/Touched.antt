@@ -1,5 +1,5 @@
 -- What a cycle may find by following pointers at any of its moments: with no marks, and whatever order markers take.
-use Rattle.std.specs.Prelude.{◌≡◌, ℕ, false, List, ◌++◌, slice_index, slice_index_or}
+use Rattle.std.specs.Prelude.{◌≡◌, ℕ, Bool, false, IsTrue, List, ◌++◌, slice_index, slice_index_or}
 use Rattle.mk_never.specs.declared.values.Value.TheVariants.{Null}
 use Rattle.mk_geom.specs.StorageWords.{IsWordOf, PointsInto}
 use Rattle.mk_core.specs.declared.config.Config.{Config}
@@ -38,3 +38,22 @@ pub data IsTouched (c : Config) {es : List Event} (k : Marking es) : ℕ → Typ
   by_word : (front : List Event) (a n b : ℕ) → LeadsToMoment k front → IsTouched c k a
       → IsWordOfAllocation c (left c front) n a
       → PointsIntoAllocation c (left c front) (slice_index (left c front).now.words.heap n) b → IsTouched c k b
+
+-- The set has what a register or a global points into at a moment of the cycle, and what a word of a member does.
+pub record IsClosedAlong (c : Config) {es : List Event} (k : Marking es) (S : ℕ → Type 0) : Type 0 where
+  pub registers : (front : List Event) (i b : ℕ) → LeadsToMoment k front
+      → PointsIntoAllocation c (left c front) (image_of (bases_of (left c front).allocations) (slice_index_or (never_behind c front).registers i Null)) b
+      → S b
+  pub globals : (front : List Event) (g b : ℕ) → LeadsToMoment k front
+      → PointsIntoAllocation c (left c front) (slice_index (left c front).now.words.globals g) b → S b
+  pub words : (front : List Event) (a n b : ℕ) → LeadsToMoment k front → S a
+      → IsWordOfAllocation c (left c front) n a
+      → PointsIntoAllocation c (left c front) (slice_index (left c front).now.words.heap n) b → S b
+
+-- What is touched is closed so.
+abbrev pub TouchedIsClosed : Config → {es : List Event} → Marking es → Type 0
+TouchedIsClosed c k = IsClosedAlong c k (IsTouched c k)
+
+-- A set that is closed so has all that is touched.
+abbrev pub TouchedIsLeast : Config → {es : List Event} → Marking es → (ℕ → Bool) → Type 0
+TouchedIsLeast c k S = IsClosedAlong c k (λ b. IsTrue (S b)) → (b : ℕ) → IsTouched c k b → IsTrue (S b)
