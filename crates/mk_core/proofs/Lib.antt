@@ -6,6 +6,7 @@ pub mod Conditions
 pub mod EvaluatedGuards
 pub mod EvaluatedMarks
 pub mod EvaluatedReach
+pub mod EvaluatedReadings
 pub mod EvaluatedTouched
 pub mod Histories
 pub mod HistoryParts
