@@ -19,6 +19,7 @@ pub mod RegionLemmas
 pub mod Schedules
 pub mod Sizes
 pub mod SmallCycles
+pub mod SmallHistories
 pub mod Steps
 pub mod Touched
 pub mod TouchedTests

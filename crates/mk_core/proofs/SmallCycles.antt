@@ -99,10 +99,10 @@ unfoldable pub all_enabled : Config → World → List Event → Bool
 all_enabled c w [] = true
 all_enabled c w (e ∷ es) = (failing c w.now e == 0) && all_enabled c (world_behind c w e) es
 
-stopped_are_enabled : all_enabled small (first_world small) stopped_cycle ≡ true
+pub stopped_are_enabled : all_enabled small (first_world small) stopped_cycle ≡ true
 unfolding all_enabled all_below pointed_cell may_turn_black begun_in_stop three_objects pointer_written page_dirtied second_cleared marked_in_stop
 stopped_are_enabled = refl
 
-beside_are_enabled : all_enabled small (first_world small) (marked_beside ++ third_released) ≡ true
+pub beside_are_enabled : all_enabled small (first_world small) (marked_beside ++ third_released) ≡ true
 unfolding all_enabled all_below pointed_cell may_turn_black marked_beside written_beside three_objects pointer_written page_dirtied second_cleared first_marked marker_in scanned_again
 beside_are_enabled = refl
