@@ -3,6 +3,7 @@ pub mod AllBelowParts
 pub mod Bits
 pub mod BitsWithout
 pub mod Conditions
+pub mod EvaluatedFrames
 pub mod EvaluatedFreed
 pub mod EvaluatedGuards
 pub mod EvaluatedMarks
