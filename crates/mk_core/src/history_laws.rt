@@ -1,8 +1,10 @@
 //! Laws of histories: facts alone, with no code.
-ghost use Rattle.std.specs.Prelude.{List};
+ghost use Rattle.std.specs.Prelude.{ℕ, Bool, List};
 ghost use Rattle.mk_core.specs.declared.config.Config.{Config};
 ghost use Rattle.mk_core.specs.Enabled.{EnabledEventsMeetAll};
 ghost use Rattle.mk_core.specs.HistoryLaws.{LeftInParts, EnabledInParts, CallsInParts, NeverInParts, NeverRepliesInParts, CallsAreAdmittedInParts, EarlierPartIsHistory, BitsWithout, LargeIsNotSmall};
+ghost use Rattle.mk_core.specs.Cycles.{Marking};
+ghost use Rattle.mk_core.specs.Touched.{TouchedIsClosed, TouchedIsLeast};
 
 use crate::Event;
 
@@ -28,4 +30,10 @@ pub fn enabled_events_meet_all_conditions()
 pub fn bits_and_sizes_agree()
     ensures without { BitsWithout }
     ensures large { LargeIsNotSmall }
+{}
+
+/// What is touched in a cycle is closed under pointers along it, and is the least such set.
+pub fn what_is_touched()
+    ensures closed { (c : Config) (es : List Event) (k : Marking es) → TouchedIsClosed c k }
+    ensures least { (c : Config) (es : List Event) (k : Marking es) (S : ℕ → Bool) → TouchedIsLeast c k S }
 {}

@@ -1,0 +1,94 @@
+-- What others leave to a seat, in small cases: to a caller before its `probe`, while the host takes the turn, and to the
+-- host in its turn, while a caller tries to enter and a marker visits. An event of its own may leave less.
+use Rattle.std.proofs.Common.{◌≡◌, ℕ, false, List, [], ◌∷◌, ◌++◌, None, refl, sym, ◌∙◌, ap}
+use Rattle.std.specs.Prelude.{◌==◌}
+use Rattle.std.proofs.lemmas.Bool.{false≢true, eq-eqb, ltb-true}
+use Rattle.mk_never.specs.declared.operations.Op.TheVariants as op
+use Rattle.mk_core.specs.declared.events.Seat.TheVariants as seat
+use Rattle.mk_core.specs.declared.events.Step.TheVariants as step
+use Rattle.mk_core.specs.declared.events.Event.{Event}
+use Rattle.mk_core.specs.Bounded.{all_below}
+use Rattle.mk_core.specs.Cells.{pointed_cell}
+use Rattle.mk_core.specs.History.{left_from, calls_from, left}
+use Rattle.mk_core.specs.Growing.{AreOfOthers}
+use Rattle.mk_core.specs.LongerLists.{IsStillTheSame}
+use Rattle.mk_core.specs.Frames.{OwnIsLeft, CallIsLeft, TurnIsLeft, CountsAreLeft, IsLeft, Steady}
+use Rattle.mk_core.proofs.SmallCycles.{by_caller, by_marker, by_host, small, three_objects, pointer_written, page_dirtied, second_cleared, begun_in_stop}
+
+apart : (a b : ℕ) → (a == b) ≡ false → a ≡ b → ⊥
+apart a b h e = false≢true (sym h ∙ eq-eqb a b e)
+
+-- The caller has loaded the registers of a SetPtr. The host takes the turn, and finds the caller's gate taken.
+
+abbrev pub before_probe : List Event
+before_probe = three_objects ++ by_caller (step.Enter (op.SetPtr 0 0 1) ∷ step.Reg ∷ step.Reg ∷ [])
+
+abbrev pub turn_taken : List Event
+turn_taken = by_host (step.Take None ∷ step.Hold 0 ∷ [])
+
+abbrev pub probe : Event
+probe = record { seat = seat.Caller 0; step = step.Probe }
+
+pub hosts_are_others : AreOfOthers (seat.Caller 0 ∷ []) turn_taken
+unfolding AreOfOthers
+hosts_are_others = (refl, (refl, tt))
+
+pub probe_is_the_same : IsStillTheSame small before_probe (before_probe ++ turn_taken) probe
+unfolding left_from all_below pointed_cell three_objects
+probe_is_the_same = record { word = refl; of_the_table = ltb-true 0 1 refl; access = refl; decides = λ is. refl }
+
+pub own_is_left : OwnIsLeft small (seat.Caller 0) (left small before_probe) (left small (before_probe ++ turn_taken))
+unfolding left_from all_below pointed_cell three_objects
+own_is_left = record { flight = refl; marker = refl; registers = λ k r is lt. refl; holding = λ holds. absurd (false≢true holds.1) }
+
+pub call_is_left : CallIsLeft (left small before_probe) (left small (before_probe ++ turn_taken)) 0
+unfolding left_from all_below pointed_cell three_objects
+call_is_left = record { gate = refl; mapped = λ p mapped. mapped }
+
+-- The host holds the turn and all gates. A caller finds its gate held, and a marker finds no marking.
+
+abbrev pub others_try : List Event
+others_try = by_caller (step.Enter (op.IsNull 0) ∷ []) ++ by_marker (step.Attend ∷ step.Quit ∷ [])
+
+pub triers_are_others : AreOfOthers (seat.Host ∷ []) others_try
+unfolding AreOfOthers
+triers_are_others = (refl, (refl, (refl, tt)))
+
+turn_is_left : TurnIsLeft (left small begun_in_stop) (left small (begun_in_stop ++ others_try))
+unfolding left_from all_below pointed_cell begun_in_stop three_objects pointer_written page_dirtied second_cleared
+turn_is_left = record {
+  steady = refl;
+  held_gates = λ j held. held;
+  other_gates = λ j other. other;
+  held_callers = λ j held. refl;
+  held_registers = λ j r lt held. refl;
+  marks_grow = λ p k has. has;
+  blacks_grow = λ p k has. has;
+  unmarked = λ not_marking not_wanted. (refl, refl);
+  stopped = λ e. absurd (apart 0 2 refl e);
+  dirty = λ p dirty. dirty;
+}
+
+counts_are_left : CountsAreLeft small begun_in_stop (begun_in_stop ++ others_try)
+unfolding left_from calls_from all_below pointed_cell begun_in_stop three_objects pointer_written page_dirtied second_cleared
+counts_are_left = record { ends = refl; fulls = refl }
+
+host_is_left : OwnIsLeft small seat.Host (left small begun_in_stop) (left small (begun_in_stop ++ others_try))
+unfolding left_from all_below pointed_cell begun_in_stop three_objects pointer_written page_dirtied second_cleared
+host_is_left = record { flight = refl; marker = refl; registers = λ k r is lt. absurd cc; holding = λ holds. (holds, refl) }
+
+pub all_is_left : IsLeft small seat.Host begun_in_stop (begun_in_stop ++ others_try)
+unfolding left_from all_below pointed_cell begun_in_stop three_objects pointer_written page_dirtied second_cleared
+all_is_left = record {
+  own = host_is_left;
+  in_call = λ k is in_call. absurd in_call;
+  turn = λ holds. (turn_is_left, counts_are_left);
+  stop = λ all. refl;
+  scan = λ attends. absurd attends;
+  visit = λ is_in. absurd is_in;
+}
+
+-- its own `begin` changes the phase
+pub own_begin_leaves_less : TurnIsLeft (left small begun_in_stop) (left small (begun_in_stop ++ by_host (step.Begin ∷ []))) → ⊥
+unfolding left_from all_below pointed_cell begun_in_stop three_objects pointer_written page_dirtied second_cleared
+own_begin_leaves_less left = apart 1 0 refl (ap (λ (x : Steady). x.phase) left.steady)

@@ -1,0 +1,90 @@
+-- What headers and freed bits tell behind a small history: the one freed bit is that of the third object.
+use Rattle.std.proofs.Common.{◌≡◌, ℕ, zero, suc, ◌+◌, ◌*◌, ◌<◌, Bool, true, false, Some, refl, sym, ◌∙◌, ap, ap₂, subst, inl, inr, arith}
+use Rattle.std.specs.Prelude.{◌==◌}
+use Rattle.std.proofs.lemmas.Bool.{false≢true, cases_eq, eqb-true, ltb-true}
+use Rattle.std.proofs.lemmas.Nat.Bits.{bit_at-zero, bit_at-pow_other}
+use Rattle.mk_geom.specs.declared.addresses.Cell.{Cell}
+use Rattle.mk_geom.specs.declared.headers.Header.TheVariants.{Later}
+use Rattle.mk_geom.specs.Headers.{IsHeaderWord}
+use Rattle.mk_core.specs.Bits.{has_bit}
+use Rattle.mk_core.specs.Bounded.{all_below}
+use Rattle.mk_core.specs.Words.{header_at}
+use Rattle.mk_core.specs.Cells.{pointed_cell, header_in, cells_under, is_freed}
+use Rattle.mk_core.specs.Allocations.{placed_at, stands_in}
+use Rattle.mk_core.specs.History.{left_from, left}
+use Rattle.mk_core.specs.Readings.{IsTaken, WordsTellWhatStands}
+use Rattle.mk_core.proofs.SmallCycles.{small, three_objects}
+
+abbrev pub second_cell : Cell
+second_cell = record { page = 0; index = 1 }
+
+abbrev pub third_cell : Cell
+third_cell = record { page = 0; index = 2 }
+
+pub third_is_taken : IsTaken (left small three_objects) third_cell
+unfolding left_from all_below pointed_cell three_objects
+third_is_taken = record { number = 2; in_range = ltb-true 2 32 refl; stands = refl }
+
+pub third_is_freed : is_freed (left small three_objects).now.words third_cell ≡ true
+unfolding left_from all_below pointed_cell three_objects
+third_is_freed = refl
+
+pub second_is_not_freed : is_freed (left small three_objects).now.words second_cell ≡ false
+unfolding left_from all_below pointed_cell three_objects
+second_is_not_freed = refl
+
+headers : (p : ℕ) → IsHeaderWord (header_at (left small three_objects).now.words p)
+unfolding left_from all_below pointed_cell three_objects
+headers zero = refl
+headers (suc p) = refl
+
+only_third : (page index : ℕ) → is_freed (left small three_objects).now.words (record { page = page; index = index }) ≡ true → (page ≡ 0) × (index ≡ 2)
+unfolding left_from all_below pointed_cell three_objects
+only_third zero index h = elim (cases_eq index 2) [
+  | inl e ↦ (refl, e)
+  | inr ne ↦ absurd (false≢true (sym (ap (λ b. b == 1) (bit_at-pow_other 2 index ne)) ∙ h))
+]
+only_third (suc page) index h = absurd (false≢true (sym (ap (λ b. b == 1) (bit_at-zero index)) ∙ h))
+
+cell_is : (cell : Cell) → (cell.page ≡ 0) × (cell.index ≡ 2) → cell ≡ third_cell
+cell_is cell h = ap₂ (λ (p i : ℕ). record { page = p; index = i }) h.0 h.1
+
+freed_number : (number : ℕ) → (placed_at (left small three_objects).allocations number).freed ≡ true → number ≡ 2
+unfolding left_from all_below pointed_cell three_objects
+freed_number zero h = absurd (false≢true h)
+freed_number (suc zero) h = absurd (false≢true h)
+freed_number (suc (suc zero)) h = refl
+freed_number (suc (suc (suc n))) h = absurd (false≢true h)
+
+cell_of_third : (page index : ℕ) → index < cells_under (header_in (left small three_objects).now.words page)
+    → stands_in (left small three_objects).now.words (record { page = page; index = index }) (placed_at (left small three_objects).allocations 2) ≡ true
+    → is_freed (left small three_objects).now.words (record { page = page; index = index }) ≡ true
+unfolding left_from all_below pointed_cell three_objects
+cell_of_third zero index lt h =
+    let e : 4 ≡ 64 * 0 + index * 2 = eqb-true 4 (64 * 0 + index * 2) h in
+    let is : index ≡ 2 = omega arith in
+    ap (λ i. has_bit 4 i) is
+cell_of_third (suc page) index lt h = absurd (omega arith)
+
+no_later : (p distance : ℕ) (mapped : Bool) → header_in (left small three_objects).now.words p ≡ Some (Later distance mapped) → ⊥
+unfolding left_from all_below pointed_cell three_objects
+no_later zero distance mapped h = cc
+no_later (suc p) distance mapped h = cc
+
+third_was_freed : (placed_at (left small three_objects).allocations third_is_taken.number).freed ≡ true
+unfolding left_from all_below pointed_cell three_objects third_is_taken
+third_was_freed = refl
+
+pub words_tell_what_stands : WordsTellWhatStands (left small three_objects)
+words_tell_what_stands =
+    let w = left small three_objects in
+    record {
+      headers = headers;
+      later = λ settled p distance mapped h. absurd (no_later p distance mapped h);
+      freed = λ settled cell h.
+          subst (λ x. (a : IsTaken w x) × ((placed_at w.allocations a.number).freed ≡ true)) (sym (cell_is cell (only_third cell.page cell.index h)))
+          (third_is_taken, third_was_freed);
+      quarantined = λ cell a h.
+          cell_of_third cell.page cell.index a.in_range
+          (subst (λ i. stands_in w.now.words cell (placed_at w.allocations i) ≡ true) (freed_number a.number h) a.stands);
+    }

@@ -1,0 +1,81 @@
+-- What guards the words of black objects while a caller writes beside a marker: a marked target, a dirty page, and a call
+-- that owes the dirty mark. And a moment that no history leaves, where nothing does.
+use Rattle.std.proofs.Common.{◌≡◌, ℕ, zero, suc, true, false, [], ◌∷◌, ◌++◌, replicate, slice_index, refl, inl, arith}
+use Rattle.std.proofs.lemmas.Bool.{false≢true, ltb-true}
+use Rattle.mk_geom.specs.Addresses.{address_of}
+use Rattle.mk_core.specs.Bounded.{all_below}
+use Rattle.mk_core.specs.Words.{zero_words_of}
+use Rattle.mk_core.specs.Cells.{pointed_cell, points_well, word_points_well}
+use Rattle.mk_core.specs.Moments.{Moment, first_moment}
+use Rattle.mk_core.specs.ClosedMarks.{OwesDirty, IsGuarded, PointsWell, PageIsDirty, DirtyIsOwed, MarkingIsGuarded}
+use Rattle.mk_core.specs.History.{left_from, left}
+use Rattle.mk_core.proofs.ListTests.{list_all-at}
+use Rattle.mk_core.proofs.SmallCycles.{small, three_objects, pointer_written, page_dirtied, second_cleared, first_marked, marker_in, written_beside, scanned_again, marked_beside}
+
+-- Behind the `write` heap word 0, of a black object, points to an unmarked one, and its page isn't dirty yet.
+
+pub written_points_badly : word_points_well small.pages (left small written_beside).now.words 0 ≡ false
+unfolding left_from all_below pointed_cell written_beside three_objects pointer_written first_marked marker_in
+written_points_badly = refl
+
+pub page_is_clean : slice_index (left small written_beside).now.words.dirty 0 ≡ 0
+unfolding left_from all_below pointed_cell written_beside three_objects pointer_written first_marked marker_in
+page_is_clean = refl
+
+pub dirty_is_owed : OwesDirty (left small written_beside).now 0 0
+unfolding left_from all_below pointed_cell written_beside three_objects pointer_written first_marked marker_in
+dirty_is_owed = (refl, refl)
+
+pub guarded_by_call : IsGuarded small (left small written_beside).now 0
+guarded_by_call = DirtyIsOwed 0 dirty_is_owed
+
+-- behind the `dirty`
+
+pub dirtied_points_badly : word_points_well small.pages (left small (written_beside ++ page_dirtied)).now.words 0 ≡ false
+unfolding left_from all_below pointed_cell written_beside three_objects pointer_written first_marked marker_in page_dirtied
+dirtied_points_badly = refl
+
+pub guarded_by_page : IsGuarded small (left small (written_beside ++ page_dirtied)).now 0
+unfolding left_from all_below pointed_cell written_beside three_objects pointer_written first_marked marker_in page_dirtied
+guarded_by_page = PageIsDirty refl
+
+-- before the `close`
+
+pub guarded_by_mark : IsGuarded small (left small marked_beside).now 0
+unfolding left_from all_below pointed_cell marked_beside written_beside three_objects pointer_written page_dirtied second_cleared first_marked marker_in scanned_again
+guarded_by_mark = PointsWell refl
+
+-- there each word points well, whatever is black
+every_word_points_well : (n : ℕ) → word_points_well small.pages (left small marked_beside).now.words n ≡ true
+unfolding left_from all_below pointed_cell marked_beside written_beside three_objects pointer_written page_dirtied second_cleared first_marked marker_in scanned_again
+every_word_points_well n =
+    list_all-at (points_well small.pages (left small marked_beside).now.words) (left small marked_beside).now.words.heap 0 refl refl n
+
+pub marking_is_guarded : MarkingIsGuarded small (left small marked_beside).now
+marking_is_guarded wanted p k i cell black scanned word = PointsWell (every_word_points_well _)
+
+-- a moment of marking, all at rest: the first object is black, and points to the unmarked second one
+abbrev pub unguarded : Moment
+unguarded = record (first_moment small) {
+  words = record (zero_words_of 1) {
+    phase = 1;
+    pages = record { header = 1; used = 3 } ∷ [];
+    marks = 1 ∷ [];
+    blacks = 1 ∷ [];
+    heap = address_of 2 ∷ replicate 63 0;
+  };
+}
+
+none_owes : (k page : ℕ) → OwesDirty unguarded k page → ⊥
+none_owes zero page owes = absurd cc
+none_owes (suc k) page owes = absurd cc
+
+pub word_is_unguarded : IsGuarded small unguarded 0 → ⊥
+unfolding pointed_cell
+word_is_unguarded (PointsWell well) = false≢true well
+word_is_unguarded (PageIsDirty dirty) = absurd (omega arith)
+word_is_unguarded (DirtyIsOwed k owes) = none_owes k 0 owes
+
+pub marking_is_unguarded : MarkingIsGuarded small unguarded → ⊥
+marking_is_unguarded guarded =
+    word_is_unguarded (guarded (inl refl) 0 0 0 (ltb-true 0 32 refl) refl refl (ltb-true 0 2 refl))

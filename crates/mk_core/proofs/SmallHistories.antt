@@ -1,0 +1,87 @@
+-- The two small heaps' lists are histories: within limits, enabled, and of admitted calls.
+use Rattle.std.proofs.Common.{◌≡◌, ℕ, true, false, List, [], ◌∷◌, ◌++◌, ◌<◌, All, refl, sym, subst}
+use Rattle.std.specs.Prelude.{◌==◌}
+use Rattle.std.proofs.lemmas.Bool.{and_parts, eqb-true, leb-true, ltb-true}
+use Rattle.std.proofs.lemmas.List.Elements.{All-nil, All-cons}
+use Rattle.mk_never.specs.declared.types.Kind.TheVariants.{Num, To}
+use Rattle.mk_never.specs.declared.operations.Op.TheVariants as op
+use Rattle.mk_never.specs.NeverHeap.{Call}
+use Rattle.mk_never.specs.Admitted.{AreAdmitted}
+use Rattle.mk_core.specs.declared.config.Config.{Config}
+use Rattle.mk_core.specs.declared.events.Event.{Event}
+use Rattle.mk_core.specs.Config.{IsWithinLimits, IsAmong, IsTypeAmong}
+use Rattle.mk_core.specs.Bounded.{all_below}
+use Rattle.mk_core.specs.Cells.{pointed_cell}
+use Rattle.mk_core.specs.Enabled.{failing}
+use Rattle.mk_core.specs.Decided.{asked}
+use Rattle.mk_core.specs.History.{World, first_world, world_behind, left_from, calls_from, AreEnabledFrom, calls, never_first, IsHistory}
+use Rattle.mk_core.proofs.SmallCycles.{small, all_enabled, stopped_are_enabled, beside_are_enabled, three_objects, pointer_written, page_dirtied, second_cleared, begun_in_stop, marked_in_stop, first_marked, marker_in, written_beside, scanned_again, marked_beside, third_released, stopped_cycle}
+
+pub enabled_by_test : (c : Config) (w : World) (es : List Event) → all_enabled c w es ≡ true → AreEnabledFrom c w es
+unfolding AreEnabledFrom all_enabled
+enabled_by_test c w [] h = tt
+enabled_by_test c w (e ∷ es) h =
+    let both = and_parts (failing c w.now e == 0) (all_enabled c (world_behind c w e) es) h in
+    (eqb-true (failing c w.now e) 0 both.0, enabled_by_test c (world_behind c w e) es both.1)
+
+kinds_are_among : All (IsAmong small.types) (To 0 0 ∷ Num ∷ [])
+kinds_are_among =
+    All-cons (IsAmong small.types) (To 0 0) (Num ∷ []) (ltb-true 0 1 refl, ltb-true 0 2 refl)
+    (All-cons (IsAmong small.types) Num [] tt (All-nil (IsAmong small.types)))
+
+pub small_is_within_limits : IsWithinLimits small
+small_is_within_limits = record {
+  pages = (leb-true 1 1 refl, leb-true 1 4096 refl);
+  resident = (leb-true 1 1 refl, leb-true 1 1 refl);
+  callers = (leb-true 1 1 refl, leb-true 1 16 refl);
+  markers = leb-true 1 8 refl;
+  type_count = leb-true 1 64 refl;
+  global_count = leb-true 0 64 refl;
+  types = All-cons (IsTypeAmong small.types) (To 0 0 ∷ Num ∷ []) [] ((leb-true 1 2 refl, leb-true 2 4096 refl), kinds_are_among) (All-nil (IsTypeAmong small.types));
+  globals = All-nil (λ (ty : ℕ). ty < 1);
+}
+
+-- the calls of both
+abbrev pub small_calls : List Call
+small_calls =
+    record { caller = 0; op = op.New 0 0 false } ∷ record { caller = 0; op = op.New 1 0 false } ∷ record { caller = 0; op = op.New 2 0 false }
+    ∷ record { caller = 0; op = op.Free 2 } ∷ record { caller = 0; op = op.Clear 2 } ∷ record { caller = 0; op = op.SetPtr 0 0 1 }
+    ∷ record { caller = 0; op = op.Clear 1 } ∷ []
+
+small_calls_are_admitted : AreAdmitted [] (never_first small) small_calls
+small_calls_are_admitted = (
+  record { of_a_caller = ltb-true 7 8 refl; in_range = (ltb-true 0 8 refl, ltb-true 0 1 refl); access = tt; store = tt },
+  (record { of_a_caller = ltb-true 7 8 refl; in_range = (ltb-true 1 8 refl, ltb-true 0 1 refl); access = tt; store = tt },
+  (record { of_a_caller = ltb-true 7 8 refl; in_range = (ltb-true 2 8 refl, ltb-true 0 1 refl); access = tt; store = tt },
+  (record { of_a_caller = ltb-true 7 8 refl; in_range = ltb-true 2 8 refl; access = tt; store = refl },
+  (record { of_a_caller = ltb-true 7 8 refl; in_range = ltb-true 2 8 refl; access = tt; store = tt },
+  (record {
+    of_a_caller = ltb-true 7 8 refl;
+    in_range = (ltb-true 0 8 refl, ltb-true 1 8 refl);
+    access = (ltb-true 0 2 refl, refl);
+    store = (ltb-true 0 2 refl, (refl, refl));
+  },
+  (record { of_a_caller = ltb-true 7 8 refl; in_range = ltb-true 1 8 refl; access = tt; store = tt }, tt)))))),
+)
+
+calls_in_stop : asked (calls small stopped_cycle) ≡ small_calls
+unfolding left_from calls_from all_below pointed_cell begun_in_stop three_objects pointer_written page_dirtied second_cleared marked_in_stop
+calls_in_stop = refl
+
+calls_beside : asked (calls small (marked_beside ++ third_released)) ≡ small_calls
+unfolding left_from calls_from all_below pointed_cell marked_beside written_beside three_objects pointer_written page_dirtied second_cleared first_marked marker_in scanned_again
+calls_beside = refl
+
+pub stopped_is_history : IsHistory small stopped_cycle
+stopped_is_history = record {
+  within_limits = small_is_within_limits;
+  enabled = enabled_by_test small (first_world small) stopped_cycle stopped_are_enabled;
+  admitted = subst (λ xs. AreAdmitted [] (never_first small) xs) (sym calls_in_stop) small_calls_are_admitted;
+}
+
+pub beside_is_history : IsHistory small (marked_beside ++ third_released)
+beside_is_history = record {
+  within_limits = small_is_within_limits;
+  enabled = enabled_by_test small (first_world small) (marked_beside ++ third_released) beside_are_enabled;
+  admitted = subst (λ xs. AreAdmitted [] (never_first small) xs) (sym calls_beside) small_calls_are_admitted;
+}
