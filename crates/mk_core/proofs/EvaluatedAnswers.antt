@@ -1,5 +1,5 @@
 -- What the calls of the schedules are answered, here and by the heap that never reuses storage.
-use Rattle.std.proofs.Common.{◌≡◌, List, [], ◌∷◌, ◌++◌, replicate, refl}
+use Rattle.std.proofs.Common.{◌≡◌, [], ◌∷◌, ◌++◌, replicate, refl}
 use Rattle.mk_never.specs.declared.values.Value.TheVariants.{Ptr}
 use Rattle.mk_never.specs.declared.operations.Reply.TheVariants as reply
 use Rattle.mk_never.specs.NeverHeap.{replies_of}

@@ -1,12 +1,12 @@
 -- What the schedules leave, counted: allocations, held and fresh words, tallies, and frees that are due.
-use Rattle.std.proofs.Common.{◌≡◌, ℕ, ◌*◌, ◌<◌, true, false, List, [], ◌∷◌, ◌++◌, take, refl, ap, arith}
+use Rattle.std.proofs.Common.{◌≡◌, ℕ, ◌<◌, true, false, List, [], ◌∷◌, take, refl, ap, arith}
 use Rattle.std.proofs.lemmas.Bool.{false≢true}
 use Rattle.mk_core.specs.declared.events.Step.TheVariants as step
 use Rattle.mk_core.specs.declared.events.Event.{Event}
 use Rattle.mk_core.specs.Bounded.{all_below}
 use Rattle.mk_core.specs.Cells.{pointed_cell}
 use Rattle.mk_core.specs.StopConditions.{may_turn_black}
-use Rattle.mk_core.specs.Allocations.{PlacedAllocation, unreleased_storage, held_words, fresh_words_of}
+use Rattle.mk_core.specs.Allocations.{unreleased_storage, held_words, fresh_words_of}
 use Rattle.mk_core.specs.Cycles.{is_give}
 use Rattle.mk_core.specs.Counts.{ends, releases, fulls, TalliesAreTidy, IsTidy, TalliesAreExact, IsDue}
 use Rattle.mk_core.specs.History.{left_from, left, calls_from}

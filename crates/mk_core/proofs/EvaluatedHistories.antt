@@ -1,6 +1,5 @@
 -- Each of the schedules is a history.
-use Rattle.std.proofs.Common.{◌≡◌, ℕ, ◌+◌, ◌≤◌, ◌<◌, arith, true, false, List, [], ◌∷◌, ◌++◌, ◌==◌, if◌then◌else◌, Option, Some, None, refl, replicate, drop, eqb-true, Bool}
-use Rattle.std.specs.Prelude.{⊤}
+use Rattle.std.proofs.Common.{◌≡◌, ℕ, ◌+◌, ◌<◌, arith, true, false, List, [], ◌∷◌, ◌++◌, ◌==◌, if◌then◌else◌, Option, Some, None, refl, replicate, drop, eqb-true, Bool}
 use Rattle.mk_never.specs.declared.types.Kind.TheVariants.{Num, To}
 use Rattle.std.proofs.lemmas.List.Elements.{All-nil, All-cons, All-replicate}
 use Rattle.mk_core.specs.declared.config.Config.{Config}

@@ -1,5 +1,5 @@
 -- Places in the schedules: what fits, where each object is granted, and where a New is refused.
-use Rattle.std.proofs.Common.{◌≡◌, ℕ, Bool, true, false, List, [], ◌∷◌, ◌++◌, take, Some, None, refl, ap}
+use Rattle.std.proofs.Common.{◌≡◌, Bool, true, false, List, [], take, Some, refl, ap}
 use Rattle.std.proofs.lemmas.Bool.{false≢true}
 use Rattle.mk_never.specs.declared.operations.Op.TheVariants as op
 use Rattle.mk_core.specs.declared.events.Step.{Step}
