@@ -11,8 +11,10 @@ pub mod EvaluatedCounts
 pub mod EvaluatedCycles
 pub mod EvaluatedExchanges
 pub mod EvaluatedHistories
+pub mod EvaluatedLarge
 pub mod EvaluatedPlaces
 pub mod HistoryParts
+pub mod LargeSchedule
 pub mod LayoutLemmas
 pub mod Lengths
 pub mod MoreSchedules
