@@ -1,8 +1,8 @@
 -- Each of the schedules is a history.
 use Rattle.std.proofs.Common.{◌≡◌, ℕ, ◌+◌, ◌<◌, arith, Bool, true, false, ◌==◌, if◌then◌else◌, eqb-true, List, [], ◌∷◌, ◌++◌, replicate, drop, Option, Some, None, refl}
+use Rattle.std.proofs.lemmas.List.Elements.{All-nil, All-cons, All-replicate}
 use Rattle.std.specs.Prelude.{All}
 use Rattle.mk_never.specs.declared.types.Kind.TheVariants.{Num, To}
-use Rattle.std.proofs.lemmas.List.Elements.{All-nil, All-cons, All-replicate}
 use Rattle.mk_core.specs.declared.config.Config.{Config}
 use Rattle.mk_core.specs.declared.events.Event.{Event}
 use Rattle.mk_core.specs.Config.{IsWithinLimits, IsAmong, IsTypeAmong}
@@ -48,7 +48,7 @@ one_page_limits =
       type_count = omega arith;
       global_count = omega arith;
       types = All-cons (IsTypeAmong one_page.types) (replicate 32 Num) []
-        ((omega arith, omega arith), All-replicate (IsAmong one_page.types) 32 Num tt) (All-nil (IsTypeAmong one_page.types));
+          ((omega arith, omega arith), All-replicate (IsAmong one_page.types) 32 Num tt) (All-nil (IsTypeAmong one_page.types));
       globals = All-nil (λ (ty : ℕ). ty < 1);
     }
 
@@ -63,9 +63,9 @@ two_pages_limits =
       type_count = omega arith;
       global_count = omega arith;
       types = All-cons (IsTypeAmong two_pages.types) (replicate 2 Num) (replicate 6 Num ∷ [])
-        ((omega arith, omega arith), All-replicate (IsAmong two_pages.types) 2 Num tt)
-        (All-cons (IsTypeAmong two_pages.types) (replicate 6 Num) []
-        ((omega arith, omega arith), All-replicate (IsAmong two_pages.types) 6 Num tt) (All-nil (IsTypeAmong two_pages.types)));
+          ((omega arith, omega arith), All-replicate (IsAmong two_pages.types) 2 Num tt)
+          (All-cons (IsTypeAmong two_pages.types) (replicate 6 Num) []
+          ((omega arith, omega arith), All-replicate (IsAmong two_pages.types) 6 Num tt) (All-nil (IsTypeAmong two_pages.types)));
       globals = All-nil (λ (ty : ℕ). ty < 2);
     }
 
@@ -86,7 +86,7 @@ pointer_page_limits =
       type_count = omega arith;
       global_count = omega arith;
       types = All-cons (IsTypeAmong pointer_page.types) (To 0 0 ∷ Num ∷ []) []
-        ((omega arith, omega arith), pointer_and_number) (All-nil (IsTypeAmong pointer_page.types));
+          ((omega arith, omega arith), pointer_and_number) (All-nil (IsTypeAmong pointer_page.types));
       globals = All-nil (λ (ty : ℕ). ty < 1);
     }
 

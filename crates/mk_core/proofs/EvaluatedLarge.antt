@@ -1,5 +1,5 @@
 -- The schedule of a large object, evaluated: answers, counts, places and what is due.
-use Rattle.std.proofs.Common.{◌≡◌, ℕ, ◌<◌, arith, true, false, List, [], ◌∷◌, ◌++◌, replicate, take, Some, None, refl, ap}
+use Rattle.std.proofs.Common.{◌≡◌, ℕ, ◌<◌, arith, true, false, List, [], ◌∷◌, replicate, take, Some, refl, ap}
 use Rattle.std.proofs.lemmas.Bool.{false≢true}
 use Rattle.std.proofs.lemmas.List.Elements.{All-nil, All-cons, All-replicate}
 use Rattle.mk_never.specs.declared.types.Kind.TheVariants.{Num}
@@ -32,7 +32,7 @@ three_pages_limits =
       type_count = omega arith;
       global_count = omega arith;
       types = All-cons (IsTypeAmong three_pages.types) (replicate 65 Num) []
-        ((omega arith, omega arith), All-replicate (IsAmong three_pages.types) 65 Num tt) (All-nil (IsTypeAmong three_pages.types));
+          ((omega arith, omega arith), All-replicate (IsAmong three_pages.types) 65 Num tt) (All-nil (IsTypeAmong three_pages.types));
       globals = All-nil (λ (ty : ℕ). ty < 1);
     }
 

@@ -15,7 +15,6 @@ use Rattle.mk_core.specs.Cycles.{At, is_give, TurnOf}
 
 -- a proof of the first, and one of the others
 infixr 10 ◌and◌
-
 pub ◌and◌ : {A B : Type 0} → A → B → A × B
 a and b = (a, b)
 
