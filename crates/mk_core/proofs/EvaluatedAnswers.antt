@@ -10,7 +10,7 @@ use Rattle.mk_core.specs.StopConditions.{may_turn_black}
 use Rattle.mk_core.specs.Decided.{asked, answered}
 use Rattle.mk_core.specs.History.{left_from, calls_from, calls, never_first, RefinesNever}
 use Rattle.mk_core.proofs.Schedules.{by, c0, m0, host, one_page, pointer_page, freed_after_begin, blackened_before_the_move}
-use Rattle.mk_core.proofs.MoreSchedules.{two_pages, full_then_reused, a_quarter_and_all, exchanged}
+use Rattle.mk_core.proofs.MoreSchedules.{two_pages, full_then_reused, a_quarter_and_all, granted_while_marking, exchanged}
 
 -- Two News, two Frees, two clears and a New, and then the register of the last New isn't null.
 pub replies_freed : replies_of (never_first one_page) (asked (calls one_page freed_after_begin)) ≡ replicate 7 reply.Done ++ reply.Num 0 ∷ []
@@ -69,3 +69,7 @@ answers_quarter = refl
 pub quarter_refines : RefinesNever two_pages a_quarter_and_all
 unfolding by c0 all_below pointed_cell two_pages a_quarter_and_all left_from calls_from
 quarter_refines = refl
+
+pub marking_refines : RefinesNever two_pages granted_while_marking
+unfolding by c0 all_below pointed_cell two_pages granted_while_marking left_from calls_from
+marking_refines = refl

@@ -1,5 +1,5 @@
 -- What the schedules leave, counted: allocations, held and fresh words, tallies, and frees that are due.
-use Rattle.std.proofs.Common.{◌≡◌, ℕ, ◌<◌, true, false, List, [], ◌∷◌, take, refl, ap, arith}
+use Rattle.std.proofs.Common.{◌≡◌, ℕ, ◌<◌, true, false, List, [], ◌∷◌, take, drop, refl, ap, arith}
 use Rattle.std.proofs.lemmas.Bool.{false≢true}
 use Rattle.mk_core.specs.declared.events.Step.TheVariants as step
 use Rattle.mk_core.specs.declared.events.Event.{Event}
@@ -10,7 +10,7 @@ use Rattle.mk_core.specs.Allocations.{unreleased_storage, held_words, fresh_word
 use Rattle.mk_core.specs.Cycles.{is_give}
 use Rattle.mk_core.specs.Counts.{ends, releases, fulls, TalliesAreTidy, IsTidy, TalliesAreExact, IsDue}
 use Rattle.mk_core.specs.History.{left_from, left, calls_from}
-use Rattle.mk_core.proofs.EventsAt.{◌and◌, AtEach, Also, at_each}
+use Rattle.mk_core.proofs.EventsAt.{◌and◌, event_number, AtEach, Also, at_each}
 use Rattle.mk_core.proofs.Schedules.{by, c0, m0, host, one_page, pointer_page, freed_after_begin, blackened_before_the_move}
 use Rattle.mk_core.proofs.MoreSchedules.{two_pages, full_then_reused, a_quarter_and_all}
 
@@ -69,6 +69,11 @@ freed_is_exact = record { held = refl; fresh = refl }
 pub freed_is_not_tidy : TalliesAreTidy one_page (take 55 freed_after_begin) → ⊥
 unfolding by c0 host all_below pointed_cell one_page freed_after_begin left_from
 freed_is_not_tidy h = let wrong : ◌≡◌ {A = ℕ} 0 2 = h.cycles in omega arith
+
+pub freed_has_untidy_give : IsTidy one_page freed_after_begin → ⊥
+unfolding by c0 host freed_after_begin event_number
+freed_has_untidy_give h =
+    freed_is_not_tidy (h (take 55 freed_after_begin) (event_number 55 freed_after_begin) (drop 56 freed_after_begin) refl refl)
 
 -- Here every tally is stored before its `give`.
 pub full_is_tidy : IsTidy one_page full_then_reused

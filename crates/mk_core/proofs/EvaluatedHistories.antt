@@ -13,8 +13,8 @@ use Rattle.mk_core.specs.Cells.{pointed_cell}
 use Rattle.mk_core.specs.StopConditions.{may_turn_black}
 use Rattle.mk_core.proofs.Schedules.{by, c0, m0, host, fault, first_fault, one_page, pointer_page, freed_after_begin, blackened_before_the_move}
 use Rattle.mk_core.proofs.Schedules.{no_fault_freed, no_fault_blackened}
-use Rattle.mk_core.proofs.MoreSchedules.{two_pages, full_then_reused, a_quarter_and_all, exchanged, before_the_sweep, sweeping_mark}
-use Rattle.mk_core.proofs.MoreSchedules.{no_fault_full, no_fault_quarter, no_fault_swept}
+use Rattle.mk_core.proofs.MoreSchedules.{two_pages, full_then_reused, a_quarter_and_all, granted_while_marking, exchanged, before_the_sweep, sweeping_mark}
+use Rattle.mk_core.proofs.MoreSchedules.{no_fault_full, no_fault_quarter, no_fault_marking, no_fault_swept}
 use Rattle.mk_core.proofs.EventsAt.{◌and◌}
 use Rattle.mk_core.proofs.HistoryParts.{earlier_part_is_history}
 
@@ -160,6 +160,18 @@ quarter_is_admitted =
 pub quarter_is_history : IsHistory two_pages a_quarter_and_all
 quarter_is_history =
     record { within_limits = two_pages_limits; enabled = enabled two_pages a_quarter_and_all no_fault_quarter; admitted = quarter_is_admitted }
+
+marking_is_admitted : CallsAreAdmitted two_pages granted_while_marking
+unfolding by c0 all_below pointed_cell two_pages granted_while_marking left_from calls_from
+marking_is_admitted =
+    record { of_a_caller = omega arith; in_range = (omega arith, omega arith); access = tt; store = tt }
+    and record { of_a_caller = omega arith; in_range = omega arith; access = tt; store = refl }
+    and record { of_a_caller = omega arith; in_range = (omega arith, omega arith); access = tt; store = tt }
+    and tt
+
+pub marking_is_history : IsHistory two_pages granted_while_marking
+marking_is_history =
+    record { within_limits = two_pages_limits; enabled = enabled two_pages granted_while_marking no_fault_marking; admitted = marking_is_admitted }
 
 swept_is_admitted : CallsAreAdmitted pointer_page (before_the_sweep ++ sweeping_mark ∷ [])
 unfolding by c0 host all_below pointed_cell pointer_page exchanged before_the_sweep sweeping_mark left_from calls_from
