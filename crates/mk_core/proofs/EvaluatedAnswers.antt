@@ -10,7 +10,7 @@ use Rattle.mk_core.specs.StopConditions.{may_turn_black}
 use Rattle.mk_core.specs.Decided.{asked, answered}
 use Rattle.mk_core.specs.History.{left_from, calls_from, calls, never_first, RefinesNever}
 use Rattle.mk_core.proofs.Schedules.{by, c0, m0, host, one_page, pointer_page, freed_after_begin, blackened_before_the_move}
-use Rattle.mk_core.proofs.MoreSchedules.{full_then_reused, exchanged}
+use Rattle.mk_core.proofs.MoreSchedules.{two_pages, full_then_reused, a_quarter_and_all, granted_while_marking, exchanged}
 
 -- Two News, two Frees, two clears and a New, and then the register of the last New isn't null.
 pub replies_freed : replies_of (never_first one_page) (asked (calls one_page freed_after_begin)) ≡ replicate 7 reply.Done ++ reply.Num 0 ∷ []
@@ -60,3 +60,16 @@ answers_exchanged = refl
 pub exchanged_refines : RefinesNever pointer_page exchanged
 unfolding by c0 all_below pointed_cell pointer_page exchanged left_from calls_from
 exchanged_refines = refl
+
+-- News and Frees of what isn't null or freed are done.
+pub answers_quarter : answered (calls two_pages a_quarter_and_all) ≡ replicate 4 answer.Done
+unfolding by c0 all_below pointed_cell two_pages a_quarter_and_all calls_from
+answers_quarter = refl
+
+pub quarter_refines : RefinesNever two_pages a_quarter_and_all
+unfolding by c0 all_below pointed_cell two_pages a_quarter_and_all left_from calls_from
+quarter_refines = refl
+
+pub marking_refines : RefinesNever two_pages granted_while_marking
+unfolding by c0 all_below pointed_cell two_pages granted_while_marking left_from calls_from
+marking_refines = refl

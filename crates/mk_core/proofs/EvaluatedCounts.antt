@@ -1,5 +1,5 @@
 -- What the schedules leave, counted: allocations, held and fresh words, tallies, and frees that are due.
-use Rattle.std.proofs.Common.{◌≡◌, ℕ, ◌<◌, true, false, List, [], ◌∷◌, take, refl, ap, arith}
+use Rattle.std.proofs.Common.{◌≡◌, ℕ, ◌<◌, true, false, List, [], ◌∷◌, take, drop, refl, ap, arith}
 use Rattle.std.proofs.lemmas.Bool.{false≢true}
 use Rattle.mk_core.specs.declared.events.Step.TheVariants as step
 use Rattle.mk_core.specs.declared.events.Event.{Event}
@@ -10,8 +10,8 @@ use Rattle.mk_core.specs.Allocations.{unreleased_storage, held_words, fresh_word
 use Rattle.mk_core.specs.Cycles.{is_give}
 use Rattle.mk_core.specs.Counts.{ends, releases, fulls, TalliesAreTidy, IsTidy, TalliesAreExact, IsDue}
 use Rattle.mk_core.specs.History.{left_from, left, calls_from}
-use Rattle.mk_core.proofs.EventsAt.{AtEach, Also, at_each}
-use Rattle.mk_core.proofs.Schedules.{by, c0, host, one_page, freed_after_begin}
+use Rattle.mk_core.proofs.EventsAt.{◌and◌, event_number, AtEach, Also, at_each}
+use Rattle.mk_core.proofs.Schedules.{by, c0, m0, host, one_page, pointer_page, freed_after_begin, blackened_before_the_move}
 use Rattle.mk_core.proofs.MoreSchedules.{two_pages, full_then_reused, a_quarter_and_all}
 
 -- Both freed objects are released at the end. The third has taken the cell of the first.
@@ -40,6 +40,21 @@ pub counts_behind_second_free : (held_words one_page (left one_page (take 20 fre
 unfolding by c0 host all_below pointed_cell one_page freed_after_begin left_from unreleased_storage
 counts_behind_second_free = (refl, refl)
 
+-- In the schedule with a marker each object has 2 words. The third is freed, and stays so behind the cycle that reaches it.
+pub allocations_blackened : (left pointer_page blackened_before_the_move).allocations
+    ≡ record { base = 0; ty = 0; freed = false; fresh = false; released = false }
+    ∷ record { base = 2; ty = 0; freed = false; fresh = false; released = false }
+    ∷ record { base = 4; ty = 0; freed = true; fresh = false; released = false } ∷ []
+unfolding by c0 m0 host all_below pointed_cell may_turn_black pointer_page blackened_before_the_move left_from
+allocations_blackened = refl
+
+-- It is held with the others, and fresh only up to the `begin`.
+pub counts_blackened : (held_words pointer_page (left pointer_page blackened_before_the_move).allocations ≡ 6)
+    × (fresh_words_of pointer_page (left pointer_page (take 32 blackened_before_the_move)).allocations ≡ 2)
+    × (fresh_words_of pointer_page (left pointer_page (take 35 blackened_before_the_move)).allocations ≡ 0)
+unfolding by c0 m0 host all_below pointed_cell may_turn_black pointer_page blackened_before_the_move left_from unreleased_storage
+counts_blackened = (refl, refl, refl)
+
 -- Two cycles have ended, each with a released object, and no call was refused.
 pub tallies_freed : (ends freed_after_begin ≡ 2) × (releases (left one_page freed_after_begin).allocations ≡ 2)
     × (fulls one_page freed_after_begin ≡ 0)
@@ -55,14 +70,22 @@ pub freed_is_not_tidy : TalliesAreTidy one_page (take 55 freed_after_begin) → 
 unfolding by c0 host all_below pointed_cell one_page freed_after_begin left_from
 freed_is_not_tidy h = let wrong : ◌≡◌ {A = ℕ} 0 2 = h.cycles in omega arith
 
+pub freed_has_untidy_give : IsTidy one_page freed_after_begin → ⊥
+unfolding by c0 host freed_after_begin event_number
+freed_has_untidy_give h =
+    freed_is_not_tidy (h (take 55 freed_after_begin) (event_number 55 freed_after_begin) (drop 56 freed_after_begin) refl refl)
+
 -- Here every tally is stored before its `give`.
 pub full_is_tidy : IsTidy one_page full_then_reused
 unfolding by c0 all_below pointed_cell may_turn_black one_page full_then_reused left_from calls_from AtEach Also
 full_is_tidy before e behind is give =
     at_each is_give (λ (es : List Event) (x : Event). TalliesAreTidy one_page es) [] full_then_reused
-    (record { cycles = refl; released = refl; full = refl }, (record { cycles = refl; released = refl; full = refl },
-    (record { cycles = refl; released = refl; full = refl }, (record { cycles = refl; released = refl; full = refl },
-    (record { cycles = refl; released = refl; full = refl }, tt))))) before e behind is (ap is_give give)
+    (record { cycles = refl; released = refl; full = refl }
+    and record { cycles = refl; released = refl; full = refl }
+    and record { cycles = refl; released = refl; full = refl }
+    and record { cycles = refl; released = refl; full = refl }
+    and record { cycles = refl; released = refl; full = refl }
+    and tt) before e behind is (ap is_give give)
 
 -- Of its two cycles the second releases an object, and one New is refused.
 pub tallies_full : (ends full_then_reused ≡ 2) × (releases (left one_page full_then_reused).allocations ≡ 1)

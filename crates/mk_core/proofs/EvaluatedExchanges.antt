@@ -62,7 +62,7 @@ compares_there c es q i p r number place is there same k' q' i' p' r' number' is
     let both : op.CasPtr q i p r ≡ op.CasPtr q' i' p' r' = sym is ∙ here in
     λ (place' : ℕ) (there' : target_of (never_behind c es) (register_at (never_behind c es) 0 q') i' ≡ WordOf number' place').
     let moved : WordOf number place ≡ WordOf number' place' =
-      sym there ∙ ap (λ (o : Op). target_of (never_behind c es) (register_at (never_behind c es) 0 (q_of o)) (i_of o)) both ∙ there' in
+    sym there ∙ ap (λ (o : Op). target_of (never_behind c es) (register_at (never_behind c es) 0 (q_of o)) (i_of o)) both ∙ there' in
     subst (λ (x : ℕ). Compares c es 0 x number' place') (ap p_of both)
     (subst (λ (x : ℕ). Compares c es 0 p x place') (ap number_in moved)
     (subst (λ (x : ℕ). Compares c es 0 p number x) (ap place_in moved) same)))

@@ -1,7 +1,8 @@
 -- Each of the schedules is a history.
-use Rattle.std.proofs.Common.{◌≡◌, ℕ, ◌+◌, ◌<◌, arith, true, false, List, [], ◌∷◌, ◌++◌, ◌==◌, if◌then◌else◌, Option, Some, None, refl, replicate, drop, eqb-true, Bool}
-use Rattle.mk_never.specs.declared.types.Kind.TheVariants.{Num, To}
+use Rattle.std.proofs.Common.{◌≡◌, ℕ, ◌+◌, ◌<◌, arith, Bool, true, false, ◌==◌, if◌then◌else◌, eqb-true, List, [], ◌∷◌, ◌++◌, replicate, drop, Option, Some, None, refl}
 use Rattle.std.proofs.lemmas.List.Elements.{All-nil, All-cons, All-replicate}
+use Rattle.std.specs.Prelude.{All}
+use Rattle.mk_never.specs.declared.types.Kind.TheVariants.{Num, To}
 use Rattle.mk_core.specs.declared.config.Config.{Config}
 use Rattle.mk_core.specs.declared.events.Event.{Event}
 use Rattle.mk_core.specs.Config.{IsWithinLimits, IsAmong, IsTypeAmong}
@@ -10,8 +11,11 @@ use Rattle.mk_core.specs.History.{left_from, calls_from, World, first_world, wor
 use Rattle.mk_core.specs.Bounded.{all_below}
 use Rattle.mk_core.specs.Cells.{pointed_cell}
 use Rattle.mk_core.specs.StopConditions.{may_turn_black}
-use Rattle.mk_core.proofs.Schedules.{by, c0, m0, host, fault, first_fault, one_page, pointer_page, freed_after_begin, blackened_before_the_move, no_fault_freed, no_fault_blackened}
-use Rattle.mk_core.proofs.MoreSchedules.{two_pages, full_then_reused, a_quarter_and_all, exchanged, before_the_sweep, sweeping_mark, no_fault_full, no_fault_quarter, no_fault_swept}
+use Rattle.mk_core.proofs.Schedules.{by, c0, m0, host, fault, first_fault, one_page, pointer_page, freed_after_begin, blackened_before_the_move}
+use Rattle.mk_core.proofs.Schedules.{no_fault_freed, no_fault_blackened}
+use Rattle.mk_core.proofs.MoreSchedules.{two_pages, full_then_reused, a_quarter_and_all, granted_while_marking, exchanged, before_the_sweep, sweeping_mark}
+use Rattle.mk_core.proofs.MoreSchedules.{no_fault_full, no_fault_quarter, no_fault_marking, no_fault_swept}
+use Rattle.mk_core.proofs.EventsAt.{◌and◌}
 use Rattle.mk_core.proofs.HistoryParts.{earlier_part_is_history}
 
 -- Where no fault is found, each event is enabled.
@@ -27,7 +31,7 @@ enabled_from c n w (e ∷ es) h =
     let both = none_of_both (failing c w.now e == 0) (n, failing c w.now e) (fault c (n + 1) (world_behind c w e) es) h in
     (eqb-true (failing c w.now e) 0 both.0, enabled_from c (n + 1) (world_behind c w e) es both.1)
 
-enabled : (c : Config) (es : List Event) → first_fault c es ≡ None → AreEnabled c es
+pub enabled : (c : Config) (es : List Event) → first_fault c es ≡ None → AreEnabled c es
 unfolding first_fault
 enabled c es h = enabled_from c 0 (first_world c) es h
 
@@ -44,7 +48,7 @@ one_page_limits =
       type_count = omega arith;
       global_count = omega arith;
       types = All-cons (IsTypeAmong one_page.types) (replicate 32 Num) []
-        ((omega arith, omega arith), All-replicate (IsAmong one_page.types) 32 Num tt) (All-nil (IsTypeAmong one_page.types));
+          ((omega arith, omega arith), All-replicate (IsAmong one_page.types) 32 Num tt) (All-nil (IsTypeAmong one_page.types));
       globals = All-nil (λ (ty : ℕ). ty < 1);
     }
 
@@ -59,11 +63,17 @@ two_pages_limits =
       type_count = omega arith;
       global_count = omega arith;
       types = All-cons (IsTypeAmong two_pages.types) (replicate 2 Num) (replicate 6 Num ∷ [])
-        ((omega arith, omega arith), All-replicate (IsAmong two_pages.types) 2 Num tt)
-        (All-cons (IsTypeAmong two_pages.types) (replicate 6 Num) []
-        ((omega arith, omega arith), All-replicate (IsAmong two_pages.types) 6 Num tt) (All-nil (IsTypeAmong two_pages.types)));
+          ((omega arith, omega arith), All-replicate (IsAmong two_pages.types) 2 Num tt)
+          (All-cons (IsTypeAmong two_pages.types) (replicate 6 Num) []
+          ((omega arith, omega arith), All-replicate (IsAmong two_pages.types) 6 Num tt) (All-nil (IsTypeAmong two_pages.types)));
       globals = All-nil (λ (ty : ℕ). ty < 2);
     }
+
+pointer_and_number : All (IsAmong pointer_page.types) (To 0 0 ∷ Num ∷ [])
+unfolding pointer_page
+pointer_and_number =
+    All-cons (IsAmong pointer_page.types) (To 0 0) (Num ∷ []) (omega arith, omega arith)
+    (All-cons (IsAmong pointer_page.types) Num [] tt (All-nil (IsAmong pointer_page.types)))
 
 pointer_page_limits : IsWithinLimits pointer_page
 unfolding pointer_page
@@ -76,23 +86,21 @@ pointer_page_limits =
       type_count = omega arith;
       global_count = omega arith;
       types = All-cons (IsTypeAmong pointer_page.types) (To 0 0 ∷ Num ∷ []) []
-        ((omega arith, omega arith), All-cons (IsAmong pointer_page.types) (To 0 0) (Num ∷ []) (omega arith, omega arith)
-        (All-cons (IsAmong pointer_page.types) Num [] tt (All-nil (IsAmong pointer_page.types))))
-        (All-nil (IsTypeAmong pointer_page.types));
+          ((omega arith, omega arith), pointer_and_number) (All-nil (IsTypeAmong pointer_page.types));
       globals = All-nil (λ (ty : ℕ). ty < 1);
     }
 
 freed_is_admitted : CallsAreAdmitted one_page freed_after_begin
 unfolding by c0 host all_below pointed_cell one_page freed_after_begin left_from calls_from
 freed_is_admitted =
-    (record { of_a_caller = omega arith; in_range = (omega arith, omega arith); access = tt; store = tt },
-    (record { of_a_caller = omega arith; in_range = (omega arith, omega arith); access = tt; store = tt },
-    (record { of_a_caller = omega arith; in_range = omega arith; access = tt; store = refl },
-    (record { of_a_caller = omega arith; in_range = omega arith; access = tt; store = refl },
-    (record { of_a_caller = omega arith; in_range = omega arith; access = tt; store = tt },
-    (record { of_a_caller = omega arith; in_range = omega arith; access = tt; store = tt },
-    (record { of_a_caller = omega arith; in_range = (omega arith, omega arith); access = tt; store = tt },
-    (record { of_a_caller = omega arith; in_range = omega arith; access = tt; store = tt }, tt))))))))
+    record { of_a_caller = omega arith; in_range = (omega arith, omega arith); access = tt; store = tt }
+    and record { of_a_caller = omega arith; in_range = (omega arith, omega arith); access = tt; store = tt }
+    and record { of_a_caller = omega arith; in_range = omega arith; access = tt; store = refl }
+    and record { of_a_caller = omega arith; in_range = omega arith; access = tt; store = refl }
+    and record { of_a_caller = omega arith; in_range = omega arith; access = tt; store = tt }
+    and record { of_a_caller = omega arith; in_range = omega arith; access = tt; store = tt }
+    and record { of_a_caller = omega arith; in_range = (omega arith, omega arith); access = tt; store = tt }
+    and record { of_a_caller = omega arith; in_range = omega arith; access = tt; store = tt } and tt
 
 pub freed_is_history : IsHistory one_page freed_after_begin
 freed_is_history =
@@ -105,19 +113,19 @@ freed_is_history =
 blackened_is_admitted : CallsAreAdmitted pointer_page blackened_before_the_move
 unfolding by c0 m0 host all_below pointed_cell may_turn_black pointer_page blackened_before_the_move left_from calls_from
 blackened_is_admitted =
-    (record { of_a_caller = omega arith; in_range = (omega arith, omega arith); access = tt; store = tt },
-    (record { of_a_caller = omega arith; in_range = (omega arith, omega arith); access = tt; store = tt },
-    (record { of_a_caller = omega arith; in_range = (omega arith, omega arith); access = tt; store = tt },
-    (record { of_a_caller = omega arith; in_range = (omega arith, omega arith); access = (omega arith, refl); store = (omega arith, (refl, refl)) },
-    (record { of_a_caller = omega arith; in_range = omega arith; access = (omega arith, refl); store = tt },
-    (record { of_a_caller = omega arith; in_range = omega arith; access = tt; store = refl },
-    (record { of_a_caller = omega arith; in_range = omega arith; access = tt; store = tt },
-    (record { of_a_caller = omega arith; in_range = (omega arith, omega arith); access = (omega arith, refl); store = tt },
-    (record { of_a_caller = omega arith; in_range = (omega arith, omega arith); access = (omega arith, refl); store = (omega arith, (refl, refl)) },
-    (record { of_a_caller = omega arith; in_range = (omega arith, omega arith); access = (omega arith, refl); store = (omega arith, tt) },
-    (record { of_a_caller = omega arith; in_range = omega arith; access = tt; store = tt },
-    (record { of_a_caller = omega arith; in_range = (omega arith, omega arith); access = (omega arith, refl); store = tt },
-    (record { of_a_caller = omega arith; in_range = omega arith; access = (omega arith, refl); store = tt }, tt)))))))))))))
+    record { of_a_caller = omega arith; in_range = (omega arith, omega arith); access = tt; store = tt }
+    and record { of_a_caller = omega arith; in_range = (omega arith, omega arith); access = tt; store = tt }
+    and record { of_a_caller = omega arith; in_range = (omega arith, omega arith); access = tt; store = tt }
+    and record { of_a_caller = omega arith; in_range = (omega arith, omega arith); access = (omega arith, refl); store = (omega arith, (refl, refl)) }
+    and record { of_a_caller = omega arith; in_range = omega arith; access = (omega arith, refl); store = tt }
+    and record { of_a_caller = omega arith; in_range = omega arith; access = tt; store = refl }
+    and record { of_a_caller = omega arith; in_range = omega arith; access = tt; store = tt }
+    and record { of_a_caller = omega arith; in_range = (omega arith, omega arith); access = (omega arith, refl); store = tt }
+    and record { of_a_caller = omega arith; in_range = (omega arith, omega arith); access = (omega arith, refl); store = (omega arith, (refl, refl)) }
+    and record { of_a_caller = omega arith; in_range = (omega arith, omega arith); access = (omega arith, refl); store = (omega arith, tt) }
+    and record { of_a_caller = omega arith; in_range = omega arith; access = tt; store = tt }
+    and record { of_a_caller = omega arith; in_range = (omega arith, omega arith); access = (omega arith, refl); store = tt }
+    and record { of_a_caller = omega arith; in_range = omega arith; access = (omega arith, refl); store = tt } and tt
 
 pub blackened_is_history : IsHistory pointer_page blackened_before_the_move
 blackened_is_history =
@@ -130,12 +138,12 @@ blackened_is_history =
 full_is_admitted : CallsAreAdmitted one_page full_then_reused
 unfolding by c0 all_below pointed_cell may_turn_black one_page full_then_reused left_from calls_from
 full_is_admitted =
-    (record { of_a_caller = omega arith; in_range = (omega arith, omega arith); access = tt; store = tt },
-    (record { of_a_caller = omega arith; in_range = (omega arith, omega arith); access = tt; store = tt },
-    (record { of_a_caller = omega arith; in_range = omega arith; access = tt; store = refl },
-    (record { of_a_caller = omega arith; in_range = (omega arith, omega arith); access = tt; store = tt },
-    (record { of_a_caller = omega arith; in_range = omega arith; access = tt; store = tt },
-    (record { of_a_caller = omega arith; in_range = (omega arith, omega arith); access = tt; store = tt }, tt))))))
+    record { of_a_caller = omega arith; in_range = (omega arith, omega arith); access = tt; store = tt }
+    and record { of_a_caller = omega arith; in_range = (omega arith, omega arith); access = tt; store = tt }
+    and record { of_a_caller = omega arith; in_range = omega arith; access = tt; store = refl }
+    and record { of_a_caller = omega arith; in_range = (omega arith, omega arith); access = tt; store = tt }
+    and record { of_a_caller = omega arith; in_range = omega arith; access = tt; store = tt }
+    and record { of_a_caller = omega arith; in_range = (omega arith, omega arith); access = tt; store = tt } and tt
 
 pub full_is_history : IsHistory one_page full_then_reused
 full_is_history =
@@ -144,22 +152,34 @@ full_is_history =
 quarter_is_admitted : CallsAreAdmitted two_pages a_quarter_and_all
 unfolding by c0 all_below pointed_cell two_pages a_quarter_and_all left_from calls_from
 quarter_is_admitted =
-    (record { of_a_caller = omega arith; in_range = (omega arith, omega arith); access = tt; store = tt },
-    (record { of_a_caller = omega arith; in_range = (omega arith, omega arith); access = tt; store = tt },
-    (record { of_a_caller = omega arith; in_range = omega arith; access = tt; store = refl },
-    (record { of_a_caller = omega arith; in_range = omega arith; access = tt; store = refl }, tt))))
+    record { of_a_caller = omega arith; in_range = (omega arith, omega arith); access = tt; store = tt }
+    and record { of_a_caller = omega arith; in_range = (omega arith, omega arith); access = tt; store = tt }
+    and record { of_a_caller = omega arith; in_range = omega arith; access = tt; store = refl }
+    and record { of_a_caller = omega arith; in_range = omega arith; access = tt; store = refl } and tt
 
 pub quarter_is_history : IsHistory two_pages a_quarter_and_all
 quarter_is_history =
     record { within_limits = two_pages_limits; enabled = enabled two_pages a_quarter_and_all no_fault_quarter; admitted = quarter_is_admitted }
 
+marking_is_admitted : CallsAreAdmitted two_pages granted_while_marking
+unfolding by c0 all_below pointed_cell two_pages granted_while_marking left_from calls_from
+marking_is_admitted =
+    record { of_a_caller = omega arith; in_range = (omega arith, omega arith); access = tt; store = tt }
+    and record { of_a_caller = omega arith; in_range = omega arith; access = tt; store = refl }
+    and record { of_a_caller = omega arith; in_range = (omega arith, omega arith); access = tt; store = tt }
+    and tt
+
+pub marking_is_history : IsHistory two_pages granted_while_marking
+marking_is_history =
+    record { within_limits = two_pages_limits; enabled = enabled two_pages granted_while_marking no_fault_marking; admitted = marking_is_admitted }
+
 swept_is_admitted : CallsAreAdmitted pointer_page (before_the_sweep ++ sweeping_mark ∷ [])
 unfolding by c0 host all_below pointed_cell pointer_page exchanged before_the_sweep sweeping_mark left_from calls_from
 swept_is_admitted =
-    (record { of_a_caller = omega arith; in_range = (omega arith, omega arith); access = tt; store = tt },
-    (record { of_a_caller = omega arith; in_range = (omega arith, omega arith); access = tt; store = tt },
-    (record { of_a_caller = omega arith; in_range = (omega arith, omega arith, omega arith); access = (omega arith, refl); store = (omega arith, (tt, (refl, refl))) },
-    (record { of_a_caller = omega arith; in_range = (omega arith, omega arith, omega arith); access = (omega arith, refl); store = (omega arith, (tt, (refl, refl))) }, tt))))
+    record { of_a_caller = omega arith; in_range = (omega arith, omega arith); access = tt; store = tt }
+    and record { of_a_caller = omega arith; in_range = (omega arith, omega arith); access = tt; store = tt }
+    and record { of_a_caller = omega arith; in_range = (omega arith, omega arith, omega arith); access = (omega arith, refl); store = (omega arith, (tt, (refl, refl))) }
+    and record { of_a_caller = omega arith; in_range = (omega arith, omega arith, omega arith); access = (omega arith, refl); store = (omega arith, (tt, (refl, refl))) } and tt
 
 pub swept_is_history : IsHistory pointer_page (before_the_sweep ++ sweeping_mark ∷ [])
 swept_is_history =

@@ -14,7 +14,7 @@ use Rattle.mk_core.specs.History.{left_from, left}
 use Rattle.mk_core.specs.Placement.{NoneServesFrom, StandsAtItsPlace, GrantsStandAtTheirPlaces, IsFull, FullsFitNowhere}
 use Rattle.mk_core.proofs.EventsAt.{events_from, event_number, at_number, turn_number, AtEach, Also, at_each}
 use Rattle.mk_core.proofs.Schedules.{by, c0, host, one_page, freed_after_begin}
-use Rattle.mk_core.proofs.MoreSchedules.{full_then_reused}
+use Rattle.mk_core.proofs.MoreSchedules.{two_pages, full_then_reused, granted_while_marking}
 
 -- One cell of 32 words is taken, and the other is free. An object of 2 words needs a page of its own size, which isn't there.
 pub place_beside : place_among_allocations one_page 32 true (left one_page freed_after_begin).allocations
@@ -88,6 +88,25 @@ unfolding by c0 host freed_after_begin AtEach Also
 grants_stand before e behind is grant =
     at_each is_grant (λ (es : List Event) (x : Event). StandsAtItsPlace one_page es x.seat) [] freed_after_begin
     (first_grant, (second_grant, (third_grant, tt))) before e behind is (ap is_grant grant)
+
+-- Where the phase is marking, the mark on the page's ten cells is what serves the object first.
+pub grant_while_marking : StandsAtItsPlace two_pages (take 16 granted_while_marking) c0
+unfolding by c0 all_below pointed_cell two_pages granted_while_marking left_from unreleased_storage events_from event_number turn_number NoneServesFrom
+grant_while_marking =
+    record {
+      turn = turn_number two_pages c0 12 (Some (op.New 1 1 false)) (take 16 granted_while_marking) refl refl refl;
+      first = record {
+        before = [];
+        event = event_number 13 granted_while_marking;
+        behind = events_from 14 2 granted_while_marking;
+        is = refl;
+        none_before = tt;
+        serves = refl;
+      };
+      place = record { page = 1; index = 0; carve = true };
+      fits = refl;
+      base = refl;
+    }
 
 -- The refused New begins and ends a cycle in its turn. Both cells are still taken behind it, so it doesn't fit.
 pub full : IsFull one_page (take 31 full_then_reused) c0

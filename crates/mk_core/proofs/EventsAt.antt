@@ -1,5 +1,5 @@
 -- What is to be shown at each event of a kind in a list, as a product of one part for each of them.
-use Rattle.std.proofs.Common.{◌≡◌, ℕ, ◌+◌, Bool, ◌&&◌, Option, true, false, List, [], ◌∷◌, ◌++◌, take, drop, sym, subst, append-nil, append_assoc}
+use Rattle.std.proofs.Common.{◌≡◌, ℕ, ◌+◌, Bool, true, false, ◌&&◌, List, [], ◌∷◌, ◌++◌, take, drop, Option, sym, subst, append-nil, append_assoc}
 use Rattle.std.specs.Prelude.{⊤, slice_index_or}
 use Rattle.std.specs.List.{list_any}
 use Rattle.mk_never.specs.declared.operations.Op.{Op}
@@ -12,6 +12,11 @@ use Rattle.mk_core.specs.declared.events.Event.{Event}
 use Rattle.mk_core.specs.Growing.{is_same_seat}
 use Rattle.mk_core.specs.History.{left}
 use Rattle.mk_core.specs.Cycles.{At, is_give, TurnOf}
+
+-- a proof of the first, and one of the others
+infixr 10 ◌and◌
+pub ◌and◌ : {A B : Type 0} → A → B → A × B
+a and b = (a, b)
 
 -- so many events from one on, counted from 0; and that one
 unfoldable pub events_from : ℕ → ℕ → List Event → List Event

@@ -12,6 +12,7 @@ pub mod EvaluatedFrames
 pub mod EvaluatedFreed
 pub mod EvaluatedGuards
 pub mod EvaluatedHistories
+pub mod EvaluatedLarge
 pub mod EvaluatedMarks
 pub mod EvaluatedPlaces
 pub mod EvaluatedReach
@@ -20,6 +21,7 @@ pub mod EvaluatedTouched
 pub mod EventsAt
 pub mod Histories
 pub mod HistoryParts
+pub mod LargeSchedule
 pub mod LayoutLemmas
 pub mod Lengths
 pub mod ListTests

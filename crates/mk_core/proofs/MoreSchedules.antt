@@ -1,4 +1,5 @@
--- Small schedules, each for one thing: a refusal and what makes room, a free that isn't due, exchanges, a sweeping mark.
+-- Small schedules, each for one thing: a refusal and what makes room, a free that isn't due, a New while
+-- a cycle marks, exchanges, a sweeping mark.
 use Rattle.std.proofs.Common.{◌≡◌, false, List, [], ◌∷◌, ◌++◌, replicate, Some, None, refl}
 use Rattle.mk_never.specs.declared.types.Kind.TheVariants.{Num}
 use Rattle.mk_never.specs.declared.operations.Op.TheVariants as op
@@ -59,6 +60,20 @@ a_quarter_and_all =
 pub no_fault_quarter : first_fault two_pages a_quarter_and_all ≡ None
 unfolding first_fault fault by c0 all_below pointed_cell two_pages a_quarter_and_all
 no_fault_quarter = refl
+
+-- A cycle is begun in a Free, and the next New carves a page before the cycle goes on: it marks the page's cells first.
+unfoldable pub granted_while_marking : List Event
+granted_while_marking =
+    by c0 (step.Take (Some (op.New 0 0 false)) ∷ step.Head 0 13 ∷ step.Used 0 1 ∷ step.Grant ∷ step.Tally
+    tally.Held 2 ∷ step.Give ∷ [])
+    ++ by c0 (step.Take (Some (op.Free 0)) ∷ step.Reg ∷ step.Quar 0 1 ∷ step.Quar 0 4294967297 ∷ step.Begin ∷
+    step.Give ∷ [])
+    ++ by c0 (step.Take (Some (op.New 1 1 false)) ∷ step.Mark 1 1023 ∷ step.Head 1 45 ∷ step.Used 1 1 ∷ step.Grant ∷
+    step.Tally tally.Held 8 ∷ step.Give ∷ [])
+
+pub no_fault_marking : first_fault two_pages granted_while_marking ≡ None
+unfolding first_fault fault by c0 all_below pointed_cell two_pages granted_while_marking
+no_fault_marking = refl
 
 -- Twice the pointer word of one object is exchanged for null: it is null only the first time.
 unfoldable pub exchanged : List Event

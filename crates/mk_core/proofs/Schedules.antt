@@ -69,7 +69,7 @@ pub no_fault_freed : first_fault one_page freed_after_begin ≡ None
 unfolding first_fault fault by c0 host all_below pointed_cell one_page freed_after_begin
 no_fault_freed = refl
 
-pub answers_freed : answered (calls one_page freed_after_begin) ≡ answer.Done ∷ answer.Done ∷ answer.Done ∷ answer.Done ∷ answer.Done ∷ answer.Done ∷ answer.Done ∷ answer.Num 0 ∷ []
+pub answers_freed : answered (calls one_page freed_after_begin) ≡ replicate 7 answer.Done ++ answer.Num 0 ∷ []
 unfolding by c0 host all_below pointed_cell one_page freed_after_begin left_from calls_from
 answers_freed = refl
 

@@ -1,0 +1,122 @@
+-- The schedule of a large object, evaluated: answers, counts, places and what is due.
+use Rattle.std.proofs.Common.{◌≡◌, ℕ, ◌<◌, arith, true, false, List, [], ◌∷◌, replicate, take, Some, refl, ap}
+use Rattle.std.proofs.lemmas.Bool.{false≢true}
+use Rattle.std.proofs.lemmas.List.Elements.{All-nil, All-cons, All-replicate}
+use Rattle.mk_never.specs.declared.types.Kind.TheVariants.{Num}
+use Rattle.mk_never.specs.declared.operations.Op.TheVariants as op
+use Rattle.mk_core.specs.declared.events.Answer.TheVariants as answer
+use Rattle.mk_core.specs.declared.events.Step.TheVariants as step
+use Rattle.mk_core.specs.declared.events.Event.{Event}
+use Rattle.mk_core.specs.Bounded.{all_below}
+use Rattle.mk_core.specs.Cells.{pointed_cell}
+use Rattle.mk_core.specs.Config.{IsWithinLimits, IsAmong, IsTypeAmong}
+use Rattle.mk_core.specs.Allocations.{unreleased_storage, held_words, fresh_words_of, place_among_allocations, FitsAmongAllocations}
+use Rattle.mk_core.specs.Decided.{answered}
+use Rattle.mk_core.specs.History.{left_from, left, calls_from, calls, CallsAreAdmitted, IsHistory, RefinesNever}
+use Rattle.mk_core.specs.Cycles.{is_give}
+use Rattle.mk_core.specs.Counts.{TalliesAreTidy, IsTidy, IsDue}
+use Rattle.mk_core.specs.Placement.{NoneServesFrom, StandsAtItsPlace}
+use Rattle.mk_core.proofs.EventsAt.{◌and◌, events_from, event_number, turn_number, AtEach, Also, at_each}
+use Rattle.mk_core.proofs.Schedules.{by, c0}
+use Rattle.mk_core.proofs.LargeSchedule.{three_pages, large_freed, no_fault_large}
+use Rattle.mk_core.proofs.EvaluatedHistories.{enabled}
+
+three_pages_limits : IsWithinLimits three_pages
+unfolding three_pages
+three_pages_limits =
+    record {
+      pages = (omega arith, omega arith);
+      resident = (omega arith, omega arith);
+      callers = (omega arith, omega arith);
+      markers = omega arith;
+      type_count = omega arith;
+      global_count = omega arith;
+      types = All-cons (IsTypeAmong three_pages.types) (replicate 65 Num) []
+          ((omega arith, omega arith), All-replicate (IsAmong three_pages.types) 65 Num tt) (All-nil (IsTypeAmong three_pages.types));
+      globals = All-nil (λ (ty : ℕ). ty < 1);
+    }
+
+large_is_admitted : CallsAreAdmitted three_pages large_freed
+unfolding by c0 all_below pointed_cell three_pages large_freed left_from calls_from
+large_is_admitted =
+    record { of_a_caller = omega arith; in_range = (omega arith, omega arith); access = tt; store = tt }
+    and record { of_a_caller = omega arith; in_range = omega arith; access = (omega arith, refl); store = tt }
+    and record { of_a_caller = omega arith; in_range = omega arith; access = tt; store = refl }
+    and record { of_a_caller = omega arith; in_range = omega arith; access = (omega arith, refl); store = tt }
+    and record { of_a_caller = omega arith; in_range = omega arith; access = tt; store = refl }
+    and record { of_a_caller = omega arith; in_range = omega arith; access = tt; store = tt }
+    and record { of_a_caller = omega arith; in_range = (omega arith, omega arith); access = tt; store = tt } and tt
+
+pub large_is_history : IsHistory three_pages large_freed
+large_is_history =
+    record {
+      within_limits = three_pages_limits;
+      enabled = enabled three_pages large_freed no_fault_large;
+      admitted = large_is_admitted;
+    }
+
+-- A New, a write and a Free are done. The read is refused as one of an unmapped object, and the second Free as one too many.
+pub answers_large : answered (calls three_pages large_freed)
+    ≡ answer.Done ∷ answer.Done ∷ answer.Done ∷ answer.Fault ∷ answer.Double ∷ answer.Done ∷ answer.Done ∷ []
+unfolding by c0 all_below pointed_cell three_pages large_freed calls_from
+answers_large = refl
+
+pub large_refines : RefinesNever three_pages large_freed
+unfolding by c0 all_below pointed_cell three_pages large_freed left_from calls_from
+large_refines = refl
+
+-- 65 words take two pages, which are 128 words. From the event that frees them on none is held, and none is fresh: this
+-- free isn't due.
+pub counts_large : (held_words three_pages (left three_pages (take 16 large_freed)).allocations ≡ 128)
+    × (held_words three_pages (left three_pages (take 17 large_freed)).allocations ≡ 0)
+    × (fresh_words_of three_pages (left three_pages (take 17 large_freed)).allocations ≡ 0)
+unfolding by c0 all_below pointed_cell three_pages large_freed left_from unreleased_storage
+counts_large = (refl, refl, refl)
+
+pub large_free_is_not_due : IsDue three_pages (take 16 large_freed) (record { seat = c0; step = step.Quar 0 1 }) → ⊥
+unfolding by c0 all_below pointed_cell three_pages large_freed left_from unreleased_storage
+large_free_is_not_due h = let wrong : 0 < 0 = h.quarter in omega arith
+
+-- The unmapped pages stay taken up to the release: one page is left, and an object of two fits only behind it.
+pub place_on_the_last : place_among_allocations three_pages 64 true (left three_pages (take 41 large_freed)).allocations
+    ≡ Some (record { page = 2; index = 0; carve = true })
+unfolding by c0 all_below pointed_cell three_pages large_freed left_from unreleased_storage
+place_on_the_last = refl
+
+pub fits_nowhere_before : FitsAmongAllocations three_pages 65 true (left three_pages (take 41 large_freed)).allocations → ⊥
+unfolding by c0 all_below pointed_cell three_pages large_freed left_from unreleased_storage
+fits_nowhere_before h = false≢true h
+
+pub fits_behind : FitsAmongAllocations three_pages 65 true (left three_pages (take 42 large_freed)).allocations
+unfolding by c0 all_below pointed_cell three_pages large_freed left_from unreleased_storage
+fits_behind = refl
+
+-- So the second object stands where the first one stood. The headers that the cycle frees serve nothing.
+pub large_grant : StandsAtItsPlace three_pages (take 53 large_freed) c0
+unfolding by c0 all_below pointed_cell three_pages large_freed left_from unreleased_storage events_from event_number turn_number NoneServesFrom
+large_grant =
+    record {
+      turn = turn_number three_pages c0 34 (Some (op.New 1 0 false)) (take 53 large_freed) refl refl refl;
+      first = record {
+        before = events_from 35 15 large_freed;
+        event = event_number 50 large_freed;
+        behind = events_from 51 2 large_freed;
+        is = refl;
+        none_before = refl and refl and refl and refl and refl and refl and refl and refl and refl and refl and refl and refl
+            and refl and refl and refl and tt;
+        serves = refl;
+      };
+      place = record { page = 0; index = 0; carve = true };
+      fits = refl;
+      base = refl;
+    }
+
+pub large_is_tidy : IsTidy three_pages large_freed
+unfolding by c0 all_below pointed_cell three_pages large_freed left_from calls_from AtEach Also
+large_is_tidy before e behind is give =
+    at_each is_give (λ (es : List Event) (x : Event). TalliesAreTidy three_pages es) [] large_freed
+    (record { cycles = refl; released = refl; full = refl }
+    and record { cycles = refl; released = refl; full = refl }
+    and record { cycles = refl; released = refl; full = refl }
+    and record { cycles = refl; released = refl; full = refl }
+    and tt) before e behind is (ap is_give give)
