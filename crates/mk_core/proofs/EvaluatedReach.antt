@@ -11,7 +11,7 @@ use Rattle.mk_core.specs.Bounded.{all_below}
 use Rattle.mk_core.specs.Cells.{pointed_cell}
 use Rattle.mk_core.specs.History.{left_from, calls_from, never_behind}
 use Rattle.mk_core.proofs.ListTests.{implied, list_all-at, numbered_all, numbered_all-at}
-use Rattle.mk_core.proofs.SmallCycles.{small, three_objects, pointer_written, page_dirtied, second_cleared, begun_in_stop}
+use Rattle.mk_core.proofs.SmallCycles.{small, three_objects, begun_in_stop}
 
 -- A set is closed under pointers, as a test.
 
@@ -68,7 +68,7 @@ first_and_second = record {
 }
 
 pub never_is : never_behind small begun_in_stop ≡ first_and_second
-unfolding left_from calls_from all_below pointed_cell begun_in_stop three_objects pointer_written page_dirtied second_cleared
+unfolding left_from calls_from all_below pointed_cell begun_in_stop three_objects
 never_is = refl
 
 pub first_is_reached : IsReached (never_behind small begun_in_stop) 0
