@@ -39,7 +39,8 @@ unfolding left_from all_below pointed_cell three_objects
 headers zero = refl
 headers (suc p) = refl
 
-only_third : (page index : ℕ) → is_freed (left small three_objects).now.words (record { page = page; index = index }) ≡ true → (page ≡ 0) × (index ≡ 2)
+only_third : (page index : ℕ)
+    → is_freed (left small three_objects).now.words (record { page = page; index = index }) ≡ true → (page ≡ 0) × (index ≡ 2)
 unfolding left_from all_below pointed_cell three_objects
 only_third zero index h = elim (cases_eq index 2) [
   | inl e ↦ (refl, e)

@@ -42,9 +42,10 @@ of_none S from = by (S from)
 both_are : (a b : Bool) → a ≡ true → b ≡ false → (a && not b) ≡ true
 both_are a b h k = rw (h, k) refl
 
-pub closed_by_test : (n : NeverState) (S : ℕ → Bool) → is_closed_under_pointers n S ≡ true → IsClosedUnderPointers n (λ number. S number ≡ true)
+pub closed_by_test : (n : NeverState) (S : ℕ → Bool)
+    → is_closed_under_pointers n S ≡ true → IsClosedUnderPointers n (λ number. S number ≡ true)
 closed_by_test n S h =
-    let outer = and_parts (list_all (leads_into S) n.registers && list_all (leads_into S) n.globals) (numbered_all (words_lead_into S) n.allocations) h in
+    let outer = and_parts (list_all (leads_into S) n.registers && list_all (leads_into S) n.globals) _ h in
     let roots = and_parts (list_all (leads_into S) n.registers) (list_all (leads_into S) n.globals) outer.0 in
     record {
       registers = λ r number leads. led_into S _ number (list_all-at (leads_into S) n.registers Null roots.0 refl r) leads;

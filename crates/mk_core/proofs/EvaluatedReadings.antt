@@ -21,24 +21,27 @@ use Rattle.mk_core.proofs.SmallCycles.{by_caller, by_host, small, three_objects,
 
 -- with one caller
 
-sole_turn : (m : Moment) → (m.words.turn ≡ 1) ↔ (is_in_turn (flight_of m (seat.Caller 0)) ≡ true)
+abbrev CallerTells : Moment → Type 0
+CallerTells m = (m.words.turn ≡ 1) ↔ (is_in_turn (flight_of m (seat.Caller 0)) ≡ true)
+
+sole_turn : (m : Moment) → CallerTells m
     → (k : ℕ) → k < 1 → (m.words.turn ≡ 1 + k) ↔ (is_in_turn (flight_of m (seat.Caller k)) ≡ true)
 sole_turn m h zero lt = h
 sole_turn m h (suc k) lt = absurd (omega arith)
 
-nobody_holds : (m : Moment) → (m.words.turn ≡ 1) ↔ (is_in_turn (flight_of m (seat.Caller 0)) ≡ true) → m.words.turn ≡ 0 → (s : Seat) → Holds small m s → ⊥
+nobody_holds : (m : Moment) → CallerTells m → m.words.turn ≡ 0 → (s : Seat) → Holds small m s → ⊥
 nobody_holds m h free (seat.Caller k) holds = let taken : m.words.turn ≡ 1 + k = (sole_turn m h k holds.0).1 holds.1 in omega arith
 nobody_holds m h free (seat.Marker k) holds = holds
 nobody_holds m h free seat.Host holds = eqb-false 0 2 refl (sym free ∙ holds)
 
-somebody_holds : (m : Moment) (turn : ℕ) → m.words.turn ≡ turn → (m.words.turn ≡ 1) ↔ (is_in_turn (flight_of m (seat.Caller 0)) ≡ true) → turn ≤ 2
+somebody_holds : (m : Moment) (turn : ℕ) → m.words.turn ≡ turn → CallerTells m → turn ≤ 2
     → ((s : Seat) → Holds small m s → ⊥) → m.words.turn ≡ 0
 somebody_holds m zero is h le none = is
 somebody_holds m (suc zero) is h le none = absurd (none (seat.Caller 0) (leb-true 1 1 refl, h.0 is))
 somebody_holds m (suc (suc zero)) is h le none = absurd (none seat.Host is)
 somebody_holds m (suc (suc (suc n))) is h le none = absurd (omega arith)
 
-turn_tells : (m : Moment) → m.words.turn ≤ 2 → (m.words.turn ≡ 1) ↔ (is_in_turn (flight_of m (seat.Caller 0)) ≡ true) → TurnTells small m
+turn_tells : (m : Moment) → m.words.turn ≤ 2 → CallerTells m → TurnTells small m
 turn_tells m le h = record { least = le; caller = sole_turn m h; nobody = (nobody_holds m h, somebody_holds m m.words.turn refl h le) }
 
 sole_gate : (es : List Event) → GateTells small es 0 → (k : ℕ) → k < 1 → GateTells small es k

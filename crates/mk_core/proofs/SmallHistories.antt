@@ -37,7 +37,9 @@ small_is_within_limits = record {
   markers = leb-true 1 8 refl;
   type_count = leb-true 1 64 refl;
   global_count = leb-true 0 64 refl;
-  types = All-cons (IsTypeAmong small.types) (To 0 0 ∷ Num ∷ []) [] ((leb-true 1 2 refl, leb-true 2 4096 refl), kinds_are_among) (All-nil (IsTypeAmong small.types));
+  types =
+      All-cons (IsTypeAmong small.types) (To 0 0 ∷ Num ∷ []) [] ((leb-true 1 2 refl, leb-true 2 4096 refl), kinds_are_among)
+      (All-nil (IsTypeAmong small.types));
   globals = All-nil (λ (ty : ℕ). ty < 1);
 }
 
@@ -51,17 +53,27 @@ small_calls =
 small_calls_are_admitted : AreAdmitted [] (never_first small) small_calls
 small_calls_are_admitted = (
   record { of_a_caller = ltb-true 7 8 refl; in_range = (ltb-true 0 8 refl, ltb-true 0 1 refl); access = tt; store = tt },
-  (record { of_a_caller = ltb-true 7 8 refl; in_range = (ltb-true 1 8 refl, ltb-true 0 1 refl); access = tt; store = tt },
-  (record { of_a_caller = ltb-true 7 8 refl; in_range = (ltb-true 2 8 refl, ltb-true 0 1 refl); access = tt; store = tt },
-  (record { of_a_caller = ltb-true 7 8 refl; in_range = ltb-true 2 8 refl; access = tt; store = refl },
-  (record { of_a_caller = ltb-true 7 8 refl; in_range = ltb-true 2 8 refl; access = tt; store = tt },
-  (record {
-    of_a_caller = ltb-true 7 8 refl;
-    in_range = (ltb-true 0 8 refl, ltb-true 1 8 refl);
-    access = (ltb-true 0 2 refl, refl);
-    store = (ltb-true 0 2 refl, (refl, refl));
-  },
-  (record { of_a_caller = ltb-true 7 8 refl; in_range = ltb-true 1 8 refl; access = tt; store = tt }, tt)))))),
+  (
+    record { of_a_caller = ltb-true 7 8 refl; in_range = (ltb-true 1 8 refl, ltb-true 0 1 refl); access = tt; store = tt },
+    (
+      record { of_a_caller = ltb-true 7 8 refl; in_range = (ltb-true 2 8 refl, ltb-true 0 1 refl); access = tt; store = tt },
+      (
+        record { of_a_caller = ltb-true 7 8 refl; in_range = ltb-true 2 8 refl; access = tt; store = refl },
+        (
+          record { of_a_caller = ltb-true 7 8 refl; in_range = ltb-true 2 8 refl; access = tt; store = tt },
+          (
+            record {
+              of_a_caller = ltb-true 7 8 refl;
+              in_range = (ltb-true 0 8 refl, ltb-true 1 8 refl);
+              access = (ltb-true 0 2 refl, refl);
+              store = (ltb-true 0 2 refl, (refl, refl));
+            },
+            (record { of_a_caller = ltb-true 7 8 refl; in_range = ltb-true 1 8 refl; access = tt; store = tt }, tt),
+          ),
+        ),
+      ),
+    ),
+  ),
 )
 
 calls_in_stop : asked (calls small stopped_cycle) ≡ small_calls
