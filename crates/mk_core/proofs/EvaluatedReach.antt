@@ -27,7 +27,7 @@ abbrev pub is_closed_under_pointers : NeverState → (ℕ → Bool) → Bool
 is_closed_under_pointers n S =
     list_all (leads_into S) n.registers && list_all (leads_into S) n.globals && numbered_all (words_lead_into S) n.allocations
 
-led_into : (S : ℕ → Bool) (v : Value) (number : ℕ) → leads_into S v ≡ true → LeadsTo v number → S number ≡ true
+pub led_into : (S : ℕ → Bool) (v : Value) (number : ℕ) → leads_into S v ≡ true → LeadsTo v number → S number ≡ true
 led_into S Null number h leads = absurd leads
 led_into S (Num m) number h leads = absurd leads
 led_into S (Ptr number' ty offset) number h leads = ap S (sym leads) ∙ h

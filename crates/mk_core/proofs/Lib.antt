@@ -9,6 +9,7 @@ pub mod EvaluatedGuards
 pub mod EvaluatedMarks
 pub mod EvaluatedReach
 pub mod EvaluatedReadings
+pub mod EvaluatedTargets
 pub mod EvaluatedTouched
 pub mod Histories
 pub mod HistoryParts
