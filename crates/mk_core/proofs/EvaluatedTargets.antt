@@ -1,6 +1,6 @@
 -- What others leave besides, where calls are admitted, in small cases: to a caller in a call the objects that its
 -- registers point to, to the turn's holder all words outside the mapped objects, and to a marker all headers.
-use Rattle.std.proofs.Common.{◌≡◌, ℕ, zero, suc, ◌+◌, ◌*◌, true, false, List, [], ◌∷◌, ◌++◌, slice_index, refl, inl}
+use Rattle.std.proofs.Common.{◌≡◌, ℕ, zero, suc, ◌+◌, ◌*◌, true, false, List, [], ◌∷◌, ◌++◌, slice_index, refl, subst, inl}
 use Rattle.std.proofs.lemmas.Bool.{false≢true, leb-true, ltb-true}
 use Rattle.mk_geom.specs.StorageWords.{IsWordOf}
 use Rattle.mk_never.specs.declared.values.Value.TheVariants.{Null}
@@ -14,6 +14,7 @@ use Rattle.mk_core.specs.Cells.{pointed_cell}
 use Rattle.mk_core.specs.Allocations.{placed_at, is_mapped, storage_of}
 use Rattle.mk_core.specs.History.{left_from, calls_from, left, never_behind}
 use Rattle.mk_core.specs.Growing.{AreOfOthers}
+use Rattle.mk_core.specs.Readings.{Holds}
 use Rattle.mk_core.specs.Frames.{OwnIsLeft, ScanIsLeft, IsLeft, TargetsAreLeft, HeapIsLeft, HeadersAreLeft, IsLeftByAdmitted}
 use Rattle.mk_core.proofs.ListTests.{list_all-at}
 use Rattle.mk_core.proofs.EvaluatedReach.{leads_into, led_into, below_two}
@@ -43,9 +44,29 @@ mapped (suc (suc a)) h = absurd (false≢true h)
 pub targets_are_left : TargetsAreLeft small before_probe (before_probe ++ turn_taken) 0
 unfolding left_from calls_from all_below pointed_cell three_objects
 targets_are_left = record {
-  registers = λ r lt. refl;
   unreleased = λ r a lt leads. unreleased a (targets r a leads);
   mapped = λ r a lt leads was. mapped a (targets r a leads);
+}
+
+values_are_left : (k r : ℕ) → seat.Caller 0 ≡ seat.Caller k
+    → register_at (never_behind small (before_probe ++ turn_taken)) k r ≡ register_at (never_behind small before_probe) k r
+unfolding left_from calls_from all_below pointed_cell three_objects
+values_are_left k r is = refl
+
+same_caller : (k : ℕ) → seat.Caller 0 ≡ seat.Caller k → 0 ≡ k
+same_caller k is = cc
+
+no_turn : Holds small (left small before_probe).now (seat.Caller 0) → ⊥
+unfolding left_from all_below pointed_cell three_objects
+no_turn holds = false≢true holds.1
+
+pub all_is_left_to_caller : IsLeftByAdmitted small (seat.Caller 0) before_probe (before_probe ++ turn_taken)
+all_is_left_to_caller = record {
+  registers = λ k r is lt. values_are_left k r is;
+  in_call = λ k is in_call. subst (λ i. TargetsAreLeft small before_probe (before_probe ++ turn_taken) i) (same_caller k is) targets_are_left;
+  turn = λ holds. absurd (no_turn holds);
+  stop = λ all. absurd (no_turn all.0);
+  scan = λ attends. absurd attends;
 }
 
 -- The host in its turn, while a caller writes to the first object: no word outside the objects changes.
@@ -96,6 +117,7 @@ headers_are_left = record { some = λ p is. is; cells = λ p u cell is. is; well
 
 pub headers_are_left_to_marker : IsLeftByAdmitted small (seat.Marker 0) attending (attending ++ pointer_written)
 headers_are_left_to_marker = record {
+  registers = λ k r is lt. absurd cc;
   in_call = λ k is in_call. absurd in_call;
   turn = λ holds. absurd holds;
   stop = λ all. absurd all.0;
