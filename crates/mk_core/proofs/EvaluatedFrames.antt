@@ -1,8 +1,7 @@
 -- What others leave to a seat, in small cases: to a caller before its `probe`, while the host takes the turn, and to the
 -- host in its turn, while a caller tries to enter and a marker visits. An event of its own may leave less.
-use Rattle.std.proofs.Common.{◌≡◌, ℕ, false, List, [], ◌∷◌, ◌++◌, None, refl, sym, ◌∙◌, ap}
-use Rattle.std.specs.Prelude.{◌==◌}
-use Rattle.std.proofs.lemmas.Bool.{false≢true, eq-eqb, ltb-true}
+use Rattle.std.proofs.Common.{List, [], ◌∷◌, ◌++◌, None, refl, ap}
+use Rattle.std.proofs.lemmas.Bool.{false≢true, eqb-false, ltb-true}
 use Rattle.mk_never.specs.declared.operations.Op.TheVariants as op
 use Rattle.mk_core.specs.declared.events.Seat.TheVariants as seat
 use Rattle.mk_core.specs.declared.events.Step.TheVariants as step
@@ -13,10 +12,7 @@ use Rattle.mk_core.specs.History.{left_from, calls_from, left}
 use Rattle.mk_core.specs.Growing.{AreOfOthers}
 use Rattle.mk_core.specs.LongerLists.{IsStillTheSame}
 use Rattle.mk_core.specs.Frames.{OwnIsLeft, CallIsLeft, TurnIsLeft, CountsAreLeft, IsLeft, Steady}
-use Rattle.mk_core.proofs.SmallCycles.{by_caller, by_marker, by_host, small, three_objects, pointer_written, page_dirtied, second_cleared, begun_in_stop}
-
-apart : (a b : ℕ) → (a == b) ≡ false → a ≡ b → ⊥
-apart a b h e = false≢true (sym h ∙ eq-eqb a b e)
+use Rattle.mk_core.proofs.SmallCycles.{by_caller, by_marker, by_host, small, three_objects, begun_in_stop}
 
 -- The caller has loaded the registers of a SetPtr. The host takes the turn, and finds the caller's gate taken.
 
@@ -55,7 +51,7 @@ unfolding AreOfOthers
 triers_are_others = (refl, (refl, (refl, tt)))
 
 turn_is_left : TurnIsLeft (left small begun_in_stop) (left small (begun_in_stop ++ others_try))
-unfolding left_from all_below pointed_cell begun_in_stop three_objects pointer_written page_dirtied second_cleared
+unfolding left_from all_below pointed_cell begun_in_stop three_objects
 turn_is_left = record {
   steady = refl;
   held_gates = λ j held. held;
@@ -65,20 +61,20 @@ turn_is_left = record {
   marks_grow = λ p k has. has;
   blacks_grow = λ p k has. has;
   unmarked = λ not_marking not_wanted. (refl, refl);
-  stopped = λ e. absurd (apart 0 2 refl e);
+  stopped = λ e. absurd (eqb-false 0 2 refl e);
   dirty = λ p dirty. dirty;
 }
 
 counts_are_left : CountsAreLeft small begun_in_stop (begun_in_stop ++ others_try)
-unfolding left_from calls_from all_below pointed_cell begun_in_stop three_objects pointer_written page_dirtied second_cleared
+unfolding left_from calls_from all_below pointed_cell begun_in_stop three_objects
 counts_are_left = record { ends = refl; fulls = refl }
 
 host_is_left : OwnIsLeft small seat.Host (left small begun_in_stop) (left small (begun_in_stop ++ others_try))
-unfolding left_from all_below pointed_cell begun_in_stop three_objects pointer_written page_dirtied second_cleared
+unfolding left_from all_below pointed_cell begun_in_stop three_objects
 host_is_left = record { flight = refl; marker = refl; registers = λ k r is lt. absurd cc; holding = λ holds. (holds, refl) }
 
 pub all_is_left : IsLeft small seat.Host begun_in_stop (begun_in_stop ++ others_try)
-unfolding left_from all_below pointed_cell begun_in_stop three_objects pointer_written page_dirtied second_cleared
+unfolding left_from all_below pointed_cell begun_in_stop three_objects
 all_is_left = record {
   own = host_is_left;
   in_call = λ k is in_call. absurd in_call;
@@ -90,5 +86,5 @@ all_is_left = record {
 
 -- its own `begin` changes the phase
 pub own_begin_leaves_less : TurnIsLeft (left small begun_in_stop) (left small (begun_in_stop ++ by_host (step.Begin ∷ []))) → ⊥
-unfolding left_from all_below pointed_cell begun_in_stop three_objects pointer_written page_dirtied second_cleared
-own_begin_leaves_less left = apart 1 0 refl (ap (λ (x : Steady). x.phase) left.steady)
+unfolding left_from all_below pointed_cell begun_in_stop three_objects
+own_begin_leaves_less left = eqb-false 1 0 refl (ap (λ (x : Steady). x.phase) left.steady)

@@ -1,17 +1,18 @@
 -- What headers and freed bits tell behind a small history: the one freed bit is that of the third object.
-use Rattle.std.proofs.Common.{◌≡◌, ℕ, zero, suc, ◌+◌, ◌*◌, ◌<◌, Bool, true, false, Some, refl, sym, ◌∙◌, ap, ap₂, subst, inl, inr, arith}
+use Rattle.std.proofs.Common.{◌≡◌, ℕ, zero, suc, ◌+◌, ◌*◌, ◌<◌, Bool, true, false, [], ◌∷◌, Some, refl, sym, ◌∙◌, ap, ap₂, subst, inl, inr, arith}
 use Rattle.std.specs.Prelude.{◌==◌}
-use Rattle.std.proofs.lemmas.Bool.{false≢true, cases_eq, eqb-true, ltb-true}
+use Rattle.std.proofs.lemmas.Bool.{false≢true, cases_eq, eqb-true, eqb-false, ltb-true}
 use Rattle.std.proofs.lemmas.Nat.Bits.{bit_at-zero, bit_at-pow_other}
 use Rattle.mk_geom.specs.declared.addresses.Cell.{Cell}
 use Rattle.mk_geom.specs.declared.headers.Header.TheVariants.{Later}
 use Rattle.mk_geom.specs.Headers.{IsHeaderWord}
 use Rattle.mk_core.specs.Bits.{has_bit}
 use Rattle.mk_core.specs.Bounded.{all_below}
-use Rattle.mk_core.specs.Words.{header_at}
+use Rattle.mk_core.specs.Words.{header_at, zero_words_of}
+use Rattle.mk_core.specs.Moments.{first_moment}
 use Rattle.mk_core.specs.Cells.{pointed_cell, header_in, cells_under, is_freed}
 use Rattle.mk_core.specs.Allocations.{placed_at, stands_in}
-use Rattle.mk_core.specs.History.{left_from, left}
+use Rattle.mk_core.specs.History.{World, left_from, left}
 use Rattle.mk_core.specs.Readings.{IsTaken, WordsTellWhatStands}
 use Rattle.mk_core.proofs.SmallCycles.{small, three_objects}
 
@@ -38,7 +39,8 @@ unfolding left_from all_below pointed_cell three_objects
 headers zero = refl
 headers (suc p) = refl
 
-only_third : (page index : ℕ) → is_freed (left small three_objects).now.words (record { page = page; index = index }) ≡ true → (page ≡ 0) × (index ≡ 2)
+only_third : (page index : ℕ)
+    → is_freed (left small three_objects).now.words (record { page = page; index = index }) ≡ true → (page ≡ 0) × (index ≡ 2)
 unfolding left_from all_below pointed_cell three_objects
 only_third zero index h = elim (cases_eq index 2) [
   | inl e ↦ (refl, e)
@@ -88,3 +90,13 @@ words_tell_what_stands =
           cell_of_third cell.page cell.index a.in_range
           (subst (λ i. stands_in w.now.words cell (placed_at w.allocations i) ≡ true) (freed_number a.number h) a.stands);
     }
+
+-- what no history leaves: a freed bit where nothing stands
+abbrev pub bare : World
+bare = record { now = record (first_moment small) { words = record (zero_words_of 1) { freed = 4 ∷ [] } }; allocations = [] }
+
+nothing_is_taken : (cell : Cell) → IsTaken bare cell → ⊥
+nothing_is_taken cell a = false≢true a.stands
+
+bare_tells_wrong : WordsTellWhatStands bare → ⊥
+bare_tells_wrong tells = nothing_is_taken third_cell (tells.freed (eqb-false 0 4 refl) third_cell refl).0

@@ -1,6 +1,6 @@
 -- What guards the words of black objects while a caller writes beside a marker: a marked target, a dirty page, and a call
 -- that owes the dirty mark. And a moment that no history leaves, where nothing does.
-use Rattle.std.proofs.Common.{◌≡◌, ℕ, zero, suc, true, false, [], ◌∷◌, ◌++◌, replicate, slice_index, refl, inl, arith}
+use Rattle.std.proofs.Common.{◌≡◌, ℕ, ◌<◌, ◌+◌, ◌*◌, ◌/◌, zero, suc, true, false, [], ◌∷◌, ◌++◌, replicate, slice_index, refl, inl, arith}
 use Rattle.std.proofs.lemmas.Bool.{false≢true, ltb-true}
 use Rattle.mk_geom.specs.Addresses.{address_of}
 use Rattle.mk_core.specs.Bounded.{all_below}
@@ -10,44 +10,54 @@ use Rattle.mk_core.specs.Moments.{Moment, first_moment}
 use Rattle.mk_core.specs.ClosedMarks.{OwesDirty, IsGuarded, PointsWell, PageIsDirty, DirtyIsOwed, MarkingIsGuarded}
 use Rattle.mk_core.specs.History.{left_from, left}
 use Rattle.mk_core.proofs.ListTests.{list_all-at}
-use Rattle.mk_core.proofs.SmallCycles.{small, three_objects, pointer_written, page_dirtied, second_cleared, first_marked, marker_in, written_beside, scanned_again, marked_beside}
+use Rattle.mk_core.proofs.SmallCycles.{small, three_objects, page_dirtied, written_beside, marked_beside}
 
 -- Behind the `write` heap word 0, of a black object, points to an unmarked one, and its page isn't dirty yet.
 
 pub written_points_badly : word_points_well small.pages (left small written_beside).now.words 0 ≡ false
-unfolding left_from all_below pointed_cell written_beside three_objects pointer_written first_marked marker_in
+unfolding left_from all_below pointed_cell written_beside three_objects
 written_points_badly = refl
 
 pub page_is_clean : slice_index (left small written_beside).now.words.dirty 0 ≡ 0
-unfolding left_from all_below pointed_cell written_beside three_objects pointer_written first_marked marker_in
+unfolding left_from all_below pointed_cell written_beside three_objects
 page_is_clean = refl
 
 pub dirty_is_owed : OwesDirty (left small written_beside).now 0 0
-unfolding left_from all_below pointed_cell written_beside three_objects pointer_written first_marked marker_in
+unfolding left_from all_below pointed_cell written_beside three_objects
 dirty_is_owed = (refl, refl)
 
 pub guarded_by_call : IsGuarded small (left small written_beside).now 0
 guarded_by_call = DirtyIsOwed 0 dirty_is_owed
 
+-- So each word of a black object is guarded there, all on that page.
+pub writing_is_guarded : MarkingIsGuarded small (left small written_beside).now
+unfolding left_from all_below pointed_cell written_beside three_objects
+writing_is_guarded marks zero k i cell black scanned word =
+    let less : k < 32 = cell in
+    let inside : i < 2 = word in
+    let page : 0 ≡ (64 * 0 + k * 2 + i) / 64 = omega arith in
+    DirtyIsOwed 0 (refl, page)
+writing_is_guarded marks (suc p) k i cell black scanned word = absurd (omega arith)
+
 -- behind the `dirty`
 
 pub dirtied_points_badly : word_points_well small.pages (left small (written_beside ++ page_dirtied)).now.words 0 ≡ false
-unfolding left_from all_below pointed_cell written_beside three_objects pointer_written first_marked marker_in page_dirtied
+unfolding left_from all_below pointed_cell written_beside three_objects
 dirtied_points_badly = refl
 
 pub guarded_by_page : IsGuarded small (left small (written_beside ++ page_dirtied)).now 0
-unfolding left_from all_below pointed_cell written_beside three_objects pointer_written first_marked marker_in page_dirtied
+unfolding left_from all_below pointed_cell written_beside three_objects
 guarded_by_page = PageIsDirty refl
 
 -- before the `close`
 
 pub guarded_by_mark : IsGuarded small (left small marked_beside).now 0
-unfolding left_from all_below pointed_cell marked_beside written_beside three_objects pointer_written page_dirtied second_cleared first_marked marker_in scanned_again
+unfolding left_from all_below pointed_cell marked_beside written_beside three_objects
 guarded_by_mark = PointsWell refl
 
 -- there each word points well, whatever is black
 every_word_points_well : (n : ℕ) → word_points_well small.pages (left small marked_beside).now.words n ≡ true
-unfolding left_from all_below pointed_cell marked_beside written_beside three_objects pointer_written page_dirtied second_cleared first_marked marker_in scanned_again
+unfolding left_from all_below pointed_cell marked_beside written_beside three_objects
 every_word_points_well n =
     list_all-at (points_well small.pages (left small marked_beside).now.words) (left small marked_beside).now.words.heap 0 refl refl n
 

@@ -8,23 +8,23 @@ use Rattle.mk_core.specs.ClosedMarks.{MarksAreClosed}
 use Rattle.mk_core.specs.History.{left_from, left}
 use Rattle.mk_core.proofs.ListTests.{numbered_all}
 use Rattle.mk_core.proofs.MarkTests.{marks_closed_by_test}
-use Rattle.mk_core.proofs.SmallCycles.{by_host, small, three_objects, pointer_written, page_dirtied, second_cleared, begun_in_stop, marked_in_stop, first_marked, marker_in, written_beside, scanned_again, marked_beside}
+use Rattle.mk_core.proofs.SmallCycles.{by_host, small, three_objects, begun_in_stop, marked_in_stop, written_beside, marked_beside}
 
 -- closed marks
 
 pub open_behind_begin : MarksAreClosed small (left small (begun_in_stop ++ by_host (step.Begin ∷ []))) → ⊥
-unfolding left_from all_below pointed_cell begun_in_stop three_objects pointer_written page_dirtied second_cleared
+unfolding left_from all_below pointed_cell begun_in_stop three_objects
 open_behind_begin closed = false≢true (closed.registers 0)
 
 pub closed_in_stop : MarksAreClosed small (left small (begun_in_stop ++ by_host (step.Begin ∷ []) ++ marked_in_stop))
-unfolding left_from all_below pointed_cell numbered_all begun_in_stop three_objects pointer_written page_dirtied second_cleared marked_in_stop
+unfolding left_from all_below pointed_cell numbered_all begun_in_stop three_objects marked_in_stop
 closed_in_stop = marks_closed_by_test small (left small (begun_in_stop ++ by_host (step.Begin ∷ []) ++ marked_in_stop)) refl
 
 pub closed_beside : MarksAreClosed small (left small marked_beside)
-unfolding left_from all_below pointed_cell numbered_all marked_beside written_beside three_objects pointer_written page_dirtied second_cleared first_marked marker_in scanned_again
+unfolding left_from all_below pointed_cell numbered_all marked_beside written_beside three_objects
 closed_beside = marks_closed_by_test small (left small marked_beside) refl
 
 -- While the caller writes, the black object's word points to an unmarked one, and its words aren't closed.
 pub open_beside : MarksAreClosed small (left small written_beside) → ⊥
-unfolding left_from all_below pointed_cell written_beside three_objects pointer_written first_marked marker_in
+unfolding left_from all_below pointed_cell written_beside three_objects
 open_beside closed = false≢true (closed.words 0 0 refl refl (leb-true 0 0 refl, ltb-true 0 2 refl))

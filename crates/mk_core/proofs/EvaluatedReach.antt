@@ -11,7 +11,7 @@ use Rattle.mk_core.specs.Bounded.{all_below}
 use Rattle.mk_core.specs.Cells.{pointed_cell}
 use Rattle.mk_core.specs.History.{left_from, calls_from, never_behind}
 use Rattle.mk_core.proofs.ListTests.{implied, list_all-at, numbered_all, numbered_all-at}
-use Rattle.mk_core.proofs.SmallCycles.{small, three_objects, pointer_written, page_dirtied, second_cleared, begun_in_stop}
+use Rattle.mk_core.proofs.SmallCycles.{small, three_objects, begun_in_stop}
 
 -- A set is closed under pointers, as a test.
 
@@ -27,7 +27,7 @@ abbrev pub is_closed_under_pointers : NeverState → (ℕ → Bool) → Bool
 is_closed_under_pointers n S =
     list_all (leads_into S) n.registers && list_all (leads_into S) n.globals && numbered_all (words_lead_into S) n.allocations
 
-led_into : (S : ℕ → Bool) (v : Value) (number : ℕ) → leads_into S v ≡ true → LeadsTo v number → S number ≡ true
+pub led_into : (S : ℕ → Bool) (v : Value) (number : ℕ) → leads_into S v ≡ true → LeadsTo v number → S number ≡ true
 led_into S Null number h leads = absurd leads
 led_into S (Num m) number h leads = absurd leads
 led_into S (Ptr number' ty offset) number h leads = ap S (sym leads) ∙ h
@@ -42,9 +42,10 @@ of_none S from = by (S from)
 both_are : (a b : Bool) → a ≡ true → b ≡ false → (a && not b) ≡ true
 both_are a b h k = rw (h, k) refl
 
-pub closed_by_test : (n : NeverState) (S : ℕ → Bool) → is_closed_under_pointers n S ≡ true → IsClosedUnderPointers n (λ number. S number ≡ true)
+pub closed_by_test : (n : NeverState) (S : ℕ → Bool)
+    → is_closed_under_pointers n S ≡ true → IsClosedUnderPointers n (λ number. S number ≡ true)
 closed_by_test n S h =
-    let outer = and_parts (list_all (leads_into S) n.registers && list_all (leads_into S) n.globals) (numbered_all (words_lead_into S) n.allocations) h in
+    let outer = and_parts (list_all (leads_into S) n.registers && list_all (leads_into S) n.globals) _ h in
     let roots = and_parts (list_all (leads_into S) n.registers) (list_all (leads_into S) n.globals) outer.0 in
     record {
       registers = λ r number leads. led_into S _ number (list_all-at (leads_into S) n.registers Null roots.0 refl r) leads;
@@ -68,7 +69,7 @@ first_and_second = record {
 }
 
 pub never_is : never_behind small begun_in_stop ≡ first_and_second
-unfolding left_from calls_from all_below pointed_cell begun_in_stop three_objects pointer_written page_dirtied second_cleared
+unfolding left_from calls_from all_below pointed_cell begun_in_stop three_objects
 never_is = refl
 
 pub first_is_reached : IsReached (never_behind small begun_in_stop) 0

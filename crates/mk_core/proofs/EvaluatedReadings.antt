@@ -1,8 +1,7 @@
 -- What turn, gates and phase tell along two small cycles: in a call, in a New, in a stop behind its `close`, and with a
 -- marker in.
-use Rattle.std.proofs.Common.{◌≡◌, ◌↔◌, ℕ, zero, suc, ◌+◌, ◌<◌, ◌≤◌, Bool, true, false, not, List, [], ◌∷◌, ◌++◌, slice_index, Some, refl, sym, ◌∙◌, arith}
-use Rattle.std.specs.Prelude.{◌==◌}
-use Rattle.std.proofs.lemmas.Bool.{false≢true, eq-eqb, leb-true}
+use Rattle.std.proofs.Common.{◌≡◌, ◌↔◌, ℕ, zero, suc, ◌+◌, ◌<◌, ◌≤◌, true, false, not, List, [], ◌∷◌, ◌++◌, slice_index, Some, refl, sym, ◌∙◌, arith}
+use Rattle.std.proofs.lemmas.Bool.{false≢true, eqb-false, not-true, leb-true, ltb-true}
 use Rattle.mk_never.specs.declared.operations.Op.TheVariants as op
 use Rattle.mk_core.specs.declared.events.Seat.{Seat}
 use Rattle.mk_core.specs.declared.events.Seat.TheVariants as seat
@@ -10,77 +9,74 @@ use Rattle.mk_core.specs.declared.events.Step.TheVariants as step
 use Rattle.mk_core.specs.declared.events.Event.{Event}
 use Rattle.mk_core.specs.declared.seats.Marker.{Marker}
 use Rattle.mk_core.specs.Bounded.{all_below}
+use Rattle.mk_core.specs.Words.{zero_words_of}
 use Rattle.mk_core.specs.Cells.{pointed_cell}
 use Rattle.mk_core.specs.StopConditions.{is_attending, none_attends}
-use Rattle.mk_core.specs.Moments.{Moment, flight_of, outside}
+use Rattle.mk_core.specs.Moments.{Moment, first_moment, flight_of, outside}
 use Rattle.mk_core.specs.History.{left_from, left}
 use Rattle.mk_core.specs.HeldGates.{is_gate_held_from}
 use Rattle.mk_core.specs.Readings.{is_in_turn, Holds, NoneAttends, TurnTells, GateTells, PhaseTells, WordsTellWhoHoldsWhat}
 use Rattle.mk_core.proofs.ListTests.{list_all-at}
-use Rattle.mk_core.proofs.SmallCycles.{by_caller, by_host, small, three_objects, pointer_written, page_dirtied, second_cleared, begun_in_stop, marked_in_stop, first_marked, marker_in, written_beside}
-
-apart : (a b : ℕ) → (a == b) ≡ false → a ≡ b → ⊥
-apart a b h e = false≢true (sym h ∙ eq-eqb a b e)
+use Rattle.mk_core.proofs.SmallCycles.{by_caller, by_host, small, three_objects, begun_in_stop, marked_in_stop, first_marked, marker_in, written_beside}
 
 -- with one caller
 
-sole_turn : (m : Moment) → (m.words.turn ≡ 1) ↔ (is_in_turn (flight_of m (seat.Caller 0)) ≡ true)
+abbrev CallerTells : Moment → Type 0
+CallerTells m = (m.words.turn ≡ 1) ↔ (is_in_turn (flight_of m (seat.Caller 0)) ≡ true)
+
+sole_turn : (m : Moment) → CallerTells m
     → (k : ℕ) → k < 1 → (m.words.turn ≡ 1 + k) ↔ (is_in_turn (flight_of m (seat.Caller k)) ≡ true)
 sole_turn m h zero lt = h
 sole_turn m h (suc k) lt = absurd (omega arith)
 
-nobody_holds : (m : Moment) → (m.words.turn ≡ 1) ↔ (is_in_turn (flight_of m (seat.Caller 0)) ≡ true) → m.words.turn ≡ 0 → (s : Seat) → Holds small m s → ⊥
+nobody_holds : (m : Moment) → CallerTells m → m.words.turn ≡ 0 → (s : Seat) → Holds small m s → ⊥
 nobody_holds m h free (seat.Caller k) holds = let taken : m.words.turn ≡ 1 + k = (sole_turn m h k holds.0).1 holds.1 in omega arith
 nobody_holds m h free (seat.Marker k) holds = holds
-nobody_holds m h free seat.Host holds = apart 0 2 refl (sym free ∙ holds)
+nobody_holds m h free seat.Host holds = eqb-false 0 2 refl (sym free ∙ holds)
 
-somebody_holds : (m : Moment) (turn : ℕ) → m.words.turn ≡ turn → (m.words.turn ≡ 1) ↔ (is_in_turn (flight_of m (seat.Caller 0)) ≡ true) → turn ≤ 2
+somebody_holds : (m : Moment) (turn : ℕ) → m.words.turn ≡ turn → CallerTells m → turn ≤ 2
     → ((s : Seat) → Holds small m s → ⊥) → m.words.turn ≡ 0
 somebody_holds m zero is h le none = is
 somebody_holds m (suc zero) is h le none = absurd (none (seat.Caller 0) (leb-true 1 1 refl, h.0 is))
 somebody_holds m (suc (suc zero)) is h le none = absurd (none seat.Host is)
 somebody_holds m (suc (suc (suc n))) is h le none = absurd (omega arith)
 
-turn_tells : (m : Moment) → m.words.turn ≤ 2 → (m.words.turn ≡ 1) ↔ (is_in_turn (flight_of m (seat.Caller 0)) ≡ true) → TurnTells small m
+turn_tells : (m : Moment) → m.words.turn ≤ 2 → CallerTells m → TurnTells small m
 turn_tells m le h = record { least = le; caller = sole_turn m h; nobody = (nobody_holds m h, somebody_holds m m.words.turn refl h le) }
 
 sole_gate : (es : List Event) → GateTells small es 0 → (k : ℕ) → k < 1 → GateTells small es k
 sole_gate es h zero lt = h
 sole_gate es h (suc k) lt = absurd (omega arith)
 
-not_true : (b : Bool) → not b ≡ true → b ≡ false
-not_true false h = refl
-not_true true h = absurd (false≢true h)
-
 none_attends_at : (m : Moment) → none_attends m.seats.markers ≡ true → NoneAttends m
-none_attends_at m h k = not_true _ (list_all-at (λ (x : Marker). not (is_attending x.presence)) m.seats.markers outside h refl k)
+none_attends_at m h k = not-true _ (list_all-at (λ (x : Marker). not (is_attending x.presence)) m.seats.markers outside h refl k)
 
 -- A caller is in a call, and the host holds the turn.
 
 turn_in_call : TurnTells small (left small written_beside).now
-unfolding left_from all_below pointed_cell written_beside three_objects pointer_written first_marked marker_in
-turn_in_call = turn_tells (left small written_beside).now (leb-true 2 2 refl) (λ e. absurd (apart 2 1 refl e), λ h. absurd (false≢true h))
+unfolding left_from all_below pointed_cell written_beside three_objects
+turn_in_call = turn_tells (left small written_beside).now (leb-true 2 2 refl) (λ e. absurd (eqb-false 2 1 refl e), λ h. absurd (false≢true h))
 
 gate_in_call : GateTells small written_beside 0
-unfolding left_from is_gate_held_from all_below pointed_cell written_beside three_objects pointer_written first_marked marker_in
+unfolding left_from is_gate_held_from all_below pointed_cell written_beside three_objects
 gate_in_call =
     record {
       least = leb-true 1 2 refl;
       in_call = (λ e. refl, λ h. refl);
-      held = (λ e. absurd (apart 1 2 refl e), λ h. absurd (false≢true h));
-      by_another = λ e. absurd (apart 1 2 refl e);
+      held = (λ e. absurd (eqb-false 1 2 refl e), λ h. absurd (false≢true h));
+      by_another = λ e. absurd (eqb-false 1 2 refl e);
     }
 
 phase_in_call : PhaseTells small (left small written_beside).now
-unfolding left_from all_below pointed_cell written_beside three_objects pointer_written first_marked marker_in
+unfolding left_from all_below pointed_cell written_beside three_objects
 phase_in_call =
     record {
       low = leb-true 1 5 refl;
       high = refl;
       none_in = λ e. none_attends_at (left small written_beside).now refl;
       attends = λ not_marking e. absurd (not_marking refl);
-      under_the_turn = λ least most free. apart 2 0 refl free;
-      stopped = λ e. absurd (apart 1 3 refl e);
+      under_the_turn = λ least most free. eqb-false 2 0 refl free;
+      stopped = λ e. absurd (eqb-false 1 3 refl e);
     }
 
 pub words_tell_in_call : WordsTellWhoHoldsWhat small written_beside
@@ -100,16 +96,16 @@ unfolding left_from is_gate_held_from all_below pointed_cell three_objects
 gate_in_new =
     record {
       least = leb-true 0 2 refl;
-      in_call = (λ e. absurd (apart 0 1 refl e), λ h. absurd (false≢true h));
-      held = (λ e. absurd (apart 0 2 refl e), λ h. absurd (false≢true h));
-      by_another = λ e. absurd (apart 0 2 refl e);
+      in_call = (λ e. absurd (eqb-false 0 1 refl e), λ h. absurd (false≢true h));
+      held = (λ e. absurd (eqb-false 0 2 refl e), λ h. absurd (false≢true h));
+      by_another = λ e. absurd (eqb-false 0 2 refl e);
     }
 
 -- nobody holds the turn
 
 pub turn_is_free : TurnTells small (left small three_objects).now
 unfolding left_from all_below pointed_cell three_objects
-turn_is_free = turn_tells (left small three_objects).now (leb-true 0 2 refl) (λ e. absurd (apart 0 1 refl e), λ h. absurd (false≢true h))
+turn_is_free = turn_tells (left small three_objects).now (leb-true 0 2 refl) (λ e. absurd (eqb-false 0 1 refl e), λ h. absurd (false≢true h))
 
 -- The caller is stopped, and the marks are closed.
 
@@ -117,33 +113,33 @@ abbrev pub closed_in_stop : List Event
 closed_in_stop = begun_in_stop ++ record { seat = seat.Host; step = step.Begin } ∷ (marked_in_stop ++ by_host (step.Close ∷ []))
 
 turn_in_stop : TurnTells small (left small closed_in_stop).now
-unfolding left_from all_below pointed_cell begun_in_stop three_objects pointer_written page_dirtied second_cleared marked_in_stop
-turn_in_stop = turn_tells (left small closed_in_stop).now (leb-true 2 2 refl) (λ e. absurd (apart 2 1 refl e), λ h. absurd (false≢true h))
+unfolding left_from all_below pointed_cell begun_in_stop three_objects marked_in_stop
+turn_in_stop = turn_tells (left small closed_in_stop).now (leb-true 2 2 refl) (λ e. absurd (eqb-false 2 1 refl e), λ h. absurd (false≢true h))
 
 gate_in_stop : GateTells small closed_in_stop 0
-unfolding left_from is_gate_held_from all_below pointed_cell begun_in_stop three_objects pointer_written page_dirtied second_cleared marked_in_stop
+unfolding left_from is_gate_held_from all_below pointed_cell begun_in_stop three_objects marked_in_stop
 gate_in_stop =
     record {
       least = leb-true 2 2 refl;
-      in_call = (λ e. absurd (apart 2 1 refl e), λ h. absurd (false≢true h));
+      in_call = (λ e. absurd (eqb-false 2 1 refl e), λ h. absurd (false≢true h));
       held = (λ e. refl, λ h. refl);
-      by_another = λ e. (apart 2 0 refl, apart 2 1 refl);
+      by_another = λ e. (eqb-false 2 0 refl, eqb-false 2 1 refl);
     }
 
 gate_is_held : (k : ℕ) → k < 1 → slice_index (left small closed_in_stop).now.words.gates k ≡ 2
-unfolding left_from all_below pointed_cell begun_in_stop three_objects pointer_written page_dirtied second_cleared marked_in_stop
+unfolding left_from all_below pointed_cell begun_in_stop three_objects marked_in_stop
 gate_is_held zero lt = refl
 gate_is_held (suc k) lt = absurd (omega arith)
 
 phase_in_stop : PhaseTells small (left small closed_in_stop).now
-unfolding left_from all_below pointed_cell begun_in_stop three_objects pointer_written page_dirtied second_cleared marked_in_stop
+unfolding left_from all_below pointed_cell begun_in_stop three_objects marked_in_stop
 phase_in_stop =
     record {
       low = leb-true 3 5 refl;
       high = refl;
       none_in = λ e. none_attends_at (left small closed_in_stop).now refl;
       attends = λ not_marking not_wanted. none_attends_at (left small closed_in_stop).now refl;
-      under_the_turn = λ least most free. apart 2 0 refl free;
+      under_the_turn = λ least most free. eqb-false 2 0 refl free;
       stopped = λ e k lt other. gate_is_held k lt;
     }
 
@@ -153,17 +149,29 @@ words_tell_in_stop = record { turn = turn_in_stop; gates = sole_gate closed_in_s
 -- A marker is in, and attends.
 
 pub phase_with_marker : PhaseTells small (left small (first_marked ++ marker_in)).now
-unfolding left_from all_below pointed_cell three_objects first_marked marker_in
+unfolding left_from all_below pointed_cell three_objects
 phase_with_marker =
     record {
       low = leb-true 1 5 refl;
       high = refl;
-      none_in = λ e. absurd (apart 1 0 refl e);
+      none_in = λ e. absurd (eqb-false 1 0 refl e);
       attends = λ not_marking e. absurd (not_marking refl);
-      under_the_turn = λ least most free. apart 2 0 refl free;
-      stopped = λ e. absurd (apart 1 3 refl e);
+      under_the_turn = λ least most free. eqb-false 2 0 refl free;
+      stopped = λ e. absurd (eqb-false 1 3 refl e);
     }
 
-pub one_attends : NoneAttends (left small (first_marked ++ marker_in)).now → ⊥
-unfolding left_from all_below pointed_cell three_objects first_marked marker_in
-one_attends none = false≢true (sym (none 0))
+pub a_marker_attends : NoneAttends (left small (first_marked ++ marker_in)).now → ⊥
+unfolding left_from all_below pointed_cell three_objects
+a_marker_attends none = false≢true (sym (none 0))
+
+-- what no history leaves: a turn that nobody holds, a gate that was held without the turn, and a marker that isn't in
+
+turn_of_nobody : TurnTells small (record (first_moment small) { words = record (zero_words_of 1) { turn = 1 } }) → ⊥
+turn_of_nobody tells = false≢true ((tells.caller 0 (ltb-true 0 1 refl)).0 refl)
+
+held_without_turn : GateTells small (by_host (step.Hold 0 ∷ [])) 0 → ⊥
+unfolding left_from is_gate_held_from all_below pointed_cell
+held_without_turn tells = (tells.by_another refl).0 refl
+
+none_is_in : PhaseTells small (record (first_moment small) { words = record (zero_words_of 1) { phase = 8 } }) → ⊥
+none_is_in tells = eqb-false 1 0 refl tells.high

@@ -17,6 +17,7 @@ pub mod EvaluatedMarks
 pub mod EvaluatedPlaces
 pub mod EvaluatedReach
 pub mod EvaluatedReadings
+pub mod EvaluatedTargets
 pub mod EvaluatedTouched
 pub mod EventsAt
 pub mod Histories

@@ -20,7 +20,8 @@ unfoldable pub numbered_all : {A : Type 0} → (ℕ → A → Bool) → List A �
 numbered_all test [] = true
 numbered_all test (x ∷ xs) = test 0 x && numbered_all (λ i y. test (suc i) y) xs
 
-pub numbered_all-at : {A : Type 0} (test : ℕ → A → Bool) (xs : List A) (d : A) → numbered_all test xs ≡ true → ((i : ℕ) → test i d ≡ true)
+pub numbered_all-at : {A : Type 0} (test : ℕ → A → Bool) (xs : List A) (d : A)
+    → numbered_all test xs ≡ true → ((i : ℕ) → test i d ≡ true)
     → (i : ℕ) → test i (slice_index_or xs i d) ≡ true
 unfolding numbered_all
 numbered_all-at test [] d h behind i = behind i
@@ -33,7 +34,8 @@ unfoldable pub all_fronts : {A : Type 0} → (List A → Bool) → List A → Bo
 all_fronts test [] = test []
 all_fronts test (x ∷ xs) = test [] && all_fronts (λ ys. test (x ∷ ys)) xs
 
-pub all_fronts-at : {A : Type 0} (test : List A → Bool) (xs front rest : List A) → all_fronts test xs ≡ true → xs ≡ front ++ rest → test front ≡ true
+pub all_fronts-at : {A : Type 0} (test : List A → Bool) (xs front rest : List A)
+    → all_fronts test xs ≡ true → xs ≡ front ++ rest → test front ≡ true
 unfolding all_fronts
 all_fronts-at test [] [] rest h is = h
 all_fronts-at test (x ∷ xs) [] rest h is = (and_parts (test []) (all_fronts (λ ys. test (x ∷ ys)) xs) h).0

@@ -41,7 +41,7 @@ null_points_well c w = refl
 pub marks_closed_by_test : (c : Config) (w : World) → marks_are_closed c w ≡ true → MarksAreClosed c w
 marks_closed_by_test c w h =
     let well = points_well c.pages w.now.words in
-    let outer = and_parts (list_all well w.now.words.registers && list_all well w.now.words.globals) (list_all (allocation_points_well c w.now.words) w.allocations) h in
+    let outer = and_parts (list_all well w.now.words.registers && list_all well w.now.words.globals) _ h in
     let roots = and_parts (list_all well w.now.words.registers) (list_all well w.now.words.globals) outer.0 in
     record {
       registers = λ i. list_all-at well w.now.words.registers 0 roots.0 (null_points_well c w.now.words) i;

@@ -44,13 +44,13 @@ three_objects =
     ++ by_caller (step.Enter (op.Clear 2) ∷ step.Reg ∷ step.Leave ∷ [])
 
 -- A pointer to the second is written to the first, up to its `write`, and from there on.
-unfoldable pub pointer_written : List Event
+abbrev pub pointer_written : List Event
 pointer_written = by_caller (step.Enter (op.SetPtr 0 0 1) ∷ step.Reg ∷ step.Reg ∷ step.Probe ∷ step.Write ∷ [])
 
-unfoldable pub page_dirtied : List Event
+abbrev pub page_dirtied : List Event
 page_dirtied = by_caller (step.Dirty ∷ step.Leave ∷ [])
 
-unfoldable pub second_cleared : List Event
+abbrev pub second_cleared : List Event
 second_cleared = by_caller (step.Enter (op.Clear 1) ∷ step.Reg ∷ step.Leave ∷ [])
 
 -- what releases the third, from the `close` on
@@ -72,18 +72,18 @@ abbrev pub stopped_cycle : List Event
 stopped_cycle = begun_in_stop ++ record { seat = seat.Host; step = step.Begin } ∷ (marked_in_stop ++ third_released)
 
 -- A cycle begins, and the first object is marked.
-unfoldable pub first_marked : List Event
+abbrev pub first_marked : List Event
 first_marked =
     three_objects
     ++ by_host (step.Take None ∷ step.Hold 0 ∷ step.Quar 0 17179869188 ∷ step.Tally tally.Fresh 0 ∷ step.Begin ∷
     step.Look (word.Reg 0 0) ∷ step.Mark 0 1 ∷ step.Open 0 ∷ [])
 
 -- A marker blackens it.
-unfoldable pub marker_in : List Event
+abbrev pub marker_in : List Event
 marker_in = by_marker (step.Attend ∷ step.Mlook (word.Head 0) ∷ step.Claim 0 0 ∷ step.Mload ∷ step.Mload ∷ step.Mblack ∷ [])
 
 -- The stop then scans the dirty page again.
-unfoldable pub scanned_again : List Event
+abbrev pub scanned_again : List Event
 scanned_again =
     by_host (step.Hold 0 ∷ step.Want ∷ step.Unblack 0 ∷ step.Undirty 0 ∷ step.Look (word.Reg 0 0) ∷ step.Mark 0 1 ∷
     step.Look (word.Heap 0) ∷ step.Mark 0 2 ∷ step.Black 0 1 ∷ step.Black 0 2 ∷ [])
@@ -100,9 +100,9 @@ all_enabled c w [] = true
 all_enabled c w (e ∷ es) = (failing c w.now e == 0) && all_enabled c (world_behind c w e) es
 
 pub stopped_are_enabled : all_enabled small (first_world small) stopped_cycle ≡ true
-unfolding all_enabled all_below pointed_cell may_turn_black begun_in_stop three_objects pointer_written page_dirtied second_cleared marked_in_stop
+unfolding all_enabled all_below pointed_cell may_turn_black begun_in_stop three_objects marked_in_stop
 stopped_are_enabled = refl
 
 pub beside_are_enabled : all_enabled small (first_world small) (marked_beside ++ third_released) ≡ true
-unfolding all_enabled all_below pointed_cell may_turn_black marked_beside written_beside three_objects pointer_written page_dirtied second_cleared first_marked marker_in scanned_again
+unfolding all_enabled all_below pointed_cell may_turn_black marked_beside written_beside three_objects
 beside_are_enabled = refl

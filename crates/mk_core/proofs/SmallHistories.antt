@@ -15,7 +15,7 @@ use Rattle.mk_core.specs.Cells.{pointed_cell}
 use Rattle.mk_core.specs.Enabled.{failing}
 use Rattle.mk_core.specs.Decided.{asked}
 use Rattle.mk_core.specs.History.{World, first_world, world_behind, left_from, calls_from, AreEnabledFrom, calls, never_first, IsHistory}
-use Rattle.mk_core.proofs.SmallCycles.{small, all_enabled, stopped_are_enabled, beside_are_enabled, three_objects, pointer_written, page_dirtied, second_cleared, begun_in_stop, marked_in_stop, first_marked, marker_in, written_beside, scanned_again, marked_beside, third_released, stopped_cycle}
+use Rattle.mk_core.proofs.SmallCycles.{small, all_enabled, stopped_are_enabled, beside_are_enabled, three_objects, begun_in_stop, marked_in_stop, written_beside, marked_beside, third_released, stopped_cycle}
 
 pub enabled_by_test : (c : Config) (w : World) (es : List Event) → all_enabled c w es ≡ true → AreEnabledFrom c w es
 unfolding AreEnabledFrom all_enabled
@@ -37,7 +37,9 @@ small_is_within_limits = record {
   markers = leb-true 1 8 refl;
   type_count = leb-true 1 64 refl;
   global_count = leb-true 0 64 refl;
-  types = All-cons (IsTypeAmong small.types) (To 0 0 ∷ Num ∷ []) [] ((leb-true 1 2 refl, leb-true 2 4096 refl), kinds_are_among) (All-nil (IsTypeAmong small.types));
+  types =
+      All-cons (IsTypeAmong small.types) (To 0 0 ∷ Num ∷ []) [] ((leb-true 1 2 refl, leb-true 2 4096 refl), kinds_are_among)
+      (All-nil (IsTypeAmong small.types));
   globals = All-nil (λ (ty : ℕ). ty < 1);
 }
 
@@ -51,25 +53,35 @@ small_calls =
 small_calls_are_admitted : AreAdmitted [] (never_first small) small_calls
 small_calls_are_admitted = (
   record { of_a_caller = ltb-true 7 8 refl; in_range = (ltb-true 0 8 refl, ltb-true 0 1 refl); access = tt; store = tt },
-  (record { of_a_caller = ltb-true 7 8 refl; in_range = (ltb-true 1 8 refl, ltb-true 0 1 refl); access = tt; store = tt },
-  (record { of_a_caller = ltb-true 7 8 refl; in_range = (ltb-true 2 8 refl, ltb-true 0 1 refl); access = tt; store = tt },
-  (record { of_a_caller = ltb-true 7 8 refl; in_range = ltb-true 2 8 refl; access = tt; store = refl },
-  (record { of_a_caller = ltb-true 7 8 refl; in_range = ltb-true 2 8 refl; access = tt; store = tt },
-  (record {
-    of_a_caller = ltb-true 7 8 refl;
-    in_range = (ltb-true 0 8 refl, ltb-true 1 8 refl);
-    access = (ltb-true 0 2 refl, refl);
-    store = (ltb-true 0 2 refl, (refl, refl));
-  },
-  (record { of_a_caller = ltb-true 7 8 refl; in_range = ltb-true 1 8 refl; access = tt; store = tt }, tt)))))),
+  (
+    record { of_a_caller = ltb-true 7 8 refl; in_range = (ltb-true 1 8 refl, ltb-true 0 1 refl); access = tt; store = tt },
+    (
+      record { of_a_caller = ltb-true 7 8 refl; in_range = (ltb-true 2 8 refl, ltb-true 0 1 refl); access = tt; store = tt },
+      (
+        record { of_a_caller = ltb-true 7 8 refl; in_range = ltb-true 2 8 refl; access = tt; store = refl },
+        (
+          record { of_a_caller = ltb-true 7 8 refl; in_range = ltb-true 2 8 refl; access = tt; store = tt },
+          (
+            record {
+              of_a_caller = ltb-true 7 8 refl;
+              in_range = (ltb-true 0 8 refl, ltb-true 1 8 refl);
+              access = (ltb-true 0 2 refl, refl);
+              store = (ltb-true 0 2 refl, (refl, refl));
+            },
+            (record { of_a_caller = ltb-true 7 8 refl; in_range = ltb-true 1 8 refl; access = tt; store = tt }, tt),
+          ),
+        ),
+      ),
+    ),
+  ),
 )
 
 calls_in_stop : asked (calls small stopped_cycle) ≡ small_calls
-unfolding left_from calls_from all_below pointed_cell begun_in_stop three_objects pointer_written page_dirtied second_cleared marked_in_stop
+unfolding left_from calls_from all_below pointed_cell begun_in_stop three_objects marked_in_stop
 calls_in_stop = refl
 
 calls_beside : asked (calls small (marked_beside ++ third_released)) ≡ small_calls
-unfolding left_from calls_from all_below pointed_cell marked_beside written_beside three_objects pointer_written page_dirtied second_cleared first_marked marker_in scanned_again
+unfolding left_from calls_from all_below pointed_cell marked_beside written_beside three_objects
 calls_beside = refl
 
 pub stopped_is_history : IsHistory small stopped_cycle

@@ -1,8 +1,8 @@
 -- A set is closed under pointers along a cycle: as a test of each of its moments.
-use Rattle.std.proofs.Common.{◌≡◌, ℕ, Bool, true, false, not, ◌&&◌, ◌||◌, nat_le, List, ◌++◌, slice_index, refl, sym, ap, subst}
+use Rattle.std.proofs.Common.{◌≡◌, ℕ, Bool, true, not, ◌&&◌, ◌||◌, nat_le, List, ◌++◌, slice_index, refl, sym, subst}
 use Rattle.std.specs.List.{list_all}
 use Rattle.std.proofs.Math.Bool.{or-true}
-use Rattle.std.proofs.lemmas.Bool.{and_parts, and_from, le-leb}
+use Rattle.std.proofs.lemmas.Bool.{and_parts, and_from, not_from_false, le-leb}
 use Rattle.mk_never.specs.declared.values.Value.{Value}
 use Rattle.mk_never.specs.declared.values.Value.TheVariants.{Null}
 use Rattle.mk_never.specs.NeverHeap.{NeverState}
@@ -44,23 +44,23 @@ is_closed_at c w n S =
 abbrev pub is_closed_behind : Config → (ℕ → Bool) → List Event → Bool
 is_closed_behind c S front = is_closed_at c (left c front) (never_behind c front) S
 
-not_is : (b : Bool) → b ≡ false → not b ≡ true
-not_is b h = ap not h
-
-pub points_into : (c : Config) (w : World) (S : ℕ → Bool) (value b : ℕ) → is_into_members c w S value ≡ true → PointsIntoAllocation c w value b → S b ≡ true
+pub points_into : (c : Config) (w : World) (S : ℕ → Bool) (value b : ℕ)
+    → is_into_members c w S value ≡ true → PointsIntoAllocation c w value b → S b ≡ true
 points_into c w S value b h points =
     let a = placed_at w.allocations b in
+    let inside = is_word_of (storage_of c a) (heap_word_at value) in
     let all = implied (nat_le 65536 value) _ h (le-leb _ _ points.1.0) in
-    implied _ _ (numbered_all-at (points_into_member c S value) w.allocations never_granted all (λ i. refl) b)
-    (and_from (not a.released) (is_word_of (storage_of c a) (heap_word_at value)) (not_is a.released points.0) (is_word_of_by (storage_of c a) (heap_word_at value) points.1.1))
+    let each = numbered_all-at (points_into_member c S value) w.allocations never_granted all (λ i. refl) b in
+    let word = is_word_of_by (storage_of c a) (heap_word_at value) points.1.1 in
+    implied _ _ each (and_from (not a.released) inside (not_from_false a.released points.0) word)
 
 pub word_points_into : (c : Config) (w : World) (S : ℕ → Bool) (a n b : ℕ) → numbered_all (words_are_into_members c w S) w.allocations ≡ true
     → S a ≡ true → IsWordOfAllocation c w n a → PointsIntoAllocation c w (slice_index w.now.words.heap n) b → S b ≡ true
 word_points_into c w S a n b h member inside points =
     let x = placed_at w.allocations a in
     let each = numbered_all-at (words_are_into_members c w S) w.allocations never_granted h (λ i. refl) a in
-    let follow = and_from (not (storage_of c x).leaf) (S a) (not_is _ inside.1) member in
-    let all = implied _ _ each (and_from (not x.released) (not (storage_of c x).leaf && S a) (not_is _ inside.0) follow) in
+    let follow = and_from (not (storage_of c x).leaf) (S a) (not_from_false _ inside.1) member in
+    let all = implied _ _ each (and_from (not x.released) (not (storage_of c x).leaf && S a) (not_from_false _ inside.0) follow) in
     let word = numbered_all-at (word_is_into_members c w S x) w.now.words.heap 0 all (λ i. or-true (not (is_word_of (storage_of c x) i))) n in
     points_into c w S _ b (implied _ _ word (is_word_of_by (storage_of c x) n inside.2)) points
 
@@ -81,6 +81,7 @@ closed_along_by_test c es k S h =
     closed_at front at =
         subst (λ xs. is_closed_behind c S xs ≡ true) (sym at.is)
         (all_fronts-at (λ done. is_closed_behind c S (through k.begin ++ done)) k.close.at.before at.done at.to_come h at.of_the_cycle)
+
     parts : (front : List Event) → LeadsToMoment k front
         → (list_all (register_is_into_members c (left c front) S) (never_behind c front).registers ≡ true)
         × (list_all (is_into_members c (left c front) S) (left c front).now.words.globals ≡ true)

@@ -152,7 +152,6 @@ OthersLeave =
 -- What needs admitted calls besides. The allocations to which a caller's registers lead stay unreleased, and mapped where
 -- they are, while it is in a call.
 pub record TargetsAreLeft (c : Config) (es fs : List Event) (k : ℕ) : Type 0 where
-  pub registers : (r : ℕ) → r < 8 → register_at (never_behind c fs) k r ≡ register_at (never_behind c es) k r
   pub unreleased : (r a : ℕ) → r < 8 → LeadsTo (register_at (never_behind c es) k r) a → (placed_at (left c fs).allocations a).released ≡ false
   pub mapped : (r a : ℕ) → r < 8 → LeadsTo (register_at (never_behind c es) k r) a
       → is_mapped c (placed_at (left c es).allocations a) ≡ true → is_mapped c (placed_at (left c fs).allocations a) ≡ true
@@ -171,7 +170,9 @@ pub record HeadersAreLeft (c : Config) (w v : World) : Type 0 where
   pub cells : (p u : ℕ) (cell : Cell) → cell_at c.pages (header_at w.now.words p) u ≡ Some cell → cell_at c.pages (header_at v.now.words p) u ≡ Some cell
   pub well : (u : ℕ) → points_well c.pages w.now.words u ≡ true → points_well c.pages v.now.words u ≡ true
 
+-- Every caller keeps the values of its registers, whatever it is in the middle of.
 pub record IsLeftByAdmitted (c : Config) (s : Seat) (es fs : List Event) : Type 0 where
+  pub registers : (k r : ℕ) → s ≡ Caller k → r < 8 → register_at (never_behind c fs) k r ≡ register_at (never_behind c es) k r
   pub in_call : (k : ℕ) → s ≡ Caller k → IsInCall (left c es).now s → TargetsAreLeft c es fs k
   pub turn : Holds c (left c es).now s → HeapIsLeft c (left c es) (left c fs)
   pub stop : HoldsAll c (left c es).now s → never_behind c fs ≡ never_behind c es

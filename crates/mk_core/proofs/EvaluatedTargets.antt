@@ -1,0 +1,125 @@
+-- What others leave besides, where calls are admitted, in small cases: to a caller in a call the objects that its
+-- registers point to, to the turn's holder all words outside the mapped objects, and to a marker all headers.
+use Rattle.std.proofs.Common.{◌≡◌, ℕ, zero, suc, ◌+◌, ◌*◌, true, false, List, [], ◌∷◌, ◌++◌, slice_index, refl, subst, inl}
+use Rattle.std.proofs.lemmas.Bool.{false≢true, leb-true, ltb-true}
+use Rattle.mk_geom.specs.StorageWords.{IsWordOf}
+use Rattle.mk_never.specs.declared.values.Value.TheVariants.{Null}
+use Rattle.mk_never.specs.Reach.{LeadsTo}
+use Rattle.mk_never.specs.NeverHeap.{register_at}
+use Rattle.mk_core.specs.declared.events.Seat.TheVariants as seat
+use Rattle.mk_core.specs.declared.events.Step.TheVariants as step
+use Rattle.mk_core.specs.declared.events.Event.{Event}
+use Rattle.mk_core.specs.Bounded.{all_below}
+use Rattle.mk_core.specs.Cells.{pointed_cell}
+use Rattle.mk_core.specs.Allocations.{placed_at, is_mapped, storage_of}
+use Rattle.mk_core.specs.History.{left_from, calls_from, left, never_behind}
+use Rattle.mk_core.specs.Growing.{AreOfOthers}
+use Rattle.mk_core.specs.Readings.{Holds}
+use Rattle.mk_core.specs.Frames.{OwnIsLeft, ScanIsLeft, IsLeft, TargetsAreLeft, HeapIsLeft, HeadersAreLeft, IsLeftByAdmitted}
+use Rattle.mk_core.proofs.ListTests.{list_all-at}
+use Rattle.mk_core.proofs.EvaluatedReach.{leads_into, led_into, below_two}
+use Rattle.mk_core.proofs.EvaluatedFrames.{before_probe, turn_taken}
+use Rattle.mk_core.proofs.SmallCycles.{by_marker, small, three_objects, pointer_written, first_marked}
+
+-- A caller in a call, while the host takes the turn: its registers point to the first two objects.
+
+targets : (r a : ℕ) → LeadsTo (register_at (never_behind small before_probe) 0 r) a → below_two a ≡ true
+unfolding left_from calls_from all_below pointed_cell three_objects
+targets r a leads =
+    led_into below_two (register_at (never_behind small before_probe) 0 r) a
+    (list_all-at (leads_into below_two) (never_behind small before_probe).registers Null refl refl (8 * 0 + r)) leads
+
+unreleased : (a : ℕ) → below_two a ≡ true → (placed_at (left small (before_probe ++ turn_taken)).allocations a).released ≡ false
+unfolding left_from all_below pointed_cell three_objects
+unreleased zero h = refl
+unreleased (suc zero) h = refl
+unreleased (suc (suc a)) h = absurd (false≢true h)
+
+mapped : (a : ℕ) → below_two a ≡ true → is_mapped small (placed_at (left small (before_probe ++ turn_taken)).allocations a) ≡ true
+unfolding left_from all_below pointed_cell three_objects
+mapped zero h = refl
+mapped (suc zero) h = refl
+mapped (suc (suc a)) h = absurd (false≢true h)
+
+pub targets_are_left : TargetsAreLeft small before_probe (before_probe ++ turn_taken) 0
+unfolding left_from calls_from all_below pointed_cell three_objects
+targets_are_left = record {
+  unreleased = λ r a lt leads. unreleased a (targets r a leads);
+  mapped = λ r a lt leads was. mapped a (targets r a leads);
+}
+
+values_are_left : (k r : ℕ) → seat.Caller 0 ≡ seat.Caller k
+    → register_at (never_behind small (before_probe ++ turn_taken)) k r ≡ register_at (never_behind small before_probe) k r
+unfolding left_from calls_from all_below pointed_cell three_objects
+values_are_left k r is = refl
+
+same_caller : (k : ℕ) → seat.Caller 0 ≡ seat.Caller k → 0 ≡ k
+same_caller k is = cc
+
+no_turn : Holds small (left small before_probe).now (seat.Caller 0) → ⊥
+unfolding left_from all_below pointed_cell three_objects
+no_turn holds = false≢true holds.1
+
+pub all_is_left_to_caller : IsLeftByAdmitted small (seat.Caller 0) before_probe (before_probe ++ turn_taken)
+all_is_left_to_caller = record {
+  registers = λ k r is lt. values_are_left k r is;
+  in_call = λ k is in_call. subst (λ i. TargetsAreLeft small before_probe (before_probe ++ turn_taken) i) (same_caller k is) targets_are_left;
+  turn = λ holds. absurd (no_turn holds);
+  stop = λ all. absurd (no_turn all.0);
+  scan = λ attends. absurd attends;
+}
+
+-- The host in its turn, while a caller writes to the first object: no word outside the objects changes.
+
+outside : (n : ℕ)
+    → ((i : ℕ) → is_mapped small (placed_at (left small first_marked).allocations i) ≡ true
+    → IsWordOf (storage_of small (placed_at (left small first_marked).allocations i)) n → ⊥)
+    → slice_index (left small (first_marked ++ pointer_written)).now.words.heap n ≡ slice_index (left small first_marked).now.words.heap n
+unfolding left_from all_below pointed_cell three_objects
+outside zero none = absurd (none 0 refl (leb-true 0 0 refl, ltb-true 0 2 refl))
+outside (suc n) none = refl
+
+pub heap_is_left : HeapIsLeft small (left small first_marked) (left small (first_marked ++ pointer_written))
+unfolding left_from all_below pointed_cell three_objects
+heap_is_left = record { outside = outside; well = λ marking u well. well }
+
+-- A marker that attends, while that caller writes.
+
+abbrev pub attending : List Event
+attending = first_marked ++ by_marker (step.Attend ∷ [])
+
+pub writers_are_others : AreOfOthers (seat.Marker 0 ∷ []) pointer_written
+unfolding AreOfOthers
+writers_are_others = (refl, (refl, (refl, (refl, (refl, tt)))))
+
+marker_is_left : OwnIsLeft small (seat.Marker 0) (left small attending) (left small (attending ++ pointer_written))
+unfolding left_from all_below pointed_cell three_objects
+marker_is_left = record { flight = refl; marker = refl; registers = λ k r is lt. absurd cc; holding = λ holds. absurd holds }
+
+scan_is_left : ScanIsLeft (left small attending) (left small (attending ++ pointer_written))
+unfolding left_from all_below pointed_cell three_objects
+scan_is_left = record { phase = inl refl; marks = λ p k has. has; blacks = λ p k has. has }
+
+pub all_is_left_to_marker : IsLeft small (seat.Marker 0) attending (attending ++ pointer_written)
+unfolding left_from all_below pointed_cell three_objects
+all_is_left_to_marker = record {
+  own = marker_is_left;
+  in_call = λ k is in_call. absurd in_call;
+  turn = λ holds. absurd holds;
+  stop = λ all. absurd all.0;
+  scan = λ attends. scan_is_left;
+  visit = λ is_in. leb-true 1 1 refl;
+}
+
+headers_are_left : HeadersAreLeft small (left small attending) (left small (attending ++ pointer_written))
+unfolding left_from all_below pointed_cell three_objects
+headers_are_left = record { some = λ p is. is; cells = λ p u cell is. is; well = λ u well. well }
+
+pub headers_are_left_to_marker : IsLeftByAdmitted small (seat.Marker 0) attending (attending ++ pointer_written)
+headers_are_left_to_marker = record {
+  registers = λ k r is lt. absurd cc;
+  in_call = λ k is in_call. absurd in_call;
+  turn = λ holds. absurd holds;
+  stop = λ all. absurd all.0;
+  scan = λ attends. headers_are_left;
+}
