@@ -7,6 +7,7 @@ pub mod Histories
 pub mod HistoryParts
 pub mod LayoutLemmas
 pub mod Lengths
+pub mod ObjectHeaders
 pub mod RegionLemmas
 pub mod Schedules
 pub mod Sizes

@@ -1,0 +1,34 @@
+-- What the header of each page of an object shows, and how much storage the object takes.
+use Rattle.std.specs.Prelude.{◌≡◌, ℕ, ◌*◌, ◌≤◌, Bool, true, false, ◌&&◌, Option, Some, ◌⊎◌, if◌then◌else◌}
+use Rattle.mk_geom.specs.declared.headers.Header.{Header}
+use Rattle.mk_geom.specs.declared.headers.Header.TheVariants.{Block, Run, Later, LeafBlock, LeafRun}
+use Rattle.mk_geom.specs.Classes.{class_words_of, cells_of}
+use Rattle.mk_core.specs.declared.seats.Object.{Object}
+use Rattle.mk_core.specs.Config.{IsBetween}
+use Rattle.mk_core.specs.NewPlaces.{is_small_object, class_made, pages_made, header_made, unmapped_header}
+
+-- The object has as many words as a type may have.
+abbrev pub IsSized : Object → Type 0
+IsSized o = IsBetween 1 4096 o.words
+
+-- the cells of the page that an object begins on; a run is one
+abbrev pub cells_made : Object → ℕ
+cells_made o = if is_small_object o then cells_of (class_made o) else 1
+
+-- the words of its cell, or of its run
+abbrev pub words_made : Object → ℕ
+words_made o = if is_small_object o then class_words_of (class_made o) else 64 * pages_made o
+
+-- The header is one that the page so far behind an object's first may show: the kind of a block or of a run's head at
+-- the first page, and how far it is at a later one. An unmapped run doesn't tell whether it is leaf.
+pub data ShowsPart (o : Object) (distance : ℕ) : Option Header → Type 0 where
+  OfBlock : distance ≡ 0 → is_small_object o ≡ true → o.leaf ≡ false → ShowsPart o distance (Some (Block (class_made o)))
+  OfLeafBlock : distance ≡ 0 → is_small_object o ≡ true → o.leaf ≡ true → ShowsPart o distance (Some (LeafBlock (class_made o)))
+  OfRun : (mapped : Bool) → distance ≡ 0 → is_small_object o ≡ false → (mapped && o.leaf) ≡ false → ShowsPart o distance (Some (Run (pages_made o) mapped))
+  OfLeafRun : distance ≡ 0 → is_small_object o ≡ false → o.leaf ≡ true → ShowsPart o distance (Some (LeafRun (pages_made o)))
+  OfLater : (mapped : Bool) → 1 ≤ distance → is_small_object o ≡ false → ShowsPart o distance (Some (Later distance mapped))
+
+-- The header word is the one that this page gets with the object, or, where the object has a run, gets as it is unmapped.
+abbrev pub IsHeaderOf : Object → ℕ → ℕ → Type 0
+IsHeaderOf o distance header =
+    (header ≡ header_made o distance) ⊎ ((is_small_object o ≡ false) × (header ≡ unmapped_header (pages_made o) distance))
