@@ -11,5 +11,7 @@ pub mod ObjectHeaders
 pub mod RegionLemmas
 pub mod Schedules
 pub mod Sizes
+pub mod StandingAllocations
 pub mod Steps
+pub mod UnreleasedStorage
 pub mod Wiped

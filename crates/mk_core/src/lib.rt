@@ -19,6 +19,7 @@ mod reaching;
 mod seats;
 mod stepping;
 mod stop_conditions;
+mod storage_laws;
 mod table;
 #[cfg(test)]
 mod tests;
@@ -36,3 +37,4 @@ pub use seats::{
     Flight, Hand, Holding, Marker, OwnCycle, Placing, Presence, RunPages, Scan, SeenHeader, Source,
     Stage,
 };
+pub use storage_laws::{an_allocation_has_its_cell, unreleased_storage_is_of_allocations};
