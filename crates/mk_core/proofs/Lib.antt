@@ -8,8 +8,11 @@ pub mod HistoryParts
 pub mod LayoutLemmas
 pub mod Lengths
 pub mod ObjectHeaders
+pub mod PlacesNow
 pub mod RegionLemmas
+pub mod RegisterAccesses
 pub mod Schedules
+pub mod ServingSteps
 pub mod Sizes
 pub mod StandingAllocations
 pub mod Steps
