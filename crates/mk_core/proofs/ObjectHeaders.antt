@@ -11,7 +11,7 @@ use Rattle.mk_geom.proofs.HeaderLemmas.{header_of-word_of}
 use Rattle.mk_core.specs.declared.seats.Object.{Object}
 use Rattle.mk_core.specs.Cells.{cells_under, words_under, head_behind, heads_run, is_unmapped_header, has_no_pointers}
 use Rattle.mk_core.specs.NewPlaces.{is_small_object, class_made, pages_made, header_made, unmapped_header}
-use Rattle.mk_core.specs.ObjectHeaders.{IsSized, cells_made, words_made, ShowsPart, OfBlock, OfLeafBlock, OfRun, OfLeafRun, OfLater, IsHeaderOf}
+use Rattle.mk_core.specs.ObjectHeaders.{IsSized, cells_made, words_made, ShowsPart, OfBlock, OfLeafBlock, OfRun, OfLeafRun, OfLater, IsHeaderOf, FirstPartsHaveCells}
 use Rattle.mk_core.proofs.Sizes.{small_cells, large_cells, small_pages, large_pages, small_words, large_words, class_known, large_count}
 
 pub small_header : (o : Object) (distance : ℕ) → is_small_object o ≡ true → header_made o distance ≡ word_of (block_header (class_made o) o.leaf)
@@ -158,6 +158,9 @@ part_has_no_pointers o x (OfRun false first large leaf) = or_true o.leaf
 part_has_no_pointers o x (OfLeafRun first large leaf) = ap (λ b. b || false) (sym leaf)
 part_has_no_pointers o x (OfLater mapped some large) = absurd (omega arith)
 
+pub first_part : FirstPartsHaveCells
+first_part o x part = (part_cells o x part, part_words o x part, part_has_no_pointers o x part)
+
 -- Two headers of one page of an object have the same cells and words.
 pub same_cells : (o : Object) (distance : ℕ) (x y : Option Header) → ShowsPart o distance x → ShowsPart o distance y → cells_under x ≡ cells_under y
 same_cells o distance x y px py = elim (cases_eq distance 0) [
@@ -178,7 +181,8 @@ block_mapped : (class : ℕ) (leaf : Bool) → class < 8 → is_unmapped_header 
 block_mapped class true known = ap (λ (x : Option Header). is_unmapped_header x) (header_of-word_of (LeafBlock class) known)
 block_mapped class false known = ap (λ (x : Option Header). is_unmapped_header x) (header_of-word_of (Block class) known)
 
-run_mapped : (count distance : ℕ) (leaf : Bool) → (1 ≤ count) × (count ≤ 64) → distance < count → is_unmapped_header (header_of (word_of (run_header count true leaf distance))) ≡ false
+run_mapped : (count distance : ℕ) (leaf : Bool) → (1 ≤ count) × (count ≤ 64) → distance < count
+    → is_unmapped_header (header_of (word_of (run_header count true leaf distance))) ≡ false
 run_mapped count zero true range lt = ap (λ (x : Option Header). is_unmapped_header x) (header_of-word_of (LeafRun count) range)
 run_mapped count zero false range lt = ap (λ (x : Option Header). is_unmapped_header x) (header_of-word_of (Run count true) range)
 run_mapped count (suc d) leaf range lt =
@@ -193,7 +197,8 @@ made_is_mapped o distance sized lt = elim (cases_Bool (is_small_object o)) [
       ap (λ h. is_unmapped_header (header_of h)) (large_header o distance large) ∙ run_mapped (pages_made o) distance o.leaf (large_count o sized large) lt
 ]
 
-pub unmapped_is_unmapped : (count distance : ℕ) → (1 ≤ count) × (count ≤ 64) → distance < count → is_unmapped_header (header_of (unmapped_header count distance)) ≡ true
+pub unmapped_is_unmapped : (count distance : ℕ) → (1 ≤ count) × (count ≤ 64) → distance < count
+    → is_unmapped_header (header_of (unmapped_header count distance)) ≡ true
 unmapped_is_unmapped count zero range lt = ap (λ (x : Option Header). is_unmapped_header x) (header_of-word_of (Run count false) range)
 unmapped_is_unmapped count (suc d) range lt =
     let most = range.1 in

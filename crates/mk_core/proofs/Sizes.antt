@@ -61,7 +61,9 @@ class_for_small n some most =
     is ∙ ap (λ (x : Option ℕ). Some (unwrap_or x 0)) (sym is)
   where
     last : (n : ℕ) → nat_le n 32 ≡ true → list_any (λ size. nat_le n size) class_sizes ≡ true
-    last n h = or_right (nat_le n 2) _ (or_right (nat_le n 4) _ (or_right (nat_le n 6) _ (or_right (nat_le n 8) _ (or_right (nat_le n 12) _ (or_right (nat_le n 16) _ (or_right (nat_le n 24) _ (or_left (nat_le n 32) false h)))))))
+    last n h =
+        or_right (nat_le n 2) _ (or_right (nat_le n 4) _ (or_right (nat_le n 6) _ (or_right (nat_le n 8) _
+        (or_right (nat_le n 12) _ (or_right (nat_le n 16) _ (or_right (nat_le n 24) _ (or_left (nat_le n 32) false h)))))))
 
 -- the class of a small object is one of the eight, and its cells hold the object
 pub class_known : (o : Object) → IsSized o → is_small_object o ≡ true → (class_made o < 8) × (o.words ≤ class_words_of (class_made o))

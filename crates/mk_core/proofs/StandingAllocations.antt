@@ -24,13 +24,18 @@ use Rattle.mk_core.specs.Cells.{pointed_cell, first_word, header_in, cells_under
 use Rattle.mk_core.specs.NewPlaces.{is_small_object, class_made, pages_made, unmapped_header, base_made}
 use Rattle.mk_core.specs.ObjectHeaders.{IsSized, cells_made, words_made, ShowsPart, IsHeaderOf}
 use Rattle.mk_core.specs.Allocations.{PlacedAllocation, is_mapped, storage_words, storage_of, stands_in}
-use Rattle.mk_core.specs.StandingAllocations.{object_placed, BeginsAtCell, StandsOnHeap, HasItsHeaders, StandingHasStorage, HeadersShowStorage, PointersHitAllocations, CellsBeginAtBases}
-use Rattle.mk_core.proofs.Sizes.{large_is_not_small, small_cells, large_cells, small_pages, small_words, large_words, class_known, large_count, words_are_small, words_within, pages_some}
+use Rattle.mk_core.specs.StandingAllocations.{object_placed, BeginsAtCell, StandsOnHeap, HasItsHeaders, StorageHoldsObjects, StandingHasStorage, HeadersShowStorage, PointersHitAllocations, CellsBeginAtBases}
+use Rattle.mk_core.proofs.Sizes.{large_is_not_small, small_cells, large_cells, small_pages, small_words, large_words, class_known, large_count, words_are_small, words_within, words_hold, pages_some}
 use Rattle.mk_core.proofs.ObjectHeaders.{small_header, large_header, header_shows, part_cells, part_words}
 
 -- a type that there is has 1 to 4,096 words
 pub typed_size : (c : Config) (a : PlacedAllocation) → IsWithinLimits c → a.ty < length c.types → IsSized (object_placed c a)
 typed_size c a limits typed = (limits.types a.ty [] typed).0
+
+pub storage_holds : StorageHoldsObjects
+storage_holds c a limits typed =
+    let sized = typed_size c a limits typed in
+    (words_hold (object_placed c a) sized, words_within (object_placed c a) sized)
 
 -- A small object's cell ends within its page,
 pub cell_ends_within : (o : Object) (base : ℕ) → IsSized o → is_small_object o ≡ true → (b : BeginsAtCell o base) → b.index * words_made o + words_made o ≤ 64
@@ -135,7 +140,8 @@ pub header_shows_storage : (c : Config) (a : PlacedAllocation) (distance header 
 header_shows_storage c a distance header sized b near has = by (cases_Bool (is_small_object (object_placed c a))) has
   where
     large_shows : (mapped : Bool) → is_small_object (object_placed c a) ≡ false
-        → header ≡ word_of (run_header (pages_made (object_placed c a)) mapped (object_placed c a).leaf distance) → ShowsStorage (storage_of c a) (a.base / 64 + distance) header
+        → header ≡ word_of (run_header (pages_made (object_placed c a)) mapped (object_placed c a).leaf distance)
+        → ShowsStorage (storage_of c a) (a.base / 64 + distance) header
     large_shows mapped large is =
         let first = (run_begins (object_placed c a) a.base large b).1 in
         shows_run (storage_of c a) header (a.base / 64) (pages_made (object_placed c a)) distance mapped (omega arith)
@@ -238,8 +244,10 @@ cell_from_base c w a cell sized has known first =
     let on_page = cell_on_page (header_in w cell.page) cell.index known in
     let page : a.base / 64 ≡ cell.page = omega arith in
     let part = first_page_shows c w a sized has in
-    let cells : cells_under (header_in w cell.page) ≡ cells_made (object_placed c a) = ap (λ p. cells_under (header_in w p)) (sym page) ∙ part_cells (object_placed c a) _ part in
-    let words : words_under (header_in w cell.page) ≡ words_made (object_placed c a) = ap (λ p. words_under (header_in w p)) (sym page) ∙ part_words (object_placed c a) _ part in
+    let cells : cells_under (header_in w cell.page) ≡ cells_made (object_placed c a) =
+    ap (λ p. cells_under (header_in w p)) (sym page) ∙ part_cells (object_placed c a) _ part in
+    let words : words_under (header_in w cell.page) ≡ words_made (object_placed c a) =
+    ap (λ p. words_under (header_in w p)) (sym page) ∙ part_words (object_placed c a) _ part in
     let product : cell.index * words_under (header_in w cell.page) ≡ cell.index * words_made (object_placed c a) = ap (λ n. cell.index * n) words in
     let b : BeginsAtCell (object_placed c a) a.base = record { index = cell.index; known = omega arith; first = omega arith } in
     placed_cell c a sized b ∙ ap (λ (p : ℕ). record { page = p; index = cell.index }) page

@@ -59,7 +59,8 @@ contains_more : (xs : List Storage) (x s : Storage) → Contains xs s → Contai
 contains_more xs x s (k, within, at) = (suc k, omega arith, at)
 
 -- the storage of the unreleased allocation i
-pub has_its_storage : (c : Config) (xs : List PlacedAllocation) (i : ℕ) → (placed_at xs i).released ≡ false → Contains (unreleased_storage c xs) (storage_of c (placed_at xs i))
+pub has_its_storage : (c : Config) (xs : List PlacedAllocation) (i : ℕ) → (placed_at xs i).released ≡ false
+    → Contains (unreleased_storage c xs) (storage_of c (placed_at xs i))
 has_its_storage c [] i unreleased = absurd (true≢false unreleased)
 has_its_storage c (a ∷ xs) zero unreleased =
     subst (λ (ss : List Storage). Contains ss (storage_of c a)) (sym (unreleased_front c a xs unreleased)) (0, omega arith, refl)
@@ -81,7 +82,8 @@ storage_is_of c (a ∷ xs) s h = elim (cases_Bool a.released) [
   | inr unreleased ↦ by unreleased (λ k. has_more c a xs s (storage_is_of c xs s k)) (subst (λ (ss : List Storage). Contains ss s) (unreleased_front c a xs unreleased) h)
 ]
   where
-    by : a.released ≡ false → (Contains (unreleased_storage c xs) s → HasStorage c (a ∷ xs) s) → Contains (storage_of c a ∷ unreleased_storage c xs) s → HasStorage c (a ∷ xs) s
+    by : a.released ≡ false → (Contains (unreleased_storage c xs) s → HasStorage c (a ∷ xs) s)
+        → Contains (storage_of c a ∷ unreleased_storage c xs) s → HasStorage c (a ∷ xs) s
     by unreleased rest (zero, within, at) = record { number = 0; unreleased = unreleased; storage = sym at }
     by unreleased rest (suc k, within, at) = rest (k, omega arith, at)
 

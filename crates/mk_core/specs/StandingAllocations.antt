@@ -5,7 +5,7 @@ use Rattle.mk_geom.specs.Storages.{Storage, stands_on, IsStorage}
 use Rattle.mk_geom.specs.StorageWords.{PointsInto, cell_of_storage, ShowsStorage}
 use Rattle.mk_core.specs.declared.config.Config.{Config}
 use Rattle.mk_core.specs.declared.seats.Object.{Object}
-use Rattle.mk_core.specs.Config.{IsWithinLimits}
+use Rattle.mk_core.specs.Config.{IsWithinLimits, IsBetween}
 use Rattle.mk_core.specs.Words.{Words, header_at}
 use Rattle.mk_core.specs.Cells.{pointed_cell, first_word, cell_words}
 use Rattle.mk_core.specs.NewPlaces.{object_of, pages_made}
@@ -34,6 +34,12 @@ abbrev pub HasItsHeaders : Config → Words → PlacedAllocation → Type 0
 HasItsHeaders c w a =
     (distance : ℕ) → distance < pages_made (object_placed c a)
     → IsHeaderOf (object_placed c a) distance (header_at w (a.base / 64 + distance))
+
+-- An allocation's storage holds its object, and has 1 to 4,096 words.
+abbrev pub StorageHoldsObjects : Type 0
+StorageHoldsObjects =
+    (c : Config) (a : PlacedAllocation) → IsWithinLimits c → a.ty < length c.types
+    → (length (kinds_of c.types a.ty) ≤ storage_words c a) × IsBetween 1 4096 (storage_words c a)
 
 -- What stands on the heap has a storage there,
 abbrev pub StandingHasStorage : Type 0

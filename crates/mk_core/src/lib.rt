@@ -37,4 +37,6 @@ pub use seats::{
     Flight, Hand, Holding, Marker, OwnCycle, Placing, Presence, RunPages, Scan, SeenHeader, Source,
     Stage,
 };
-pub use storage_laws::{an_allocation_has_its_cell, unreleased_storage_is_of_allocations};
+pub use storage_laws::{
+    an_allocation_has_its_cell, headers_show_their_objects, unreleased_storage_is_of_allocations,
+};
