@@ -18,3 +18,4 @@ pub mod StandingAllocations
 pub mod Steps
 pub mod UnreleasedStorage
 pub mod Wiped
+pub mod WordBits
