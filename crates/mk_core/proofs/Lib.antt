@@ -8,7 +8,9 @@ pub mod HistoryParts
 pub mod LayoutLemmas
 pub mod Lengths
 pub mod ObjectHeaders
+pub mod PageSteps
 pub mod PlacesNow
+pub mod PointedPages
 pub mod RegionLemmas
 pub mod RegisterAccesses
 pub mod Schedules
