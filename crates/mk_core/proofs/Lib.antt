@@ -2,7 +2,9 @@ pub mod AllBelow
 pub mod AllBelowParts
 pub mod Bits
 pub mod BitsWithout
+pub mod ChangedAllocations
 pub mod Conditions
+pub mod GrantedAllocations
 pub mod Histories
 pub mod HistoryParts
 pub mod LayoutLemmas

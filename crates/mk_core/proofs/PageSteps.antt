@@ -125,7 +125,9 @@ pub used_step : (c : Config) (m : Moment) (f : Flight) (page value : ℕ) → ma
 used_step c m f page value h = by (is_phase m.words 4) refl h
   where
     by : (four : Bool) → is_phase m.words 4 ≡ four
-        → (if four then gives_back m.words page value else not (is_used_once m.seats.holding.placing) && takes_cell m.words (object_made c f.op) (place_now c m f) page value) ≡ true
+        → (if four
+        then gives_back m.words page value
+        else not (is_used_once m.seats.holding.placing) && takes_cell m.words (object_made c f.op) (place_now c m f) page value) ≡ true
         → UsedStep c m f page value
     by true is h = ItGivesBack is (gives_back_is m.words page value h)
     by false is h =

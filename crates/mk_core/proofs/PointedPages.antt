@@ -30,7 +30,8 @@ of_block class page word cell is = by (nat_lt word (cells_of class * class_words
     ]
 
     by : (b : Bool) → nat_lt word (cells_of class * class_words_of class) ≡ b
-        → (if b then Some (record { page = page; index = word / class_words_of class }) else None) ≡ Some cell → (cell.page ≡ page) × (cell.index < 64) × (cell.index < cells_of class)
+        → (if b then Some (record { page = page; index = word / class_words_of class }) else None) ≡ Some cell
+        → (cell.page ≡ page) × (cell.index < 64) × (cell.index < cells_of class)
     by true inside is =
         let here : record { page = page; index = word / class_words_of class } ≡ cell = cc in
         let known = within (ltb-true word (cells_of class * class_words_of class) inside) in

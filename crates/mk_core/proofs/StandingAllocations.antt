@@ -15,7 +15,7 @@ use Rattle.mk_geom.specs.Storages.{stands_on, run_header, IsCell, IsRun, IsStora
 use Rattle.mk_geom.specs.StorageWords.{cell_of_storage, ShowsStorage}
 use Rattle.mk_geom.proofs.ClassTable.{cell_ends, class_words_within}
 use Rattle.mk_geom.proofs.Standing.{stands_parts}
-use Rattle.mk_geom.proofs.PointedCells.{cell_from_first, large_cell_of, cell_first, stands_at_address, shows_cell, shows_run, points_into_cell}
+use Rattle.mk_geom.proofs.PointedCells.{cell_from_first, small_cell_of, large_cell_of, cell_first, stands_at_address, shows_cell, shows_run, points_into_cell}
 use Rattle.mk_core.specs.declared.config.Config.{Config}
 use Rattle.mk_core.specs.declared.seats.Object.{Object}
 use Rattle.mk_core.specs.Config.{IsWithinLimits}
@@ -88,6 +88,17 @@ placed_cell c a sized b = elim (cases_Bool (is_small_object (object_placed c a))
       large_cell_of (storage_of c a) (words_are_small (object_placed c a) sized ∙ large)
       ∙ ap (λ (n : ℕ). record { page = a.base / 64; index = n }) (sym zero)
 ]
+
+-- by the class of the object
+pub class_cell : (c : Config) (a : PlacedAllocation) → IsSized (object_placed c a) → is_small_object (object_placed c a) ≡ true
+    → cell_of_storage (storage_of c a) ≡ record { page = a.base / 64; index = a.base % 64 / class_words_of (class_made (object_placed c a)) }
+class_cell c a sized small =
+    small_cell_of (storage_of c a) (words_are_small (object_placed c a) sized ∙ small)
+    ∙ ap (λ (n : ℕ). record { page = a.base / 64; index = a.base % 64 / n }) (small_words (object_placed c a) small)
+
+pub run_cell : (c : Config) (a : PlacedAllocation) → IsSized (object_placed c a) → is_small_object (object_placed c a) ≡ false
+    → cell_of_storage (storage_of c a) ≡ record { page = a.base / 64; index = 0 }
+run_cell c a sized large = large_cell_of (storage_of c a) (words_are_small (object_placed c a) sized ∙ large)
 
 -- An unreleased small allocation is mapped.
 small_is_mapped : (c : Config) (a : PlacedAllocation) → a.released ≡ false → is_small_object (object_placed c a) ≡ true → is_mapped c a ≡ true
