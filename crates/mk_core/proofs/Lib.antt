@@ -12,6 +12,7 @@ pub mod Lengths
 pub mod ObjectHeaders
 pub mod PageSteps
 pub mod PlacesNow
+pub mod PointedAllocations
 pub mod PointedPages
 pub mod RegionLemmas
 pub mod RegisterAccesses
