@@ -36,9 +36,10 @@ replies_in_parts c es more =
 
 pub admitted_in_parts : (c : Config) (es more : List Event) → CallsAreAdmittedInParts c es more
 admitted_in_parts c es more =
-    let parts = admitted_append c.globals (never_first c) (asked (calls c es)) (asked (calls_from c (left c es) more)) in
-    (λ h. parts.0 (subst (λ (xs : List Call). AreAdmitted c.globals (never_first c) xs) (asked_in_parts c es more) h),
-    λ h. subst (λ (xs : List Call). AreAdmitted c.globals (never_first c) xs) (sym (asked_in_parts c es more)) (parts.1 h))
+    let parts = admitted_append c.globals (never_first c) (asked (calls c es)) (asked (calls_from c (left c es) more)) in (
+      λ h. parts.0 (subst (λ (xs : List Call). AreAdmitted c.globals (never_first c) xs) (asked_in_parts c es more) h),
+      λ h. subst (λ (xs : List Call). AreAdmitted c.globals (never_first c) xs) (sym (asked_in_parts c es more)) (parts.1 h),
+    )
 
 pub earlier_part_is_history : (c : Config) (es more : List Event) → EarlierPartIsHistory c es more
 earlier_part_is_history c es more h =

@@ -1,7 +1,14 @@
--- Small and large objects.
-use Rattle.std.proofs.Common.{◌≡◌, ℕ, ◌∙◌, sym, ap, inl, inr, length, lt-ltb, le-ltb}
-use Rattle.std.specs.Prelude.{not, nat_le, nat_lt}
+-- Small and large objects: their classes, cells, pages and words.
+use Rattle.std.proofs.Common.{◌≡◌, ℕ, ◌+◌, ◌*◌, ◌<◌, ◌≤◌, Bool, true, false, List, [], ◌∷◌, length, sym, ◌∙◌, ap, subst, inl, inr, arith, cond, lt-ltb, le-ltb}
+use Rattle.std.specs.Prelude.{Option, Some, None, not, nat_le, nat_lt, unwrap_or, ◌==◌, ◌||◌, if◌then◌else◌}
+use Rattle.std.specs.List.{list_any, position_or_len, position}
+use Rattle.std.proofs.lemmas.Bool.{cases_Bool, le-leb, lt-leb, leb-true, ne_eqb, or_left, or_right, cond-true, cond-false}
 use Rattle.std.proofs.lemmas.Bool.Decides.{leb_tells}
+use Rattle.mk_geom.specs.Classes.{class_sizes, class_words_of, cells_of, class_for, run_pages_of}
+use Rattle.mk_geom.proofs.ClassTable.{class_for-some, class_words_within, some_cells}
+use Rattle.mk_core.specs.declared.seats.Object.{Object}
+use Rattle.mk_core.specs.NewPlaces.{is_small_object, class_made, pages_made}
+use Rattle.mk_core.specs.ObjectHeaders.{IsSized, cells_made, words_made}
 use Rattle.mk_core.specs.HistoryLaws.{LargeIsNotSmall}
 
 over_is_not : (n : ℕ) → nat_lt 32 n ≡ not (nat_le n 32)
@@ -12,3 +19,115 @@ over_is_not n = elim (leb_tells n 32) [
 
 pub large_is_not_small : LargeIsNotSmall
 large_is_not_small kinds = over_is_not (length kinds)
+
+-- by sort
+
+pub small_cells : (o : Object) → is_small_object o ≡ true → cells_made o ≡ cells_of (class_made o)
+small_cells o small = cond-true (is_small_object o) (cells_of (class_made o)) 1 small
+
+pub large_cells : (o : Object) → is_small_object o ≡ false → cells_made o ≡ 1
+large_cells o large = cond-false (is_small_object o) (cells_of (class_made o)) 1 large
+
+pub small_pages : (o : Object) → is_small_object o ≡ true → pages_made o ≡ 1
+small_pages o small = cond-true (is_small_object o) 1 (run_pages_of o.words) small
+
+pub large_pages : (o : Object) → is_small_object o ≡ false → pages_made o ≡ run_pages_of o.words
+large_pages o large = cond-false (is_small_object o) 1 (run_pages_of o.words) large
+
+pub small_words : (o : Object) → is_small_object o ≡ true → words_made o ≡ class_words_of (class_made o)
+small_words o small = cond-true (is_small_object o) (class_words_of (class_made o)) (64 * pages_made o) small
+
+pub large_words : (o : Object) → is_small_object o ≡ false → words_made o ≡ 64 * pages_made o
+large_words o large = cond-false (is_small_object o) (class_words_of (class_made o)) (64 * pages_made o) large
+
+-- a size of at most 32 words has a class
+first_passes : (p : ℕ → Bool) (xs : List ℕ) → list_any p xs ≡ true → position_or_len p xs < length xs
+first_passes p [] h = cc
+first_passes p (x ∷ xs) h = elim (cases_Bool (p x)) [
+  | inl e ↦ subst (λ b. cond (not b) (1 + position_or_len p xs) 0 < length (x ∷ xs)) (sym e) (omega arith)
+  | inr e ↦
+      let m = first_passes p xs (sym (ap (λ b. b || list_any p xs) e) ∙ h) in
+      subst (λ b. cond (not b) (1 + position_or_len p xs) 0 < length (x ∷ xs)) (sym e) (omega arith)
+]
+
+pub class_for_small : (n : ℕ) → 1 ≤ n → n ≤ 32 → class_for n ≡ Some (unwrap_or (class_for n) 0)
+class_for_small n some most =
+    let zero : (n == 0) ≡ false = ne_eqb n 0 (λ e. absurd (omega arith)) in
+    let any : list_any (λ size. nat_le n size) class_sizes ≡ true = last n (le-leb n 32 most) in
+    let there = lt-ltb (position_or_len (λ size. nat_le n size) class_sizes) (length class_sizes) (first_passes (λ size. nat_le n size) class_sizes any) in
+    let is : class_for n ≡ Some (position_or_len (λ size. nat_le n size) class_sizes) =
+    ap (λ b. if b then None else position (λ size. nat_le n size) class_sizes) zero
+    ∙ ap (λ b. cond b (Some (position_or_len (λ size. nat_le n size) class_sizes)) None) there in
+    is ∙ ap (λ (x : Option ℕ). Some (unwrap_or x 0)) (sym is)
+  where
+    last : (n : ℕ) → nat_le n 32 ≡ true → list_any (λ size. nat_le n size) class_sizes ≡ true
+    last n h =
+        or_right (nat_le n 2) _ (or_right (nat_le n 4) _ (or_right (nat_le n 6) _ (or_right (nat_le n 8) _
+        (or_right (nat_le n 12) _ (or_right (nat_le n 16) _ (or_right (nat_le n 24) _ (or_left (nat_le n 32) false h)))))))
+
+-- the class of a small object is one of the eight, and its cells hold the object
+pub class_known : (o : Object) → IsSized o → is_small_object o ≡ true → (class_made o < 8) × (o.words ≤ class_words_of (class_made o))
+class_known o sized small = class_for-some o.words (class_made o) (class_for_small o.words sized.0 (leb-true o.words 32 small))
+
+-- a large one has a run of 1 to 64 pages
+pub large_count : (o : Object) → IsSized o → is_small_object o ≡ false → (1 ≤ pages_made o) × (pages_made o ≤ 64)
+large_count o sized large =
+    let e = large_pages o large in
+    let some = sized.0 in
+    let most = sized.1 in
+    (omega arith, omega arith)
+
+pub pages_some : (o : Object) → IsSized o → 1 ≤ pages_made o
+pages_some o sized = elim (cases_Bool (is_small_object o)) [
+  | inl small ↦ let e = small_pages o small in omega arith
+  | inr large ↦ (large_count o sized large).0
+]
+
+pub cells_some : (o : Object) → IsSized o → 1 ≤ cells_made o
+cells_some o sized = elim (cases_Bool (is_small_object o)) [
+  | inl small ↦
+      let e = small_cells o small in
+      let some = some_cells (class_made o) (class_known o sized small).0 in
+      omega arith
+  | inr large ↦ let e = large_cells o large in omega arith
+]
+
+-- A small object's storage has at most 32 words, and a large one's 64 or more;
+pub small_words_within : (o : Object) → IsSized o → is_small_object o ≡ true → (1 ≤ words_made o) × (words_made o ≤ 32)
+small_words_within o sized small =
+    let e = small_words o small in
+    let range = class_words_within (class_made o) (class_known o sized small).0 in
+    (omega arith, omega arith)
+
+pub large_words_within : (o : Object) → IsSized o → is_small_object o ≡ false → (64 ≤ words_made o) × (words_made o ≤ 4096)
+large_words_within o sized large =
+    let e = large_words o large in
+    let count = large_count o sized large in
+    (omega arith, omega arith)
+
+-- it is as small as the object,
+pub words_are_small : (o : Object) → IsSized o → nat_le (words_made o) 32 ≡ is_small_object o
+words_are_small o sized = elim (cases_Bool (is_small_object o)) [
+  | inl small ↦ le-leb (words_made o) 32 (small_words_within o sized small).1 ∙ sym small
+  | inr large ↦ lt-leb (words_made o) 32 (let range = large_words_within o sized large in omega arith) ∙ sym large
+]
+
+-- has 1 to 4,096 words,
+pub words_within : (o : Object) → IsSized o → (1 ≤ words_made o) × (words_made o ≤ 4096)
+words_within o sized = elim (cases_Bool (is_small_object o)) [
+  | inl small ↦ let range = small_words_within o sized small in (omega arith, omega arith)
+  | inr large ↦ let range = large_words_within o sized large in (omega arith, omega arith)
+]
+
+-- and the object fits into it.
+pub words_hold : (o : Object) → IsSized o → o.words ≤ words_made o
+words_hold o sized = elim (cases_Bool (is_small_object o)) [
+  | inl small ↦
+      let e = small_words o small in
+      let holds = (class_known o sized small).1 in
+      omega arith
+  | inr large ↦
+      let e = large_words o large in
+      let pages = large_pages o large in
+      omega arith
+]

@@ -23,12 +23,14 @@ pub mod LongerLists
 pub mod MarkerConditions
 pub mod Moments
 pub mod NewPlaces
+pub mod ObjectHeaders
 pub mod Order
 pub mod PageHeaders
 pub mod Placement
 pub mod Ranges
 pub mod Readings
 pub mod Standing
+pub mod StandingAllocations
 pub mod StopConditions
 pub mod Touched
 pub mod TurnConditions

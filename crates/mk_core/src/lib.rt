@@ -19,6 +19,7 @@ mod reaching;
 mod seats;
 mod stepping;
 mod stop_conditions;
+mod storage_laws;
 mod table;
 #[cfg(test)]
 mod tests;
@@ -35,4 +36,7 @@ pub use machine::Core;
 pub use seats::{
     Flight, Hand, Holding, Marker, OwnCycle, Placing, Presence, RunPages, Scan, SeenHeader, Source,
     Stage,
+};
+pub use storage_laws::{
+    an_allocation_has_its_cell, headers_show_their_objects, unreleased_storage_is_of_allocations,
 };

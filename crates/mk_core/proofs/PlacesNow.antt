@@ -1,0 +1,146 @@
+-- What is known where there is a place of a New, or a cell that a Free frees.
+use Rattle.std.proofs.Common.{◌≡◌, ℕ, ◌+◌, ◌^◌, Bool, true, false, refl, sym, ◌∙◌, ap, subst, ◌⊎◌, inl, inr}
+use Rattle.std.specs.Prelude.{◌&&◌, not, ◌==◌, Option, Some, None, slice_index, if◌then◌else◌, List}
+use Rattle.std.proofs.lemmas.Bool.{and_parts, eqb-true, not-true}
+use Rattle.mk_never.specs.declared.operations.Op.{Op}
+use Rattle.mk_never.specs.declared.operations.Op.TheVariants as op
+use Rattle.mk_geom.specs.declared.addresses.Cell.{Cell}
+use Rattle.mk_geom.specs.declared.pages.Page.{Page}
+use Rattle.mk_geom.specs.declared.pages.Place.{Place}
+use Rattle.mk_core.specs.declared.config.Config.{Config}
+use Rattle.mk_core.specs.declared.seats.Object.{Object}
+use Rattle.mk_core.specs.declared.seats.Stage.{Stage}
+use Rattle.mk_core.specs.declared.seats.Stage.TheVariants as stage
+use Rattle.mk_core.specs.declared.seats.Flight.{Flight}
+use Rattle.mk_core.specs.declared.seats.Placing.{Placing}
+use Rattle.mk_core.specs.declared.seats.Placing.TheVariants.{Unplaced, Chosen, Used, Granted}
+use Rattle.mk_core.specs.Words.{Words, quarantine_word}
+use Rattle.mk_core.specs.Cells.{pointed_cell, is_freed}
+use Rattle.mk_core.specs.NewPlaces.{place_on_pages, place_in, object_made, is_new_at, is_free_at, is_undecided_new, is_undecided_free, target}
+use Rattle.mk_core.specs.TurnConditions.{place_now, frees, cell_freed}
+use Rattle.mk_core.specs.Moments.{Moment, is_phase}
+use Rattle.mk_core.specs.Effects.{chosen, taken}
+
+-- what stands under a test, where something does
+some_under : {A : Type 0} (b : Bool) (o : Option A) (x : A) → (if b then o else None) ≡ Some x → (b ≡ true) × (o ≡ Some x)
+some_under true o x h = (refl, h)
+some_under false o x h = cc
+
+-- A New or a Free that isn't decided yet.
+
+pub record NewAtTurn (s : Stage) (o : Op) : Type 0 where
+  pub stage : s ≡ stage.Turn
+  pub d : ℕ
+  pub ty : ℕ
+  pub full : Bool
+  pub op : o ≡ op.New d ty full
+
+pub record FreeAtTurn (s : Stage) (o : Op) : Type 0 where
+  pub stage : s ≡ stage.Turn
+  pub p : ℕ
+  pub op : o ≡ op.Free p
+
+new_at : (s : Stage) (o : Op) → is_new_at s o ≡ true → NewAtTurn s o
+new_at stage.Turn (op.New d ty full) h = record { stage = refl; d = d; ty = ty; full = full; op = refl }
+new_at _ _ h = cc
+
+free_at : (s : Stage) (o : Op) → is_free_at s o ≡ true → FreeAtTurn s o
+free_at stage.Turn (op.Free p) h = record { stage = refl; p = p; op = refl }
+free_at _ _ h = cc
+
+pub undecided_new : (f : Flight) → is_undecided_new f ≡ true → NewAtTurn f.stage f.op
+undecided_new f h = new_at f.stage f.op h
+
+pub undecided_free : (f : Flight) → is_undecided_free f ≡ true → FreeAtTurn f.stage f.op
+undecided_free f h = free_at f.stage f.op h
+
+-- The place of a New is the first fit, until a step has fixed it.
+pub data IsPlaced (resident : ℕ) (pages : List Page) (o : Object) (place : Place) : Placing → Type 0 where
+  ByFit : place_on_pages resident pages o ≡ Some place → IsPlaced resident pages o place Unplaced
+  AsChosen : IsPlaced resident pages o place (Chosen place)
+  AsUsed : IsPlaced resident pages o place (Used place)
+
+pub placed_in : (resident : ℕ) (pages : List Page) (o : Object) (placing : Placing) (place : Place)
+    → place_in resident pages o placing ≡ Some place → IsPlaced resident pages o place placing
+placed_in resident pages o Unplaced place h = ByFit h
+placed_in resident pages o (Chosen found) place h =
+    let e : found ≡ place = cc in
+    subst (λ (x : Place). IsPlaced resident pages o place (Chosen x)) (sym e) AsChosen
+placed_in resident pages o (Used found) place h =
+    let e : found ≡ place = cc in
+    subst (λ (x : Place). IsPlaced resident pages o place (Used x)) (sym e) AsUsed
+placed_in resident pages o Granted place h = cc
+
+pub record PlacedNow (c : Config) (m : Moment) (f : Flight) (place : Place) : Type 0 where
+  pub new : is_undecided_new f ≡ true
+  pub at : place_in c.resident m.words.pages (object_made c f.op) m.seats.holding.placing ≡ Some place
+  pub placed : IsPlaced c.resident m.words.pages (object_made c f.op) place m.seats.holding.placing
+
+pub placed_now : (c : Config) (m : Moment) (f : Flight) (place : Place) → place_now c m f ≡ Some place → PlacedNow c m f place
+placed_now c m f place h =
+    let parts = some_under (is_undecided_new f) (place_in c.resident m.words.pages (object_made c f.op) m.seats.holding.placing) place h in
+    record { new = parts.0; at = parts.1; placed = placed_in c.resident m.words.pages (object_made c f.op) m.seats.holding.placing place parts.1 }
+
+-- what a step makes of a placing
+pub chosen_is : (placing : Placing) (o : Option Place) (place : Place) → chosen placing o ≡ Chosen place
+    → ((placing ≡ Unplaced) × (o ≡ Some place)) ⊎ (placing ≡ Chosen place)
+chosen_is Unplaced (Some x) place h = inl (refl, cc)
+chosen_is Unplaced None place h = cc
+chosen_is (Chosen x) o place h = inr h
+chosen_is (Used x) o place h = cc
+chosen_is Granted o place h = cc
+
+pub chosen_used : (placing : Placing) (o : Option Place) (place : Place) → chosen placing o ≡ Used place → placing ≡ Used place
+chosen_used Unplaced (Some x) place h = cc
+chosen_used Unplaced None place h = cc
+chosen_used (Chosen x) o place h = cc
+chosen_used (Used x) o place h = h
+chosen_used Granted o place h = cc
+
+pub taken_is : (placing : Placing) (o : Option Place) (place : Place) → taken placing o ≡ Used place
+    → (o ≡ Some place) ⊎ ((o ≡ None) × (placing ≡ Used place))
+taken_is placing (Some x) place h = inl cc
+taken_is placing None place h = inr (refl, h)
+
+pub taken_chosen : (placing : Placing) (o : Option Place) (place : Place) → taken placing o ≡ Chosen place → (o ≡ None) × (placing ≡ Chosen place)
+taken_chosen placing (Some x) place h = cc
+taken_chosen placing None place h = (refl, h)
+
+-- The target of an undecided Free is what its register points into.
+pub record IsTarget (pages : ℕ) (w : Words) (f : Flight) (cell : Cell) : Type 0 where
+  pub free : is_undecided_free f ≡ true
+  pub pointed : pointed_cell pages w.pages f.p ≡ Some cell
+
+pub target_is : (pages : ℕ) (w : Words) (f : Flight) (cell : Cell) → target pages w f ≡ Some cell → IsTarget pages w f cell
+target_is pages w f cell h =
+    let parts = some_under (is_undecided_free f) (pointed_cell pages w.pages f.p) cell h in
+    record { free = parts.0; pointed = parts.1 }
+
+-- The cell that a `quar` frees: its freed bit wasn't set, and is what the value adds to the page's quarantine word.
+pub record FreesCell (pages : ℕ) (w : Words) (f : Flight) (p v : ℕ) (cell : Cell) : Type 0 where
+  pub phase : is_phase w 4 ≡ false
+  pub at : target pages w f ≡ Some cell
+  pub free : is_undecided_free f ≡ true
+  pub pointed : pointed_cell pages w.pages f.p ≡ Some cell
+  pub page : p ≡ cell.page
+  pub unfreed : is_freed w cell ≡ false
+  pub value : v ≡ quarantine_word (slice_index w.freed p + 2 ^ cell.index) (slice_index w.snapshot p)
+
+pub freed_cell : (pages : ℕ) (w : Words) (f : Flight) (p v : ℕ) (cell : Cell) → cell_freed pages w f p v ≡ Some cell → FreesCell pages w f p v cell
+freed_cell pages w f p v cell h =
+    let under = some_under (not (is_phase w 4) && frees w (target pages w f) p v) (target pages w f) cell h in
+    let tests = and_parts (not (is_phase w 4)) (frees w (target pages w f) p v) under.0 in
+    let here : frees w (Some cell) p v ≡ true = ap (λ (x : Option Cell). frees w x p v) (sym under.1) ∙ tests.1 in
+    let value = quarantine_word (slice_index w.freed p + 2 ^ cell.index) (slice_index w.snapshot p) in
+    let a = and_parts ((p == cell.page) && not (is_freed w cell)) (v == value) here in
+    let b = and_parts (p == cell.page) (not (is_freed w cell)) a.0 in
+    let is = target_is pages w f cell under.1 in
+    record {
+      phase = not-true (is_phase w 4) tests.0;
+      at = under.1;
+      free = is.free;
+      pointed = is.pointed;
+      page = eqb-true p cell.page b.0;
+      unfreed = not-true (is_freed w cell) b.1;
+      value = eqb-true v value a.1;
+    }

@@ -1,0 +1,85 @@
+-- Which allocation a value points into, and what a release makes of one.
+use Rattle.std.proofs.Common.{◌≡◌, ℕ, ◌*◌, ◌/◌, ◌%◌, Bool, true, false, sym, ◌∙◌, ap, inl, inr, arith}
+use Rattle.std.specs.Prelude.{◌||◌, Option, Some, None, nat_lt, if◌then◌else◌}
+use Rattle.std.proofs.Math.Nat.{div-mul-le_self, lt-div-mul-add}
+use Rattle.std.proofs.lemmas.Bool.{cases_Bool}
+use Rattle.mk_geom.specs.declared.addresses.Cell.{Cell}
+use Rattle.mk_geom.specs.Addresses.{address_of, page_at_address, word_at_address, cell_of_block, cell_at}
+use Rattle.mk_geom.specs.Classes.{class_words_of, cells_of}
+use Rattle.mk_geom.specs.Storages.{Storage, is_small, stands_on, class_of_storage, IsStorage}
+use Rattle.mk_geom.specs.StorageWords.{IsWordOf, PointsInto, cell_of_storage, ShowsStorage}
+use Rattle.mk_geom.proofs.Standing.{small_is_cell, large_is_run, has_words, cell_stands_at, stands_parts}
+use Rattle.mk_geom.proofs.PointedCells.{small_lookup, cell_index, class_has_words, small_cell_of, address_points_into}
+use Rattle.mk_geom.proofs.CellsOnPages.{is_address}
+use Rattle.mk_core.specs.declared.config.Config.{Config}
+use Rattle.mk_core.specs.Config.{IsWithinLimits}
+use Rattle.mk_core.specs.Words.{Words, header_at}
+use Rattle.mk_core.specs.Bounded.{is_some_and}
+use Rattle.mk_core.specs.Cells.{pointed_cell, is_left_unmarked}
+use Rattle.mk_core.specs.Allocations.{PlacedAllocation, storage_of, with_released}
+use Rattle.mk_core.specs.StandingAllocations.{object_placed, StandsOnHeap, HasItsHeaders}
+use Rattle.mk_core.proofs.Sizes.{words_within}
+use Rattle.mk_core.proofs.StandingAllocations.{typed_size, standing_has_storage, headers_show_storage, pointers_hit}
+
+-- a word of a block is in the cell that it points into
+block_index : (class page word : ℕ) (cell : Cell) → cell_of_block class page word ≡ Some cell → word / class_words_of class ≡ cell.index
+block_index class page word cell is = by (nat_lt word (cells_of class * class_words_of class)) is
+  where
+    by : (b : Bool) → (if b then Some (record { page = page; index = word / class_words_of class }) else None) ≡ Some cell
+        → word / class_words_of class ≡ cell.index
+    by true is = let here : record { page = page; index = word / class_words_of class } ≡ cell = cc in ap (λ (k : Cell). k.index) here
+    by false is = cc
+
+-- What points into the cell of a storage, from a page that shows it, points into the storage.
+pub cell_points_into : (pages header u : ℕ) (s : Storage) → IsStorage pages s → stands_on (page_at_address u) s ≡ true → ShowsStorage s (page_at_address u) header
+    → cell_at pages header u ≡ Some (cell_of_storage s) → PointsInto u s
+cell_points_into pages header u s is stands shows found = elim (cases_Bool (is_small s)) [
+  | inl small ↦
+      let low = (is_address pages header u (cell_of_storage s) found).0 in
+      let cell = small_is_cell pages s is small in
+      let in_block = sym (small_lookup pages header u s is low stands shows small) ∙ found in
+      let at : word_at_address u / s.words ≡ cell.index =
+      ap (λ (n : ℕ). word_at_address u / n) (sym (class_has_words s cell))
+      ∙ block_index (class_of_storage s) (page_at_address u) (word_at_address u) (cell_of_storage s) in_block
+      ∙ ap (λ (k : Cell). k.index) (small_cell_of s small) ∙ cell_index s cell in
+      let some = has_words pages s is in
+      let page = cell_stands_at s (page_at_address u) cell stands in
+      let first : s.first % 64 ≡ cell.index * s.words = cell.first ∙ ap (λ (w : ℕ). cell.index * w) (sym cell.words) in
+      let same : word_at_address u / s.words * s.words ≡ cell.index * s.words = ap (λ (n : ℕ). n * s.words) at in
+      let from = div-mul-le_self (word_at_address u) s.words in
+      let to = lt-div-mul-add {a = word_at_address u} {b = s.words} some in
+      (low, (omega arith, omega arith))
+  | inr large ↦
+      let low = (is_address pages header u (cell_of_storage s) found).0 in
+      let run = large_is_run pages s is large in
+      let parts = stands_parts (page_at_address u) s stands in
+      (low, (omega (arith, run.first), omega (arith, run.first, run.words, run.some)))
+]
+
+-- So a value on the pages of an allocation points into its storage where it points into its cell.
+pub pointers_come_back : (c : Config) (w : Words) (a : PlacedAllocation) → IsWithinLimits c → StandsOnHeap c a → HasItsHeaders c w a
+    → (u : ℕ) → stands_on (page_at_address u) (storage_of c a) ≡ true → pointed_cell c.pages w.pages u ≡ Some (cell_of_storage (storage_of c a))
+    → PointsInto u (storage_of c a)
+unfolding pointed_cell
+pointers_come_back c w a limits st has u stands found =
+    cell_points_into c.pages (header_at w (page_at_address u)) u (storage_of c a) (standing_has_storage c a limits st) stands
+    (headers_show_storage c w a limits st has (page_at_address u) stands) found
+
+-- The addresses of its words point into its cell,
+pub word_points : (c : Config) (w : Words) (a : PlacedAllocation) → IsWithinLimits c → StandsOnHeap c a → HasItsHeaders c w a
+    → (n : ℕ) → IsWordOf (storage_of c a) n → pointed_cell c.pages w.pages (address_of n) ≡ Some (cell_of_storage (storage_of c a))
+word_points c w a limits st has n is = pointers_hit c w a limits st has (address_of n) ((address_points_into n (storage_of c a)).1 is)
+
+-- that of its base too.
+pub base_points : (c : Config) (w : Words) (a : PlacedAllocation) → IsWithinLimits c → StandsOnHeap c a → HasItsHeaders c w a
+    → pointed_cell c.pages w.pages (address_of a.base) ≡ Some (cell_of_storage (storage_of c a))
+base_points c w a limits st has =
+    let some = (words_within (object_placed c a) (typed_size c a limits st.typed)).0 in
+    word_points c w a limits st has a.base (omega arith, omega arith)
+
+-- A release releases it exactly where its cell is left unmarked.
+pub released_where_left : (c : Config) (w : Words) (a : PlacedAllocation) → IsWithinLimits c → StandsOnHeap c a → HasItsHeaders c w a
+    → (with_released c w a).released ≡ is_left_unmarked w (cell_of_storage (storage_of c a))
+released_where_left c w a limits st has =
+    ap (λ b. b || is_some_and (is_left_unmarked w) (pointed_cell c.pages w.pages (address_of a.base))) st.unreleased
+    ∙ ap (λ (x : Option Cell). is_some_and (is_left_unmarked w) x) (base_points c w a limits st has)

@@ -1,0 +1,126 @@
+-- Where the cell lies into which a value points.
+use Rattle.std.proofs.Common.{◌≡◌, ◌⊎◌, ℕ, ◌-◌, ◌*◌, ◌/◌, ◌<◌, ◌≤◌, Bool, true, false, refl, sym, ◌∙◌, ap, subst, inl, inr, arith, option_and_then}
+use Rattle.std.specs.Prelude.{Option, Some, None, nat_le, nat_lt, if◌then◌else◌}
+use Rattle.std.proofs.Math.Nat.{div-le_self, div-lt_iff_lt-mul}
+use Rattle.std.proofs.lemmas.Bool.{cases_eq, ltb-true}
+use Rattle.mk_geom.specs.declared.addresses.Cell.{Cell}
+use Rattle.mk_geom.specs.declared.headers.Header.{Header}
+use Rattle.mk_geom.specs.declared.headers.Header.TheVariants.{Free, Block, Run, Later, LeafBlock, LeafRun}
+use Rattle.mk_geom.specs.Addresses.{is_heap_address, page_at_address, word_at_address, cell_of_block, run_before, cell_under, cell_at}
+use Rattle.mk_geom.specs.Classes.{class_words_of, cells_of}
+use Rattle.mk_geom.specs.Headers.{header_of}
+use Rattle.mk_geom.proofs.CellsOnPages.{is_address}
+use Rattle.mk_core.specs.Words.{Words, header_at}
+use Rattle.mk_core.specs.Cells.{cells_under, head_behind, header_in, head_page, pointed_cell}
+
+-- It lies on the head page of the value's page, and is one of the 64 that a page has at most, and of those that the
+-- value's page has, if it has cells.
+pub record LiesUnder (h : Header) (page : ℕ) (cell : Cell) : Type 0 where
+  pub head : cell.page ≡ head_behind (Some h) page
+  pub small : cell.index < 64
+  pub known : (cells_under (Some h) ≡ 0) ⊎ (cell.index < cells_under (Some h))
+
+of_block : (class page word : ℕ) (cell : Cell) → cell_of_block class page word ≡ Some cell → (cell.page ≡ page) × (cell.index < 64) × (cell.index < cells_of class)
+of_block class page word cell is = by (nat_lt word (cells_of class * class_words_of class)) refl is
+  where
+    within : word < cells_of class * class_words_of class → word / class_words_of class < cells_of class
+    within lt = elim (cases_eq (class_words_of class) 0) [
+      | inl none ↦ let product : cells_of class * class_words_of class ≡ cells_of class * 0 = ap (λ n. cells_of class * n) none in absurd (omega arith)
+      | inr some ↦ (div-lt_iff_lt-mul {k = class_words_of class} {x = word} {y = cells_of class} (omega arith)).1 lt
+    ]
+
+    by : (b : Bool) → nat_lt word (cells_of class * class_words_of class) ≡ b
+        → (if b then Some (record { page = page; index = word / class_words_of class }) else None) ≡ Some cell
+        → (cell.page ≡ page) × (cell.index < 64) × (cell.index < cells_of class)
+    by true inside is =
+        let here : record { page = page; index = word / class_words_of class } ≡ cell = cc in
+        let known = within (ltb-true word (cells_of class * class_words_of class) inside) in
+        let most : cells_of class ≤ 64 = div-le_self 64 (class_words_of class) in
+        subst (λ (k : Cell). (k.page ≡ page) × (k.index < 64) × (k.index < cells_of class)) here (refl, omega arith, known)
+    by false outside is = cc
+
+of_run : (distance page : ℕ) (cell : Cell) → run_before distance page ≡ Some cell → (cell.page ≡ page - distance) × (cell.index ≡ 0)
+of_run distance page cell is = by (nat_le distance page) is
+  where
+    by : (b : Bool) → (if b then Some (record { page = page - distance; index = 0 }) else None) ≡ Some cell → (cell.page ≡ page - distance) × (cell.index ≡ 0)
+    by true is =
+        let here : record { page = page - distance; index = 0 } ≡ cell = cc in
+        subst (λ (k : Cell). (k.page ≡ page - distance) × (k.index ≡ 0)) here (refl, refl)
+    by false is = cc
+
+block_lies : (class page word : ℕ) (cell : Cell) → cell_of_block class page word ≡ Some cell → LiesUnder (Block class) page cell
+block_lies class page word cell is = let at = of_block class page word cell is in record { head = at.0; small = at.1; known = inr at.2 }
+
+pub lies_under : (h : Header) (page word : ℕ) (cell : Cell) → cell_under h page word ≡ Some cell → LiesUnder h page cell
+lies_under Free page word cell is = cc
+lies_under (Block class) page word cell is = block_lies class page word cell is
+lies_under (LeafBlock class) page word cell is =
+    let at = block_lies class page word cell is in
+    record { head = at.head; small = at.small; known = at.known }
+lies_under (Run pages mapped) page word cell is =
+    let at = of_run 0 page cell is in
+    let page_is = at.0 in
+    let index_is = at.1 in
+    record { head = omega arith; small = omega arith; known = inr (omega arith) }
+lies_under (LeafRun pages) page word cell is =
+    let at = of_run 0 page cell is in
+    let page_is = at.0 in
+    let index_is = at.1 in
+    record { head = omega arith; small = omega arith; known = inr (omega arith) }
+lies_under (Later distance mapped) page word cell is =
+    let at = of_run distance page cell is in
+    let index_is = at.1 in
+    record { head = at.0; small = omega arith; known = inl refl }
+
+-- The value is an address of a page of the heap that has a header, and the cell lies there.
+pub record PointsTo (count : ℕ) (w : Words) (value : ℕ) (cell : Cell) : Type 0 where
+  pub low : 65536 ≤ value
+  pub within : page_at_address value < count
+  pub header : Header
+  pub shown : header_in w (page_at_address value) ≡ Some header
+  pub lies : LiesUnder header (page_at_address value) cell
+
+found_under : (count header value : ℕ) (cell : Cell) → cell_at count header value ≡ Some cell
+    → (h : Header) × (header_of header ≡ Some h) × (cell_under h (page_at_address value) (word_at_address value) ≡ Some cell)
+found_under count header value cell is = by (is_heap_address count value) (header_of header) refl is
+  where
+    by : (b : Bool) (o : Option Header) → header_of header ≡ o
+        → (if b then option_and_then (λ h. cell_under h (page_at_address value) (word_at_address value)) o else None) ≡ Some cell
+        → (h : Header) × (header_of header ≡ Some h) × (cell_under h (page_at_address value) (word_at_address value) ≡ Some cell)
+    by true (Some h) at is = (h, at, is)
+    by true None at is = cc
+    by false o at is = cc
+
+pub points_to : (count : ℕ) (w : Words) (value : ℕ) (cell : Cell) → pointed_cell count w.pages value ≡ Some cell → PointsTo count w value cell
+unfolding pointed_cell
+points_to count w value cell is =
+    let address = is_address count (header_at w (page_at_address value)) value cell is in
+    let under = found_under count (header_at w (page_at_address value)) value cell is in
+    record {
+      low = address.0;
+      within = address.1;
+      header = under.0;
+      shown = under.1;
+      lies = lies_under under.0 (page_at_address value) (word_at_address value) cell under.2;
+    }
+
+pub pointed_head : (count : ℕ) (w : Words) (value : ℕ) (cell : Cell) → pointed_cell count w.pages value ≡ Some cell → cell.page ≡ head_page w (page_at_address value)
+pointed_head count w value cell is =
+    let to = points_to count w value cell is in
+    to.lies.head ∙ ap (λ (x : Option Header). head_behind x (page_at_address value)) (sym to.shown)
+
+pub pointed_within : (count : ℕ) (w : Words) (value : ℕ) (cell : Cell) → pointed_cell count w.pages value ≡ Some cell → (cell.page < count) × (cell.index < 64)
+pointed_within count w value cell is =
+    let to = points_to count w value cell is in
+    let near = not_behind to.header (page_at_address value) in
+    let head = to.lies.head in
+    let within = to.within in
+    (omega arith, to.lies.small)
+  where
+    not_behind : (h : Header) (page : ℕ) → head_behind (Some h) page ≤ page
+    not_behind Free page = omega arith
+    not_behind (Block class) page = omega arith
+    not_behind (LeafBlock class) page = omega arith
+    not_behind (Run pages mapped) page = omega arith
+    not_behind (LeafRun pages) page = omega arith
+    not_behind (Later distance mapped) page = omega arith

@@ -1,0 +1,86 @@
+-- What an access to a register or to a tally leaves alone.
+use Rattle.std.proofs.Common.{◌≡◌, ℕ, ◌<◌, true, refl}
+use Rattle.std.specs.Prelude.{◌&&◌, nat_lt}
+use Rattle.std.proofs.lemmas.Bool.{and_parts, ltb-true}
+use Rattle.mk_never.specs.declared.operations.Op.{Op}
+use Rattle.mk_core.specs.declared.config.Config.{Config}
+use Rattle.mk_core.specs.declared.events.Tally.{Tally}
+use Rattle.mk_core.specs.declared.events.Tally.TheVariants as tally
+use Rattle.mk_core.specs.declared.events.Word.TheVariants as word
+use Rattle.mk_core.specs.declared.accesses.TableWord.TheVariants.{Named}
+use Rattle.mk_core.specs.declared.accesses.Access.{Access}
+use Rattle.mk_core.specs.declared.accesses.Access.TheVariants.{Load, Store}
+use Rattle.mk_core.specs.declared.seats.Stage.{Stage}
+use Rattle.mk_core.specs.declared.seats.Stage.TheVariants as stage
+use Rattle.mk_core.specs.declared.seats.Flight.{Flight}
+use Rattle.mk_core.specs.Words.{Words, accessed}
+use Rattle.mk_core.specs.Calls.{has_operands, has_type, q_of, p_of, r_of, d_of, g_of}
+use Rattle.mk_core.specs.Accesses.{register_met, tally_word}
+
+-- all that the words have but the registers and the tallies
+pub record LeavesTable (w v : Words) : Type 0 where
+  pub phase : v.phase ≡ w.phase
+  pub turn : v.turn ≡ w.turn
+  pub gates : v.gates ≡ w.gates
+  pub globals : v.globals ≡ w.globals
+  pub pages : v.pages ≡ w.pages
+  pub freed : v.freed ≡ w.freed
+  pub snapshot : v.snapshot ≡ w.snapshot
+  pub marks : v.marks ≡ w.marks
+  pub blacks : v.blacks ≡ w.blacks
+  pub dirty : v.dirty ≡ w.dirty
+  pub heap : v.heap ≡ w.heap
+
+-- the tallies
+pub record LeavesTallies (w v : Words) : Type 0 where
+  pub held : v.held ≡ w.held
+  pub fresh : v.fresh ≡ w.fresh
+  pub cycles : v.cycles ≡ w.cycles
+  pub released : v.released ≡ w.released
+  pub full : v.full ≡ w.full
+
+-- An access to a register changes the registers alone,
+pub register_changes : (w : Words) (k r : ℕ) (a : Access)
+    → accessed w (Named (word.Reg k r)) a ≡ record w { registers = (accessed w (Named (word.Reg k r)) a).registers }
+register_changes w k r Load = refl
+register_changes w k r _ = refl
+
+pub register_leaves : (w : Words) (k r : ℕ) (a : Access) → LeavesTable w (accessed w (Named (word.Reg k r)) a)
+register_leaves w k r Load =
+    record { phase = refl; turn = refl; gates = refl; globals = refl; pages = refl; freed = refl; snapshot = refl; marks = refl; blacks = refl; dirty = refl; heap = refl }
+register_leaves w k r _ =
+    record { phase = refl; turn = refl; gates = refl; globals = refl; pages = refl; freed = refl; snapshot = refl; marks = refl; blacks = refl; dirty = refl; heap = refl }
+
+pub register_leaves_tallies : (w : Words) (k r : ℕ) (a : Access) → LeavesTallies w (accessed w (Named (word.Reg k r)) a)
+register_leaves_tallies w k r Load = record { held = refl; fresh = refl; cycles = refl; released = refl; full = refl }
+register_leaves_tallies w k r _ = record { held = refl; fresh = refl; cycles = refl; released = refl; full = refl }
+
+-- and one to a tally the tallies alone.
+pub tally_leaves : (w : Words) (n : Tally) (v : ℕ) → LeavesTable w (accessed w (Named (tally_word n)) (Store v))
+tally_leaves w tally.Held v =
+    record { phase = refl; turn = refl; gates = refl; globals = refl; pages = refl; freed = refl; snapshot = refl; marks = refl; blacks = refl; dirty = refl; heap = refl }
+tally_leaves w _ v =
+    record { phase = refl; turn = refl; gates = refl; globals = refl; pages = refl; freed = refl; snapshot = refl; marks = refl; blacks = refl; dirty = refl; heap = refl }
+
+pub tally_leaves_registers : (w : Words) (n : Tally) (v : ℕ) → (accessed w (Named (tally_word n)) (Store v)).registers ≡ w.registers
+tally_leaves_registers w tally.Held v = refl
+tally_leaves_registers w _ v = refl
+
+-- The register that a `reg` step meets is one of the eight.
+pub register_is_small : (c : Config) (f : Flight) (s : Stage) → has_operands c f.op ≡ true → register_met f s < 8
+register_is_small c f s h = by f s (parts c f.op h)
+  where
+    parts : (c : Config) (o : Op) → has_operands c o ≡ true → (q_of o < 8) × (p_of o < 8) × (r_of o < 8) × (d_of o < 8)
+    parts c o h =
+        let a = and_parts (nat_lt (q_of o) 8 && nat_lt (p_of o) 8 && nat_lt (r_of o) 8 && nat_lt (d_of o) 8 && nat_lt (g_of o) 64) (has_type c o) h in
+        let b = and_parts (nat_lt (q_of o) 8 && nat_lt (p_of o) 8 && nat_lt (r_of o) 8 && nat_lt (d_of o) 8) (nat_lt (g_of o) 64) a.0 in
+        let d = and_parts (nat_lt (q_of o) 8 && nat_lt (p_of o) 8 && nat_lt (r_of o) 8) (nat_lt (d_of o) 8) b.0 in
+        let r = and_parts (nat_lt (q_of o) 8 && nat_lt (p_of o) 8) (nat_lt (r_of o) 8) d.0 in
+        let p = and_parts (nat_lt (q_of o) 8) (nat_lt (p_of o) 8) r.0 in
+        (ltb-true (q_of o) 8 p.0, ltb-true (p_of o) 8 p.1, ltb-true (r_of o) 8 r.1, ltb-true (d_of o) 8 d.1)
+
+    by : (f : Flight) (s : Stage) → (q_of f.op < 8) × (p_of f.op < 8) × (r_of f.op < 8) × (d_of f.op < 8) → register_met f s < 8
+    by f stage.LoadQ h = h.0
+    by f stage.LoadP h = h.1
+    by f stage.LoadR h = h.2
+    by f _ h = h.3

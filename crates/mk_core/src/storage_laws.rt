@@ -1,0 +1,29 @@
+//! Laws of the storage of allocations: facts alone, with no code.
+ghost use Rattle.mk_core.specs.ObjectHeaders.{HeadersShowParts, PartsNameTheirHeads, FirstPartsHaveCells, LaterPartsHaveNone};
+ghost use Rattle.mk_core.specs.StandingAllocations.{StorageHoldsObjects, StandingHasStorage, HeadersShowStorage, PointersHitAllocations, CellsBeginAtBases, UnreleasedStorageIsOfAllocations, UnreleasedStorageInParts};
+
+/// The header words that the pages of an object get, mapped or not, show where it begins, its cells and
+/// their words, and whether they are scanned.
+pub fn headers_show_their_objects()
+    ensures parts { HeadersShowParts }
+    ensures heads { PartsNameTheirHeads }
+    ensures first { FirstPartsHaveCells }
+    ensures later { LaterPartsHaveNone }
+{}
+
+/// An allocation that stands on the heap has a storage there, which the headers of its pages show. An
+/// address in it points, by lookup, into its cell, which begins at its base and has its words.
+pub fn an_allocation_has_its_cell()
+    ensures words { StorageHoldsObjects }
+    ensures storage { StandingHasStorage }
+    ensures headers { HeadersShowStorage }
+    ensures pointers { PointersHitAllocations }
+    ensures cells { CellsBeginAtBases }
+{}
+
+/// The unreleased storage is that of the unreleased allocations, and that of a list in two parts is that
+/// of its parts.
+pub fn unreleased_storage_is_of_allocations()
+    ensures contains { UnreleasedStorageIsOfAllocations }
+    ensures parts { UnreleasedStorageInParts }
+{}
