@@ -9,7 +9,8 @@ use Rattle.mk_geom.specs.Storages.{block_header, run_header}
 use Rattle.mk_geom.specs.Classes.{run_pages_of}
 use Rattle.mk_geom.proofs.HeaderLemmas.{header_of-word_of}
 use Rattle.mk_core.specs.declared.seats.Object.{Object}
-use Rattle.mk_core.specs.Cells.{cells_under, words_under, head_behind, heads_run, is_unmapped_header, has_no_pointers}
+use Rattle.mk_geom.specs.Addresses.{head_page_under}
+use Rattle.mk_core.specs.Cells.{cells_under, words_under, heads_run, is_unmapped_header, has_no_pointers}
 use Rattle.mk_core.specs.NewPlaces.{is_small_object, class_made, pages_made, header_made, unmapped_header}
 use Rattle.mk_core.specs.ObjectHeaders.{IsSized, cells_made, words_made, ShowsPart, OfBlock, OfLeafBlock, OfRun, OfLeafRun, OfLater, IsHeaderOf, FirstPartsHaveCells}
 use Rattle.mk_core.proofs.Sizes.{small_cells, large_cells, small_pages, large_pages, small_words, large_words, class_known, large_count}
@@ -67,7 +68,7 @@ header_shows o distance header sized lt (inr unmapped) =
     subst (λ h. ShowsPart o distance (header_of h)) (sym unmapped.1) (unmapped_shows o distance sized lt unmapped.0)
 
 -- What shows a part names its head,
-pub part_head : (o : Object) (distance page : ℕ) (x : Option Header) → ShowsPart o distance x → head_behind x (page + distance) ≡ page
+pub part_head : (o : Object) (distance page : ℕ) (x : Option Header) → ShowsPart o distance x → head_page_under x (page + distance) ≡ page
 part_head o distance page x (OfBlock first small leaf) = omega arith
 part_head o distance page x (OfLeafBlock first small leaf) = omega arith
 part_head o distance page x (OfRun mapped first large leaf) = omega arith

@@ -1,22 +1,22 @@
 -- Where the cell lies into which a value points.
-use Rattle.std.proofs.Common.{◌≡◌, ◌⊎◌, ℕ, ◌-◌, ◌*◌, ◌/◌, ◌<◌, ◌≤◌, Bool, true, false, refl, sym, ◌∙◌, ap, subst, inl, inr, arith, option_and_then}
+use Rattle.std.proofs.Common.{◌≡◌, ◌⊎◌, ℕ, ◌*◌, ◌/◌, ◌<◌, ◌≤◌, Bool, true, false, refl, sym, ◌∙◌, ap, subst, inl, inr, arith, option_and_then}
 use Rattle.std.specs.Prelude.{Option, Some, None, nat_le, nat_lt, if◌then◌else◌}
 use Rattle.std.proofs.Math.Nat.{div-le_self, div-lt_iff_lt-mul}
 use Rattle.std.proofs.lemmas.Bool.{cases_eq, ltb-true}
 use Rattle.mk_geom.specs.declared.addresses.Cell.{Cell}
 use Rattle.mk_geom.specs.declared.headers.Header.{Header}
 use Rattle.mk_geom.specs.declared.headers.Header.TheVariants.{Free, Block, Run, Later, LeafBlock, LeafRun}
-use Rattle.mk_geom.specs.Addresses.{is_heap_address, page_at_address, word_at_address, cell_of_block, run_before, cell_under, cell_at}
+use Rattle.mk_geom.specs.Addresses.{is_heap_address, page_at_address, word_at_address, cell_of_block, head_page_under, run_of_page, cell_under, cell_at}
 use Rattle.mk_geom.specs.Classes.{class_words_of, cells_of}
 use Rattle.mk_geom.specs.Headers.{header_of}
 use Rattle.mk_geom.proofs.CellsOnPages.{is_address}
 use Rattle.mk_core.specs.Words.{Words, header_at}
-use Rattle.mk_core.specs.Cells.{cells_under, head_behind, header_in, head_page, pointed_cell}
+use Rattle.mk_core.specs.Cells.{cells_under, header_in, head_page, pointed_cell}
 
 -- It lies on the head page of the value's page, and is one of the 64 that a page has at most, and of those that the
 -- value's page has, if it has cells.
 pub record LiesUnder (h : Header) (page : ℕ) (cell : Cell) : Type 0 where
-  pub head : cell.page ≡ head_behind (Some h) page
+  pub head : cell.page ≡ head_page_under (Some h) page
   pub small : cell.index < 64
   pub known : (cells_under (Some h) ≡ 0) ⊎ (cell.index < cells_under (Some h))
 
@@ -39,14 +39,16 @@ of_block class page word cell is = by (nat_lt word (cells_of class * class_words
         subst (λ (k : Cell). (k.page ≡ page) × (k.index < 64) × (k.index < cells_of class)) here (refl, omega arith, known)
     by false outside is = cc
 
-of_run : (distance page : ℕ) (cell : Cell) → run_before distance page ≡ Some cell → (cell.page ≡ page - distance) × (cell.index ≡ 0)
-of_run distance page cell is = by (nat_le distance page) is
-  where
-    by : (b : Bool) → (if b then Some (record { page = page - distance; index = 0 }) else None) ≡ Some cell → (cell.page ≡ page - distance) × (cell.index ≡ 0)
-    by true is =
-        let here : record { page = page - distance; index = 0 } ≡ cell = cc in
-        subst (λ (k : Cell). (k.page ≡ page - distance) × (k.index ≡ 0)) here (refl, refl)
-    by false is = cc
+-- the run of a page lies at its head page, as cell 0
+abbrev IsRunOf : Header → ℕ → Cell → Type 0
+IsRunOf h page cell = (cell.page ≡ head_page_under (Some h) page) × (cell.index ≡ 0)
+
+of_run : (h : Header) (page : ℕ) (cell : Cell) → Some (run_of_page h page) ≡ Some cell → IsRunOf h page cell
+of_run h page cell is = let here : run_of_page h page ≡ cell = cc in subst (λ (k : Cell). IsRunOf h page k) here (refl, refl)
+
+of_later_page : (b : Bool) (h : Header) (page : ℕ) (cell : Cell) → (if b then Some (run_of_page h page) else None) ≡ Some cell → IsRunOf h page cell
+of_later_page true h page cell is = of_run h page cell is
+of_later_page false h page cell is = cc
 
 block_lies : (class page word : ℕ) (cell : Cell) → cell_of_block class page word ≡ Some cell → LiesUnder (Block class) page cell
 block_lies class page word cell is = let at = of_block class page word cell is in record { head = at.0; small = at.1; known = inr at.2 }
@@ -58,17 +60,15 @@ lies_under (LeafBlock class) page word cell is =
     let at = block_lies class page word cell is in
     record { head = at.head; small = at.small; known = at.known }
 lies_under (Run pages mapped) page word cell is =
-    let at = of_run 0 page cell is in
-    let page_is = at.0 in
+    let at = of_run (Run pages mapped) page cell is in
     let index_is = at.1 in
-    record { head = omega arith; small = omega arith; known = inr (omega arith) }
+    record { head = at.0; small = omega arith; known = inr (omega arith) }
 lies_under (LeafRun pages) page word cell is =
-    let at = of_run 0 page cell is in
-    let page_is = at.0 in
+    let at = of_run (LeafRun pages) page cell is in
     let index_is = at.1 in
-    record { head = omega arith; small = omega arith; known = inr (omega arith) }
+    record { head = at.0; small = omega arith; known = inr (omega arith) }
 lies_under (Later distance mapped) page word cell is =
-    let at = of_run distance page cell is in
+    let at = of_later_page (nat_le distance page) (Later distance mapped) page cell is in
     let index_is = at.1 in
     record { head = at.0; small = omega arith; known = inl refl }
 
@@ -107,7 +107,7 @@ points_to count w value cell is =
 pub pointed_head : (count : ℕ) (w : Words) (value : ℕ) (cell : Cell) → pointed_cell count w.pages value ≡ Some cell → cell.page ≡ head_page w (page_at_address value)
 pointed_head count w value cell is =
     let to = points_to count w value cell is in
-    to.lies.head ∙ ap (λ (x : Option Header). head_behind x (page_at_address value)) (sym to.shown)
+    to.lies.head ∙ ap (λ (x : Option Header). head_page_under x (page_at_address value)) (sym to.shown)
 
 pub pointed_within : (count : ℕ) (w : Words) (value : ℕ) (cell : Cell) → pointed_cell count w.pages value ≡ Some cell → (cell.page < count) × (cell.index < 64)
 pointed_within count w value cell is =
@@ -117,7 +117,7 @@ pointed_within count w value cell is =
     let within = to.within in
     (omega arith, to.lies.small)
   where
-    not_behind : (h : Header) (page : ℕ) → head_behind (Some h) page ≤ page
+    not_behind : (h : Header) (page : ℕ) → head_page_under (Some h) page ≤ page
     not_behind Free page = omega arith
     not_behind (Block class) page = omega arith
     not_behind (LeafBlock class) page = omega arith

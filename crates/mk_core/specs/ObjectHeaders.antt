@@ -6,7 +6,8 @@ use Rattle.mk_geom.specs.Classes.{class_words_of, cells_of}
 use Rattle.mk_geom.specs.Headers.{header_of}
 use Rattle.mk_core.specs.declared.seats.Object.{Object}
 use Rattle.mk_core.specs.Config.{IsBetween}
-use Rattle.mk_core.specs.Cells.{cells_under, words_under, head_behind, is_unmapped_header, has_no_pointers}
+use Rattle.mk_geom.specs.Addresses.{head_page_under}
+use Rattle.mk_core.specs.Cells.{cells_under, words_under, is_unmapped_header, has_no_pointers}
 use Rattle.mk_core.specs.NewPlaces.{is_small_object, class_made, pages_made, header_made, unmapped_header}
 
 -- The object has as many words as a type may have.
@@ -43,7 +44,7 @@ HeadersShowParts =
 
 -- What shows a page of an object names its first page,
 abbrev pub PartsNameTheirHeads : Type 0
-PartsNameTheirHeads = (o : Object) (distance page : ℕ) (x : Option Header) → ShowsPart o distance x → head_behind x (page + distance) ≡ page
+PartsNameTheirHeads = (o : Object) (distance page : ℕ) (x : Option Header) → ShowsPart o distance x → head_page_under x (page + distance) ≡ page
 
 -- where the object has its cells, their words, and whether they are scanned;
 abbrev pub FirstPartsHaveCells : Type 0
