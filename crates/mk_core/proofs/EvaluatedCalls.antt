@@ -28,6 +28,18 @@ pub held_no_longer : is_gate_held one_page 0 freed_after_begin ≡ false
 unfolding by c0 host all_below pointed_cell one_page freed_after_begin is_gate_held_from
 held_no_longer = refl
 
+-- A `hold` of a caller that is in a call finds its gate taken, and holds nothing.
+unfoldable pub hold_in_vain : List Event
+hold_in_vain = take 23 freed_after_begin ++ by host (step.Take None ∷ step.Hold 0 ∷ [])
+
+pub no_fault_in_vain : first_fault one_page hold_in_vain ≡ None
+unfolding first_fault fault by c0 host all_below pointed_cell one_page freed_after_begin hold_in_vain
+no_fault_in_vain = refl
+
+pub held_by_nobody : is_gate_held one_page 0 hold_in_vain ≡ false
+unfolding by c0 host all_below pointed_cell one_page freed_after_begin hold_in_vain is_gate_held_from
+held_by_nobody = refl
+
 -- The marker scans the first object while the caller loads the pointer in the second.
 unfoldable pub before_the_load : List Event
 before_the_load = take 41 blackened_before_the_move

@@ -1,11 +1,14 @@
 -- Each of the schedules is a history.
-use Rattle.std.proofs.Common.{◌≡◌, ℕ, ◌+◌, ◌<◌, arith, Bool, true, false, ◌==◌, if◌then◌else◌, eqb-true, List, [], ◌∷◌, ◌++◌, replicate, drop, Option, Some, None, refl}
+use Rattle.std.proofs.Common.{◌≡◌, ℕ, ◌+◌, ◌<◌, ◌≤◌, le_refl, arith, Bool, true, false, ◌==◌, if◌then◌else◌, eqb-true, refl}
+use Rattle.std.proofs.Common.{List, [], ◌∷◌, ◌++◌, length, replicate, drop, Option, Some, None}
+use Rattle.std.proofs.lemmas.List.{length-replicate}
 use Rattle.std.proofs.lemmas.List.Elements.{All-nil, All-cons, All-replicate}
 use Rattle.std.specs.Prelude.{All}
+use Rattle.mk_never.specs.declared.types.Kind.{Kind}
 use Rattle.mk_never.specs.declared.types.Kind.TheVariants.{Num, To}
 use Rattle.mk_core.specs.declared.config.Config.{Config}
 use Rattle.mk_core.specs.declared.events.Event.{Event}
-use Rattle.mk_core.specs.Config.{IsWithinLimits, IsAmong, IsTypeAmong}
+use Rattle.mk_core.specs.Config.{IsBetween, IsWithinLimits, IsAmong, IsTypeAmong}
 use Rattle.mk_core.specs.Enabled.{failing}
 use Rattle.mk_core.specs.History.{left_from, calls_from, World, first_world, world_behind, AreEnabledFrom, AreEnabled, IsHistory, CallsAreAdmitted}
 use Rattle.mk_core.specs.Bounded.{all_below}
@@ -35,39 +38,42 @@ pub enabled : (c : Config) (es : List Event) → first_fault c es ≡ None → A
 unfolding first_fault
 enabled c es h = enabled_from c 0 (first_world c) es h
 
--- the limits, of which each number and each type is to be looked at
+-- Heaps of a few pages, all of them resident, are within limits where their types are.
+
+pub small_limits : (pages callers : ℕ) (types : List (List Kind)) → IsBetween 1 3 pages → IsBetween 1 2 callers → length types ≤ 2
+    → All (IsTypeAmong types) types
+    → IsWithinLimits (record { pages = pages; resident = pages; callers = callers; markers = 0; types = types; globals = [] })
+small_limits pages callers types few_pages few_callers few_types among =
+    record {
+      pages = (few_pages.0, omega (arith, few_pages.1));
+      resident = (few_pages.0, le_refl pages);
+      callers = (few_callers.0, omega (arith, few_callers.1));
+      markers = omega arith;
+      type_count = omega (arith, few_types);
+      global_count = omega arith;
+      types = among;
+      globals = All-nil (λ (ty : ℕ). ty < length types);
+    }
+
+pub numbers : (types : List (List Kind)) (words : ℕ) → IsBetween 1 4096 words → IsTypeAmong types (replicate words Num)
+numbers types words within = (rw (length-replicate words Num) within, All-replicate (IsAmong types) words Num tt)
+
+pub one_type : (types : List (List Kind)) (kinds : List Kind) → IsTypeAmong types kinds → All (IsTypeAmong types) (kinds ∷ [])
+one_type types kinds h = All-cons (IsTypeAmong types) kinds [] h (All-nil (IsTypeAmong types))
 
 one_page_limits : IsWithinLimits one_page
 unfolding one_page
 one_page_limits =
-    record {
-      pages = (omega arith, omega arith);
-      resident = (omega arith, omega arith);
-      callers = (omega arith, omega arith);
-      markers = omega arith;
-      type_count = omega arith;
-      global_count = omega arith;
-      types = All-cons (IsTypeAmong one_page.types) (replicate 32 Num) []
-          ((omega arith, omega arith), All-replicate (IsAmong one_page.types) 32 Num tt) (All-nil (IsTypeAmong one_page.types));
-      globals = All-nil (λ (ty : ℕ). ty < 1);
-    }
+    small_limits 1 1 one_page.types (omega arith, omega arith) (omega arith, omega arith) (omega arith)
+    (one_type one_page.types (replicate 32 Num) (numbers one_page.types 32 (omega arith, omega arith)))
 
 two_pages_limits : IsWithinLimits two_pages
 unfolding two_pages
 two_pages_limits =
-    record {
-      pages = (omega arith, omega arith);
-      resident = (omega arith, omega arith);
-      callers = (omega arith, omega arith);
-      markers = omega arith;
-      type_count = omega arith;
-      global_count = omega arith;
-      types = All-cons (IsTypeAmong two_pages.types) (replicate 2 Num) (replicate 6 Num ∷ [])
-          ((omega arith, omega arith), All-replicate (IsAmong two_pages.types) 2 Num tt)
-          (All-cons (IsTypeAmong two_pages.types) (replicate 6 Num) []
-          ((omega arith, omega arith), All-replicate (IsAmong two_pages.types) 6 Num tt) (All-nil (IsTypeAmong two_pages.types)));
-      globals = All-nil (λ (ty : ℕ). ty < 2);
-    }
+    small_limits 2 1 two_pages.types (omega arith, omega arith) (omega arith, omega arith) (omega arith)
+    (All-cons (IsTypeAmong two_pages.types) (replicate 2 Num) (replicate 6 Num ∷ [])
+    (numbers two_pages.types 2 (omega arith, omega arith))
+    (one_type two_pages.types (replicate 6 Num) (numbers two_pages.types 6 (omega arith, omega arith))))
 
 pointer_and_number : All (IsAmong pointer_page.types) (To 0 0 ∷ Num ∷ [])
 unfolding pointer_page
@@ -78,17 +84,8 @@ pointer_and_number =
 pointer_page_limits : IsWithinLimits pointer_page
 unfolding pointer_page
 pointer_page_limits =
-    record {
-      pages = (omega arith, omega arith);
-      resident = (omega arith, omega arith);
-      callers = (omega arith, omega arith);
-      markers = omega arith;
-      type_count = omega arith;
-      global_count = omega arith;
-      types = All-cons (IsTypeAmong pointer_page.types) (To 0 0 ∷ Num ∷ []) []
-          ((omega arith, omega arith), pointer_and_number) (All-nil (IsTypeAmong pointer_page.types));
-      globals = All-nil (λ (ty : ℕ). ty < 1);
-    }
+    small_limits 1 1 pointer_page.types (omega arith, omega arith) (omega arith, omega arith) (omega arith)
+    (one_type pointer_page.types (To 0 0 ∷ Num ∷ []) ((omega arith, omega arith), pointer_and_number))
 
 freed_is_admitted : CallsAreAdmitted one_page freed_after_begin
 unfolding by c0 host all_below pointed_cell one_page freed_after_begin left_from calls_from

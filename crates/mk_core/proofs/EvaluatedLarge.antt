@@ -1,7 +1,6 @@
 -- The schedule of a large object, evaluated: answers, counts, places and what is due.
-use Rattle.std.proofs.Common.{◌≡◌, ℕ, ◌<◌, arith, true, false, List, [], ◌∷◌, replicate, take, Some, refl, ap}
+use Rattle.std.proofs.Common.{◌≡◌, ◌<◌, arith, true, false, List, [], ◌∷◌, replicate, take, Some, refl, ap}
 use Rattle.std.proofs.lemmas.Bool.{false≢true}
-use Rattle.std.proofs.lemmas.List.Elements.{All-nil, All-cons, All-replicate}
 use Rattle.mk_never.specs.declared.types.Kind.TheVariants.{Num}
 use Rattle.mk_never.specs.declared.operations.Op.TheVariants as op
 use Rattle.mk_core.specs.declared.events.Answer.TheVariants as answer
@@ -9,7 +8,7 @@ use Rattle.mk_core.specs.declared.events.Step.TheVariants as step
 use Rattle.mk_core.specs.declared.events.Event.{Event}
 use Rattle.mk_core.specs.Bounded.{all_below}
 use Rattle.mk_core.specs.Cells.{pointed_cell}
-use Rattle.mk_core.specs.Config.{IsWithinLimits, IsAmong, IsTypeAmong}
+use Rattle.mk_core.specs.Config.{IsWithinLimits}
 use Rattle.mk_core.specs.Allocations.{unreleased_storage, held_words, fresh_words_of, place_among_allocations, FitsAmongAllocations}
 use Rattle.mk_core.specs.Decided.{answered}
 use Rattle.mk_core.specs.History.{left_from, left, calls_from, calls, CallsAreAdmitted, IsHistory, RefinesNever}
@@ -19,22 +18,13 @@ use Rattle.mk_core.specs.Placement.{NoneServesFrom, StandsAtItsPlace}
 use Rattle.mk_core.proofs.EventsAt.{◌and◌, events_from, event_number, turn_number, AtEach, Also, at_each}
 use Rattle.mk_core.proofs.Schedules.{by, c0}
 use Rattle.mk_core.proofs.LargeSchedule.{three_pages, large_freed, no_fault_large}
-use Rattle.mk_core.proofs.EvaluatedHistories.{enabled}
+use Rattle.mk_core.proofs.EvaluatedHistories.{enabled, small_limits, numbers, one_type}
 
 three_pages_limits : IsWithinLimits three_pages
 unfolding three_pages
 three_pages_limits =
-    record {
-      pages = (omega arith, omega arith);
-      resident = (omega arith, omega arith);
-      callers = (omega arith, omega arith);
-      markers = omega arith;
-      type_count = omega arith;
-      global_count = omega arith;
-      types = All-cons (IsTypeAmong three_pages.types) (replicate 65 Num) []
-          ((omega arith, omega arith), All-replicate (IsAmong three_pages.types) 65 Num tt) (All-nil (IsTypeAmong three_pages.types));
-      globals = All-nil (λ (ty : ℕ). ty < 1);
-    }
+    small_limits 3 2 three_pages.types (omega arith, omega arith) (omega arith, omega arith) (omega arith)
+    (one_type three_pages.types (replicate 65 Num) (numbers three_pages.types 65 (omega arith, omega arith)))
 
 large_is_admitted : CallsAreAdmitted three_pages large_freed
 unfolding by c0 all_below pointed_cell three_pages large_freed left_from calls_from

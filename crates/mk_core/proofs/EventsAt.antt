@@ -58,13 +58,9 @@ unfolding Also
 also_second true A B k = k.1
 also_second false A B k = k
 
-tail_of : List Event → List Event
-tail_of [] = []
-tail_of (e ∷ es) = es
-
 pub at_each : (kind : Step → Bool) (P : List Event → Event → Type 0) (done es : List Event) → AtEach kind P done es
     → (before : List Event) (e : Event) (behind : List Event) → es ≡ before ++ e ∷ behind → kind e.step ≡ true → P (done ++ before) e
-unfolding AtEach tail_of
+unfolding AtEach
 at_each kind P done [] h [] e behind is k = cc
 at_each kind P done [] h (x ∷ before) e behind is k = cc
 at_each kind P done (y ∷ es) h [] e behind is k =
