@@ -23,7 +23,8 @@ use Rattle.mk_core.specs.History.{World}
 use Rattle.mk_core.specs.Readings.{IsTaken}
 use Rattle.mk_core.specs.StandingAllocations.{object_placed, StandsOnHeap, HasItsHeaders}
 use Rattle.mk_core.proofs.Sizes.{words_within}
-use Rattle.mk_core.proofs.StandingAllocations.{typed_size, standing_has_storage, headers_show_storage, pointers_hit, cells_begin, stands_in_no_other}
+use Rattle.mk_core.proofs.StandingAllocations.{typed_size, standing_has_storage, headers_show_storage, pointers_hit, cells_begin}
+use Rattle.mk_core.proofs.CellsOfAllocations.{stands_in_no_other}
 
 -- a word of a block is in the cell that it points into
 block_index : (class page word : ℕ) (cell : Cell) → cell_of_block class page word ≡ Some cell → word / class_words_of class ≡ cell.index
