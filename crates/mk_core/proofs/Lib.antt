@@ -2,6 +2,7 @@ pub mod AllBelow
 pub mod AllBelowParts
 pub mod Bits
 pub mod BitsWithout
+pub mod CellsOfAllocations
 pub mod ChangedAllocations
 pub mod Conditions
 pub mod EvaluatedAnswers

@@ -1,5 +1,5 @@
 -- Which allocation a value points into, and what a release makes of one.
-use Rattle.std.proofs.Common.{◌≡◌, ℕ, ◌*◌, ◌/◌, ◌%◌, Bool, true, false, sym, ◌∙◌, ap, inl, inr, arith}
+use Rattle.std.proofs.Common.{◌≡◌, ℕ, ◌+◌, ◌*◌, ◌/◌, ◌%◌, ◌<◌, Bool, true, false, sym, ◌∙◌, ap, inl, inr, arith}
 use Rattle.std.specs.Prelude.{◌||◌, Option, Some, None, nat_lt, if◌then◌else◌}
 use Rattle.std.proofs.Math.Nat.{div-mul-le_self, lt-div-mul-add}
 use Rattle.std.proofs.lemmas.Bool.{cases_Bool}
@@ -14,12 +14,17 @@ use Rattle.mk_geom.proofs.CellsOnPages.{is_address}
 use Rattle.mk_core.specs.declared.config.Config.{Config}
 use Rattle.mk_core.specs.Config.{IsWithinLimits}
 use Rattle.mk_core.specs.Words.{Words, header_at}
-use Rattle.mk_core.specs.Bounded.{is_some_and}
-use Rattle.mk_core.specs.Cells.{pointed_cell, is_left_unmarked}
-use Rattle.mk_core.specs.Allocations.{PlacedAllocation, storage_of, with_released}
+use Rattle.mk_core.specs.Bounded.{is_some_and, is_none_or}
+use Rattle.mk_core.specs.Cells.{pointed_cell, first_word, cell_words, is_marked, is_left_unmarked, points_well}
+use Rattle.mk_core.specs.ObjectHeaders.{IsSized}
+use Rattle.mk_core.specs.Allocations.{PlacedAllocation, placed_at, storage_of, with_released}
+use Rattle.mk_core.specs.ClosedMarks.{is_marked_allocation}
+use Rattle.mk_core.specs.History.{World}
+use Rattle.mk_core.specs.Readings.{IsTaken}
 use Rattle.mk_core.specs.StandingAllocations.{object_placed, StandsOnHeap, HasItsHeaders}
 use Rattle.mk_core.proofs.Sizes.{words_within}
-use Rattle.mk_core.proofs.StandingAllocations.{typed_size, standing_has_storage, headers_show_storage, pointers_hit}
+use Rattle.mk_core.proofs.StandingAllocations.{typed_size, standing_has_storage, headers_show_storage, pointers_hit, cells_begin}
+use Rattle.mk_core.proofs.CellsOfAllocations.{stands_in_no_other}
 
 -- a word of a block is in the cell that it points into
 block_index : (class page word : ℕ) (cell : Cell) → cell_of_block class page word ≡ Some cell → word / class_words_of class ≡ cell.index
@@ -83,3 +88,27 @@ pub released_where_left : (c : Config) (w : Words) (a : PlacedAllocation) → Is
 released_where_left c w a limits st has =
     ap (λ b. b || is_some_and (is_left_unmarked w) (pointed_cell c.pages w.pages (address_of a.base))) st.unreleased
     ∙ ap (λ (x : Option Cell). is_some_and (is_left_unmarked w) x) (base_points c w a limits st has)
+
+-- It is marked where its cell is, and what points into it points well there.
+pub marked_where_its_cell_is : (c : Config) (w : Words) (a : PlacedAllocation) → IsWithinLimits c → StandsOnHeap c a → HasItsHeaders c w a
+    → is_marked_allocation c w a ≡ is_marked w (cell_of_storage (storage_of c a))
+marked_where_its_cell_is c w a limits st has = ap (λ (x : Option Cell). is_some_and (is_marked w) x) (base_points c w a limits st has)
+
+pub points_well_where_marked : (c : Config) (w : Words) (a : PlacedAllocation) → IsWithinLimits c → StandsOnHeap c a → HasItsHeaders c w a
+    → (u : ℕ) → PointsInto u (storage_of c a) → points_well c.pages w u ≡ is_marked w (cell_of_storage (storage_of c a))
+points_well_where_marked c w a limits st has u into = ap (λ (x : Option Cell). is_none_or (is_marked w) x) (pointers_hit c w a limits st has u into)
+
+-- The words of its cell are its own.
+pub cell_word_is_its_own : (c : Config) (w : Words) (a : PlacedAllocation) → IsWithinLimits c → StandsOnHeap c a → HasItsHeaders c w a
+    → (i : ℕ) → i < cell_words w (cell_of_storage (storage_of c a)) → IsWordOf (storage_of c a) (first_word w (cell_of_storage (storage_of c a)) + i)
+cell_word_is_its_own c w a limits st has i lt =
+    let cells = cells_begin c w a limits st has in
+    let first = cells.0 in
+    let words = cells.1 in
+    (omega arith, omega arith)
+
+-- A cell that is taken is that of the allocation that stands in it.
+pub taken_cell_is : (c : Config) (w : World) (cell : Cell) (taken : IsTaken w cell) → IsSized (object_placed c (placed_at w.allocations taken.number))
+    → HasItsHeaders c w.now.words (placed_at w.allocations taken.number)
+    → ((placed_at w.allocations taken.number).released ≡ false) × (cell_of_storage (storage_of c (placed_at w.allocations taken.number)) ≡ cell)
+taken_cell_is c w cell taken sized has = stands_in_no_other c w.now.words (placed_at w.allocations taken.number) cell sized has taken.in_range taken.stands

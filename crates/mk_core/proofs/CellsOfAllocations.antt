@@ -1,0 +1,71 @@
+-- The cell in which an allocation stands.
+use Rattle.std.proofs.Common.{◌≡◌, ℕ, ◌*◌, ◌/◌, ◌<◌, true, false, sym, ◌∙◌, ap, inl, inr, arith}
+use Rattle.std.specs.Prelude.{not, ◌==◌, Option, Some, None}
+use Rattle.std.proofs.lemmas.Bool.{not-true, cases_eq, and_parts, and_from, eqb-true, eq-eqb}
+use Rattle.mk_geom.specs.declared.addresses.Cell.{Cell}
+use Rattle.mk_geom.specs.declared.headers.Header.{Header}
+use Rattle.mk_geom.specs.declared.headers.Header.TheVariants.{Free, Block, LeafBlock, Run, LeafRun, Later}
+use Rattle.mk_geom.specs.Classes.{class_words_of, cells_of}
+use Rattle.mk_geom.specs.StorageWords.{cell_of_storage}
+use Rattle.mk_geom.proofs.ClassTable.{cell_ends}
+use Rattle.mk_core.specs.declared.config.Config.{Config}
+use Rattle.mk_core.specs.Config.{IsWithinLimits}
+use Rattle.mk_core.specs.Words.{Words}
+use Rattle.mk_core.specs.Cells.{first_word, header_in, cells_under, words_under}
+use Rattle.mk_core.specs.ObjectHeaders.{IsSized, cells_made, words_made}
+use Rattle.mk_core.specs.Allocations.{PlacedAllocation, storage_of, stands_in}
+use Rattle.mk_core.specs.StandingAllocations.{object_placed, BeginsAtCell, StandsOnHeap, HasItsHeaders}
+use Rattle.mk_core.proofs.ObjectHeaders.{part_cells, part_words}
+use Rattle.mk_core.proofs.StandingAllocations.{placed_cell, first_page_shows, cells_begin}
+
+-- The first word of a cell lies on its page.
+block_on_page : (class index : ℕ) → index < cells_of class → index * class_words_of class < 64
+block_on_page class index known =
+    let ends = cell_ends index (class_words_of class) known in
+    elim (cases_eq (class_words_of class) 0) [
+      | inl none ↦ let product : index * class_words_of class ≡ index * 0 = ap (λ n. index * n) none in omega arith
+      | inr some ↦ omega arith
+    ]
+
+run_on_page : (words index : ℕ) → index < 1 → index * words < 64
+run_on_page words index known =
+    let first : index ≡ 0 = omega arith in
+    let product : index * words ≡ 0 * words = ap (λ n. n * words) first in
+    omega arith
+
+cell_on_page : (x : Option Header) (index : ℕ) → index < cells_under x → index * words_under x < 64
+cell_on_page None index known = absurd (omega arith)
+cell_on_page (Some Free) index known = absurd (omega arith)
+cell_on_page (Some (Block class)) index known = block_on_page class index known
+cell_on_page (Some (LeafBlock class)) index known = block_on_page class index known
+cell_on_page (Some (Run count mapped)) index known = run_on_page (64 * count) index known
+cell_on_page (Some (LeafRun count)) index known = run_on_page (64 * count) index known
+cell_on_page (Some (Later distance mapped)) index known = absurd (omega arith)
+
+-- A cell that begins at the base of an allocation is its cell.
+pub cell_from_base : (c : Config) (w : Words) (a : PlacedAllocation) (cell : Cell) → IsSized (object_placed c a) → HasItsHeaders c w a
+    → cell.index < cells_under (header_in w cell.page) → first_word w cell ≡ a.base → cell_of_storage (storage_of c a) ≡ cell
+cell_from_base c w a cell sized has known first =
+    let on_page = cell_on_page (header_in w cell.page) cell.index known in
+    let page : a.base / 64 ≡ cell.page = omega arith in
+    let part = first_page_shows c w a sized has in
+    let cells : cells_under (header_in w cell.page) ≡ cells_made (object_placed c a) =
+    ap (λ p. cells_under (header_in w p)) (sym page) ∙ part_cells (object_placed c a) _ part in
+    let words : words_under (header_in w cell.page) ≡ words_made (object_placed c a) =
+    ap (λ p. words_under (header_in w p)) (sym page) ∙ part_words (object_placed c a) _ part in
+    let product : cell.index * words_under (header_in w cell.page) ≡ cell.index * words_made (object_placed c a) = ap (λ n. cell.index * n) words in
+    let b : BeginsAtCell (object_placed c a) a.base = record { index = cell.index; known = omega arith; first = omega arith } in
+    placed_cell c a sized b ∙ ap (λ (p : ℕ). record { page = p; index = cell.index }) page
+
+-- So it is the one cell in which the allocation stands.
+pub stands_in_its_cell : (c : Config) (w : Words) (a : PlacedAllocation) → IsWithinLimits c → StandsOnHeap c a → HasItsHeaders c w a
+    → stands_in w (cell_of_storage (storage_of c a)) a ≡ true
+stands_in_its_cell c w a limits st has =
+    and_from (not a.released) (a.base == first_word w (cell_of_storage (storage_of c a))) (ap not st.unreleased)
+    (eq-eqb a.base (first_word w (cell_of_storage (storage_of c a))) (sym (cells_begin c w a limits st has).0))
+
+pub stands_in_no_other : (c : Config) (w : Words) (a : PlacedAllocation) (cell : Cell) → IsSized (object_placed c a) → HasItsHeaders c w a
+    → cell.index < cells_under (header_in w cell.page) → stands_in w cell a ≡ true → (a.released ≡ false) × (cell_of_storage (storage_of c a) ≡ cell)
+stands_in_no_other c w a cell sized has known h =
+    let parts = and_parts (not a.released) (a.base == first_word w cell) h in
+    (not-true a.released parts.0, cell_from_base c w a cell sized has known (sym (eqb-true a.base (first_word w cell) parts.1)))
