@@ -1,4 +1,4 @@
--- The two small heaps' lists are histories: within limits, enabled, and of admitted calls.
+-- The two lists of a small heap are histories: within limits, enabled, and of admitted calls.
 use Rattle.std.proofs.Common.{◌≡◌, ℕ, true, false, List, [], ◌∷◌, ◌++◌, ◌<◌, All, refl, sym, subst}
 use Rattle.std.specs.Prelude.{◌==◌}
 use Rattle.std.proofs.lemmas.Bool.{and_parts, eqb-true, leb-true, ltb-true}
