@@ -15,7 +15,8 @@ use Rattle.mk_core.specs.Cells.{pointed_cell}
 use Rattle.mk_core.specs.Enabled.{failing}
 use Rattle.mk_core.specs.Decided.{asked}
 use Rattle.mk_core.specs.History.{World, first_world, world_behind, left_from, calls_from, AreEnabledFrom, calls, never_first, IsHistory}
-use Rattle.mk_core.proofs.SmallCycles.{small, all_enabled, stopped_are_enabled, beside_are_enabled, three_objects, begun_in_stop, marked_in_stop, written_beside, marked_beside, third_released, stopped_cycle}
+use Rattle.mk_core.proofs.SmallCycles.{small, all_enabled, stopped_are_enabled, beside_are_enabled}
+use Rattle.mk_core.proofs.SmallCycles.{three_objects, begun_in_stop, marked_in_stop, written_beside, marked_beside, third_released, stopped_cycle}
 
 pub enabled_by_test : (c : Config) (w : World) (es : List Event) → all_enabled c w es ≡ true → AreEnabledFrom c w es
 unfolding AreEnabledFrom all_enabled
