@@ -1,5 +1,5 @@
--- Two small heaps along a cycle, as checked examples of the definitions: one whose caller is stopped from before the
--- `begin` on, and one whose caller writes beside a marker.
+-- Two lists of a small heap along a cycle, as checked examples of the definitions: in one the caller is stopped from before the
+-- `begin` on, and in the other it writes beside a marker.
 use Rattle.std.proofs.Common.{◌≡◌, Bool, true, false, ◌&&◌, List, [], ◌∷◌, ◌++◌, map, Some, None, refl}
 use Rattle.std.specs.Prelude.{◌==◌}
 use Rattle.mk_never.specs.declared.types.Kind.TheVariants.{Num, To}
@@ -43,7 +43,7 @@ three_objects =
     ++ by_caller (step.Take (Some (op.Free 2)) ∷ step.Reg ∷ step.Quar 0 4 ∷ step.Tally tally.Fresh 2 ∷ step.Give ∷ [])
     ++ by_caller (step.Enter (op.Clear 2) ∷ step.Reg ∷ step.Leave ∷ [])
 
--- A pointer to the second is written to the first, up to its `write`, and from there on.
+-- A pointer to the second is written to the first, up to the `write`, and then from there on.
 abbrev pub pointer_written : List Event
 pointer_written = by_caller (step.Enter (op.SetPtr 0 0 1) ∷ step.Reg ∷ step.Reg ∷ step.Probe ∷ step.Write ∷ [])
 
@@ -58,7 +58,7 @@ abbrev pub third_released : List Event
 third_released =
     by_host (step.Close ∷ step.Release ∷ step.Used 0 3 ∷ step.Quar 0 0 ∷ step.Tally tally.Held 4 ∷ step.End ∷ step.Open 0 ∷ step.Give ∷ [])
 
--- The caller is stopped, and a cycle begins.
+-- The caller is stopped, and the snapshot is taken: a `begin` may come next.
 unfoldable pub begun_in_stop : List Event
 begun_in_stop =
     three_objects ++ pointer_written ++ page_dirtied ++ second_cleared

@@ -1,4 +1,4 @@
--- The two small heaps' lists are histories: within limits, enabled, and of admitted calls.
+-- The two lists of a small heap are histories: within limits, enabled, and of admitted calls.
 use Rattle.std.proofs.Common.{◌≡◌, ℕ, true, false, List, [], ◌∷◌, ◌++◌, ◌<◌, All, refl, sym, subst}
 use Rattle.std.specs.Prelude.{◌==◌}
 use Rattle.std.proofs.lemmas.Bool.{and_parts, eqb-true, leb-true, ltb-true}
@@ -15,7 +15,8 @@ use Rattle.mk_core.specs.Cells.{pointed_cell}
 use Rattle.mk_core.specs.Enabled.{failing}
 use Rattle.mk_core.specs.Decided.{asked}
 use Rattle.mk_core.specs.History.{World, first_world, world_behind, left_from, calls_from, AreEnabledFrom, calls, never_first, IsHistory}
-use Rattle.mk_core.proofs.SmallCycles.{small, all_enabled, stopped_are_enabled, beside_are_enabled, three_objects, begun_in_stop, marked_in_stop, written_beside, marked_beside, third_released, stopped_cycle}
+use Rattle.mk_core.proofs.SmallCycles.{small, all_enabled, stopped_are_enabled, beside_are_enabled}
+use Rattle.mk_core.proofs.SmallCycles.{three_objects, begun_in_stop, marked_in_stop, written_beside, marked_beside, third_released, stopped_cycle}
 
 pub enabled_by_test : (c : Config) (w : World) (es : List Event) → all_enabled c w es ≡ true → AreEnabledFrom c w es
 unfolding AreEnabledFrom all_enabled
