@@ -1,0 +1,12 @@
+pub mod Actors
+pub mod Asked
+pub mod Kept
+pub mod Markers
+pub mod Moves
+pub mod NextSteps
+pub mod Orderly
+pub mod Services
+pub mod Shown
+pub mod Stages
+pub mod Standings
+pub mod Views
