@@ -1,12 +1,16 @@
 pub mod Actors
 pub mod Asked
+pub mod HoldersSteps
+pub mod IdleMarkers
 pub mod Kept
 pub mod Markers
 pub mod Moves
 pub mod NextSteps
 pub mod Orderly
+pub mod Protocols
 pub mod Services
 pub mod Shown
+pub mod Sorts
 pub mod Stages
 pub mod Standings
 pub mod Views

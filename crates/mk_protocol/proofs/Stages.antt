@@ -61,6 +61,13 @@ regs_work stage.Idle _ c h = cc
 regs_work _ (op.Free p) c h = cc
 regs_work _ _ c h = cc
 
+-- under the turn it is the load of a Free's register
+pub loads_under_turn : (s : Stage) (o : Op) → is_reg_stage s ≡ true → standing_at s o ≡ UnderTurn → s ≡ stage.LoadP
+loads_under_turn stage.Idle _ c h = cc
+loads_under_turn stage.LoadP _ c h = refl
+loads_under_turn _ (op.Free p) c h = cc
+loads_under_turn _ _ c h = cc
+
 -- what follows a stage of a call stands in the call, before its end
 
 pub onward_stands : (s : Stage) (o : Op) → standing_at s o ≡ InCall → goes_on s ≡ true → standing_at (stage_behind s (steps_of o)) o ≡ InCall
