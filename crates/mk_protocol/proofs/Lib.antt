@@ -1,13 +1,17 @@
 pub mod Actors
 pub mod Asked
+pub mod HeldGates
 pub mod HoldersSteps
 pub mod IdleMarkers
 pub mod Kept
+pub mod Known
 pub mod Markers
 pub mod Moves
 pub mod NextSteps
+pub mod Operands
 pub mod Orderly
 pub mod Protocols
+pub mod Readings
 pub mod Services
 pub mod Shown
 pub mod Sorts

@@ -2,9 +2,15 @@
 #![tactic(auto)]
 
 ghost use Rattle.mk_protocol.specs.Protocol.{ListsKeepTheProtocol};
+ghost use Rattle.mk_protocol.specs.Readings.{WordsTell};
 
 /// Behind any enabled events: who holds the turn, whose gate is held, which phase may stand, and how far
 /// the holder and the markers may be.
 pub fn lists_keep_the_protocol()
     ensures { ListsKeepTheProtocol }
+{}
+
+/// What a look at the turn, at a gate and at the phase tells.
+pub fn words_tell_who_holds_what()
+    ensures { WordsTell }
 {}
