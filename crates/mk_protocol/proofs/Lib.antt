@@ -1,5 +1,6 @@
 pub mod Actors
 pub mod Asked
+pub mod Growth
 pub mod HeldGates
 pub mod HoldersSteps
 pub mod IdleMarkers
@@ -10,6 +11,7 @@ pub mod Moves
 pub mod NextSteps
 pub mod Operands
 pub mod Orderly
+pub mod OthersMoves
 pub mod Protocols
 pub mod Readings
 pub mod Services
@@ -18,3 +20,4 @@ pub mod Sorts
 pub mod Stages
 pub mod Standings
 pub mod Views
+pub mod TurnFrame
