@@ -1,6 +1,9 @@
 pub mod Actors
 pub mod Asked
+pub mod Colours
+pub mod Frames
 pub mod Growth
+pub mod HeaderSteps
 pub mod HeldGates
 pub mod HoldersSteps
 pub mod IdleMarkers
@@ -11,13 +14,15 @@ pub mod Moves
 pub mod NextSteps
 pub mod Operands
 pub mod Orderly
+pub mod OthersCounts
 pub mod OthersMoves
 pub mod Protocols
 pub mod Readings
+pub mod RegisterSteps
 pub mod Services
 pub mod Shown
 pub mod Sorts
 pub mod Stages
 pub mod Standings
-pub mod Views
 pub mod TurnFrame
+pub mod Views

@@ -1,6 +1,7 @@
 //! Who holds what, behind every enabled list of events: facts alone, with no code.
 #![tactic(auto)]
 
+ghost use Rattle.mk_core.specs.Frames.{OthersLeave};
 ghost use Rattle.mk_protocol.specs.Protocol.{ListsKeepTheProtocol};
 ghost use Rattle.mk_protocol.specs.Readings.{WordsTell};
 
@@ -13,4 +14,9 @@ pub fn lists_keep_the_protocol()
 /// What a look at the turn, at a gate and at the phase tells.
 pub fn words_tell_who_holds_what()
     ensures { WordsTell }
+{}
+
+/// What the events of other seats leave to a seat, by what it is in the middle of.
+pub fn others_leave_a_seat_its_own()
+    ensures { OthersLeave }
 {}
