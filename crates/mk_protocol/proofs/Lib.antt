@@ -2,6 +2,7 @@ pub mod Actors
 pub mod Asked
 pub mod Colours
 pub mod Frames
+pub mod Ground
 pub mod Growth
 pub mod HeaderSteps
 pub mod HeldGates
