@@ -15,7 +15,7 @@ use Rattle.mk_core.specs.Layout.{AreOfPages}
 use Rattle.mk_core.specs.Accesses.{reached, access}
 use Rattle.mk_core.specs.History.{World, first_world, world_behind, left_from, left}
 
-zero_lengths : (count : ℕ) → AreOfPages count (zero_words_of count)
+pub zero_lengths : (count : ℕ) → AreOfPages count (zero_words_of count)
 zero_lengths count =
     record {
       gates = refl;
@@ -59,7 +59,7 @@ word_lengths count w Turn v h =
     record { gates = h.gates; registers = h.registers; globals = h.globals; pages = h.pages; freed = h.freed; snapshot = h.snapshot; marks = h.marks; blacks = h.blacks; dirty = h.dirty; heap = h.heap }
 word_lengths count w (Named x) v h = named_lengths count w x v h
 
-accessed_lengths : (count : ℕ) (w : Words) (x : TableWord) (a : Access) → AreOfPages count w → AreOfPages count (accessed w x a)
+pub accessed_lengths : (count : ℕ) (w : Words) (x : TableWord) (a : Access) → AreOfPages count w → AreOfPages count (accessed w x a)
 accessed_lengths count w x Load h = h
 accessed_lengths count w x (Store v) h = word_lengths count w x v h
 accessed_lengths count w x (Exchange old new) h = word_lengths count w x (becomes (Exchange old new) (word_in w x)) h

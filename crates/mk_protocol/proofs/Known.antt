@@ -34,7 +34,7 @@ unfolding left_from AreEnabledFrom
 known_from c w [] k on = k
 known_from c w (e ∷ es) k on = known_from c (world_behind c w e) es (known_behind c w.now e k on.0) on.1
 
-known_at_first : (c : Config) → IsWithinLimits c → Known c (first_moment c)
+pub known_at_first : (c : Config) → IsWithinLimits c → Known c (first_moment c)
 known_at_first c limits =
     record {
       small = limits.callers.1;

@@ -8,10 +8,12 @@ pub mod HeaderSteps
 pub mod HeldGates
 pub mod HoldersSteps
 pub mod IdleMarkers
+pub mod InHeap
 pub mod Kept
 pub mod Known
 pub mod Markers
 pub mod Moves
+pub mod NewPlace
 pub mod NextSteps
 pub mod Operands
 pub mod Orderly
@@ -20,6 +22,8 @@ pub mod OthersMoves
 pub mod Protocols
 pub mod Readings
 pub mod RegisterSteps
+pub mod RunsInHeap
+pub mod ScansInHeap
 pub mod Services
 pub mod Shown
 pub mod Sorts

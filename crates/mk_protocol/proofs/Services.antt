@@ -27,7 +27,7 @@ Served f h = Serves f.stage f.op h.placing h.freed
 -- how the holder's call and what it has done go on
 pub data Service (f : Flight) (h : Holding) : Flight → Holding → Type 0 where
   Goes : (g : Holding) → g.placing ≡ h.placing → g.freed ≡ h.freed → Service f h f g
-  Loads : (g : Flight) → f.stage ≡ stage.LoadP → standing g ≡ UnderTurn → Service f h g h
+  Loads : (g : Flight) → f.stage ≡ stage.LoadP → standing g ≡ UnderTurn → is_undecided_new g ≡ false → Service f h g h
   Places : (g : Holding) → is_undecided_new f ≡ true → (is_granted g.placing ≡ true → is_granted h.placing ≡ true) → g.freed ≡ h.freed → Service f h f g
   Fills : is_undecided_new f ≡ true → h.placing ≡ Unplaced → Service f h (record f { stage = stage.Give }) h
   Grants : is_undecided_new f ≡ true → Service f h (record f { stage = stage.Give }) (record h { placing = Granted })
@@ -37,7 +37,7 @@ pub data Service (f : Flight) (h : Holding) : Flight → Holding → Type 0 wher
 
 pub service_stands : (f : Flight) (h : Holding) (g : Flight) (i : Holding) → standing f ≡ UnderTurn → Service f h g i → standing g ≡ UnderTurn
 service_stands f h g i is (Goes _ p q) = is
-service_stands f h g i is (Loads _ at stands) = stands
+service_stands f h g i is (Loads _ at stands no_new) = stands
 service_stands f h g i is (Places _ new p q) = is
 service_stands f h g i is (Fills new p) = gives_stand f.stage f.op is
 service_stands f h g i is (Grants new) = gives_stand f.stage f.op is
@@ -45,7 +45,7 @@ service_stands f h g i is (Frees _ free p) = gives_stand f.stage f.op is
 
 pub service_rests : (f : Flight) (h : Holding) (g : Flight) (i : Holding) → f.stage ≡ stage.Idle → Service f h g i → g ≡ f
 service_rests f h g i idle (Goes _ p q) = refl
-service_rests f h g i idle (Loads _ at stands) = let e : stage.Idle ≡ stage.LoadP = sym idle ∙ at in cc
+service_rests f h g i idle (Loads _ at stands no_new) = let e : stage.Idle ≡ stage.LoadP = sym idle ∙ at in cc
 service_rests f h g i idle (Places _ new p q) = refl
 service_rests f h g i idle (Fills new p) = let e : false ≡ true = ap (λ (s : Stage). is_new_at s f.op) (sym idle) ∙ new in cc
 service_rests f h g i idle (Grants new) = let e : false ≡ true = ap (λ (s : Stage). is_new_at s f.op) (sym idle) ∙ new in cc
@@ -76,7 +76,7 @@ load_gives_none _ o h = cc
 pub served_on : (f : Flight) (h : Holding) (g : Flight) (i : Holding) → Served f h → Service f h g i → Served g i
 served_on f h g i s (Goes _ p q) =
     record { placed = λ e. s.placed (ap has_place (sym p) ∙ e); granted = λ e. s.granted (ap is_granted (sym p) ∙ e); freed = λ e. s.freed (ap is_some (sym q) ∙ e) }
-served_on f h g i s (Loads _ at stands) =
+served_on f h g i s (Loads _ at stands no_new) =
     let none = load_gives_none f.stage f.op at in
     record {
       placed = λ e. let x : true ≡ false = sym (s.placed e) ∙ none.0 in cc;

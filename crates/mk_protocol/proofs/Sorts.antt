@@ -37,7 +37,7 @@ use Rattle.mk_core.specs.Accesses.{found, access, reached, tally_word, register_
 use Rattle.mk_core.specs.Effects.{moment_behind, progress, chosen, taken}
 use Rattle.mk_core.specs.Readings.{is_in}
 use Rattle.mk_protocol.proofs.Standings.{Standing, Resting, InCall, UnderTurn, Astray, standing_at, standing, is_astray}
-use Rattle.mk_protocol.proofs.Stages.{is_call_stage, is_reg_stage, goes_on, calls_stand, onward_stands, refused_stands, regs_work, loads_under_turn, begun_in_call, begun_under_turn, read_stands, either_stands, reg_stands}
+use Rattle.mk_protocol.proofs.Stages.{is_call_stage, is_reg_stage, goes_on, calls_stand, onward_stands, refused_stands, regs_work, loads_under_turn, begun_in_call, begun_under_turn, read_stands, either_stands, reg_stands, reg_no_new}
 use Rattle.mk_protocol.proofs.NextSteps.{stage_of, has_stage_of_its_own, at_its_stage, at_reg, at_enter}
 use Rattle.mk_protocol.proofs.Services.{Service, Goes, Loads, Fills, Grants}
 use Rattle.mk_protocol.proofs.Views.{View, view_of, flight_in, gate_in, flights_with, flight_is, HoldsTurn}
@@ -128,7 +128,7 @@ reg_move c m k lt is a =
         → Move c (view_of m) (Caller k) (record (view_of m) { flights = slice_set m.seats.flights k g })
     by Resting was same = absurd (regs_work (flight_of m (Caller k)).stage (flight_of m (Caller k)).op is was)
     by InCall was same = GoesOn g lt was (same ∙ was)
-    by UnderTurn was same = Works g m.seats.holding (lt, was) (Loads g (loads_under_turn (flight_of m (Caller k)).stage (flight_of m (Caller k)).op is was) (same ∙ was))
+    by UnderTurn was same = Works g m.seats.holding (lt, was) (Loads g (loads_under_turn f.stage f.op is was) (same ∙ was) (reg_no_new f.stage f.op f.q f.p f.r f.loaded (found c m e) is was))
     by Astray was same = let y : true ≡ false = ap is_astray (sym was) ∙ a in cc
 
 -- the other steps of a call

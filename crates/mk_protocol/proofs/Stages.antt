@@ -8,6 +8,7 @@ use Rattle.mk_core.specs.declared.seats.Stage.TheVariants as stage
 use Rattle.mk_core.specs.declared.seats.Flight.{Flight}
 use Rattle.mk_core.specs.declared.seats.Progress.{Progress}
 use Rattle.mk_core.specs.Calls.{steps_of, stage_behind, is_under_turn, stage_refused, begun, progress_reg, progress_read}
+use Rattle.mk_core.specs.NewPlaces.{is_new_at, is_undecided_new}
 use Rattle.mk_protocol.proofs.Standings.{Standing, Resting, InCall, UnderTurn, standing_at, standing, is_astray}
 
 -- the stages of calls outside the turn, those of the turn's steps, and those of `reg`
@@ -113,3 +114,20 @@ reg_stands stage.LoadP (op.Free p') q p r l x c h = either_stands (x == 0) _ _ U
 reg_stands _ (op.Free p') q p r l x c h = cc
 reg_stands stage.Idle _ q p r l x c h = cc
 reg_stands _ _ q p r l x c h = cc
+
+-- and makes no New
+
+either_no_new : (b : Bool) (p q : Progress) → is_undecided_new p.flight ≡ false → is_undecided_new q.flight ≡ false → is_undecided_new ((if b then p else q).flight) ≡ false
+either_no_new true p q hp hq = hp
+either_no_new false p q hp hq = hq
+
+pub reg_no_new : (s : Stage) (o : Op) (q p r l x : ℕ) → is_reg_stage s ≡ true → standing_at s o ≡ UnderTurn → is_undecided_new (behind_reg s o q p r l x) ≡ false
+reg_no_new stage.LoadP (op.Free p') q p r l x c h = either_no_new (x == 0) _ _ refl refl
+reg_no_new _ (op.Free p') q p r l x c h = cc
+reg_no_new stage.Idle _ q p r l x c h = cc
+reg_no_new _ _ q p r l x c h = cc
+
+-- where a New stands
+pub new_stands : (s : Stage) (o : Op) → is_new_at s o ≡ true → standing_at s o ≡ UnderTurn
+new_stands stage.Turn (op.New d ty full) h = refl
+new_stands _ _ h = cc
