@@ -20,6 +20,7 @@ pub mod Orderly
 pub mod OthersCounts
 pub mod OthersMoves
 pub mod Protocols
+pub mod Reaching
 pub mod Readings
 pub mod RegisterSteps
 pub mod RunsInHeap
