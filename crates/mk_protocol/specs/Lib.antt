@@ -1,0 +1,3 @@
+pub mod Protocol
+pub mod Reaching
+pub mod Readings

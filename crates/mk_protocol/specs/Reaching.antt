@@ -1,0 +1,26 @@
+-- Which word an enabled event reaches, and how.
+use Rattle.std.specs.Prelude.{◌≡◌, List, [], ◌∷◌, ◌++◌}
+use Rattle.mk_core.specs.declared.config.Config.{Config}
+use Rattle.mk_core.specs.declared.events.Event.{Event}
+use Rattle.mk_core.specs.Config.{IsWithinLimits}
+use Rattle.mk_core.specs.Layout.{IsOfTable}
+use Rattle.mk_core.specs.Accesses.{reached, access}
+use Rattle.mk_core.specs.History.{left, AreEnabled, IsEnabledBehind}
+use Rattle.mk_core.specs.Growing.{AreOfOthers}
+
+-- The word is one of the table,
+abbrev pub EventsReachTheTable : Type 0
+EventsReachTheTable =
+    (c : Config) (es : List Event) (e : Event) → IsWithinLimits c → AreEnabled c es → IsEnabledBehind c es e
+    → IsOfTable c.pages (reached c (left c es).now e)
+
+-- What an event reaches behind the one list, it reaches behind the other, and in the same way.
+pub record ReachesTheSame (c : Config) (es fs : List Event) (e : Event) : Type 0 where
+  pub word : reached c (left c fs).now e ≡ reached c (left c es).now e
+  pub access : access c (left c fs).now e ≡ access c (left c es).now e
+
+-- whatever other seats do before it.
+abbrev pub OthersLeaveAccesses : Type 0
+OthersLeaveAccesses =
+    (c : Config) (es more : List Event) (e : Event) → IsWithinLimits c → AreEnabled c (es ++ more) → AreOfOthers (e.seat ∷ []) more
+    → IsEnabledBehind c es e → ReachesTheSame c es (es ++ more) e
