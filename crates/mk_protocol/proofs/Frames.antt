@@ -174,9 +174,10 @@ still_in c (Caller k) w u l i = i
 still_in c Host w u l i = i
 
 still_stopped : (c : Config) (s : Seat) (w u : World) → Left c s w u → HoldsAll c w.now s → HoldsAll c u.now s
-still_stopped c s w u l all =
-    ((l.own.holding all.0).0,
-    ap (λ (y : Written). all_below c.callers (λ j. is_number_of s j || (slice_index y.gates j == 2))) (l.stop all) ∙ all.1)
+still_stopped c s w u l all = (
+  (l.own.holding all.0).0,
+  ap (λ (y : Written). all_below c.callers (λ j. is_number_of s j || (slice_index y.gates j == 2))) (l.stop all) ∙ all.1,
+)
 
 left_joined : (c : Config) (s : Seat) (w u v : World) → Left c s w u → Left c s u v → Left c s w v
 left_joined c s w u v a b =

@@ -67,4 +67,3 @@ up_eight p n m e lm ln = (omega arith, omega arith)
 
 pub down_eight : (p n k m : ℕ) → p ≡ m + 8 * n → m ≤ 5 → n ≤ 8 → k + 1 ≡ n → (((p + (2 ^ 64 - 8)) % 2 ^ 64) % 8 ≡ m) × ((p + (2 ^ 64 - 8)) % 2 ^ 64 ≡ m + 8 * k)
 down_eight p n k m e lm ln is = (omega arith, omega arith)
-
