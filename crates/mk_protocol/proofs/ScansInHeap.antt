@@ -7,7 +7,7 @@ use Rattle.mk_geom.specs.declared.headers.Header.{Header}
 use Rattle.mk_geom.specs.declared.headers.Header.TheVariants.{Free, Block, Run, Later, LeafBlock, LeafRun}
 use Rattle.mk_geom.specs.Classes.{cells_of, class_words_of}
 use Rattle.mk_geom.specs.Headers.{header_of}
-use Rattle.mk_geom.specs.Addresses.{cell_at, cell_under, cell_of_block, run_before, is_heap_address, page_at_address, word_at_address}
+use Rattle.mk_geom.specs.Addresses.{cell_at, cell_under, cell_of_block, is_heap_address, page_at_address, word_at_address}
 use Rattle.mk_geom.proofs.ClassTable.{cell_ends}
 use Rattle.mk_core.specs.declared.config.Config.{Config}
 use Rattle.mk_core.specs.declared.events.Step.{Step}
@@ -142,20 +142,20 @@ in_block class page word cell e = by (nat_lt word (cells_of class * class_words_
     by true e = let same : page ≡ cell.page = cc in omega arith
     by false e = cc
 
-in_run : (distance page : ℕ) (cell : Cell) → run_before distance page ≡ Some cell → cell.page ≤ page
-in_run distance page cell e = by (nat_le distance page) e
-  where
-    by : (b : Bool) → (if b then Some (record { page = page - distance; index = 0 }) else None) ≡ Some cell → cell.page ≤ page
-    by true e = let same : page - distance ≡ cell.page = cc in omega arith
-    by false e = cc
+in_run : (page : ℕ) (cell : Cell) → Some (record { page = page; index = 0 }) ≡ Some cell → cell.page ≤ page
+in_run page cell e = let same : page ≡ cell.page = cc in omega arith
+
+in_later : (b : Bool) (distance page : ℕ) (cell : Cell) → (if b then Some (record { page = page - distance; index = 0 }) else None) ≡ Some cell → cell.page ≤ page
+in_later true distance page cell e = let same : page - distance ≡ cell.page = cc in omega arith
+in_later false distance page cell e = cc
 
 before_page : (h : Header) (page word : ℕ) (cell : Cell) → cell_under h page word ≡ Some cell → cell.page ≤ page
 before_page Free page word cell e = cc
 before_page (Block class) page word cell e = in_block class page word cell e
 before_page (LeafBlock class) page word cell e = in_block class page word cell e
-before_page (Run count mapped) page word cell e = in_run 0 page cell e
-before_page (Later distance mapped) page word cell e = in_run distance page cell e
-before_page (LeafRun count) page word cell e = in_run 0 page cell e
+before_page (Run count mapped) page word cell e = in_run page cell e
+before_page (Later distance mapped) page word cell e = in_later (nat_le distance page) distance page cell e
+before_page (LeafRun count) page word cell e = in_run page cell e
 
 seen_in_heap : (c : Config) (header value : ℕ) (cell : Cell) → cell_at c.pages header value ≡ Some cell → cell.page < c.pages
 seen_in_heap c header value cell e = by (is_heap_address c.pages value) refl e
