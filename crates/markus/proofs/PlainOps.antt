@@ -8,16 +8,16 @@ use Rattle.mk_never.specs.declared.operations.Op.TheVariants.{New, GetNum, SetNu
 use Rattle.mk_never.specs.Types.{kinds_of}
 use Rattle.mk_never.specs.NeverHeap.{NeverState, reply_of, after_op, register_at}
 use Rattle.mk_core.specs.Image.{answer_of}
-use Rattle.mk_check.specs.Feed.{noted}
+use Rattle.mk_core.specs.Decided.{flagged}
 use Rattle.markus.specs.RunText.{FullIsByRoom, granted_words}
 use Rattle.markus.specs.Plain.{PlainHeap, is_full, word_behind, IsPlainOp, plain_answer, after_plain}
 use Rattle.markus.proofs.Stands.{StandsFor, load_through, store_reply, store_through, new_stands, kinds}
 
 -- An operation on both heaps, where the one that never reuses storage is told of a full heap.
 pub record Agrees (p : PlainHeap) (n : NeverState) (op : Op) : Type 0 where
-  pub stands : StandsFor (after_plain p op) (after_op n 0 (noted op (plain_answer p op)))
-  pub replies : (bases : List ℕ) → plain_answer p op ≡ answer_of bases (reply_of n 0 (noted op (plain_answer p op)))
-  pub full : FullIsByRoom (length p.heap) n (noted op (plain_answer p op))
+  pub stands : StandsFor (after_plain p op) (after_op n 0 (flagged op (plain_answer p op)))
+  pub replies : (bases : List ℕ) → plain_answer p op ≡ answer_of bases (reply_of n 0 (flagged op (plain_answer p op)))
+  pub full : FullIsByRoom (length p.heap) n (flagged op (plain_answer p op))
   pub size : (after_plain p op).size ≡ p.size
   pub heap : length (after_plain p op).heap ≡ length p.heap
 

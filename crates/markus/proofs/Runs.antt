@@ -1,6 +1,6 @@
 -- A narrow script runs on the plain heap as on the one that never reuses storage.
 use Rattle.std.proofs.Common.{◌≡◌, ℕ, ◌*◌, true, List, [], ◌∷◌, ◌++◌, length, refl, ap, sym, ◌∙◌, subst, inl, inr, arith}
-use Rattle.std.specs.Prelude.{slice_index, replicate, Some, Option}
+use Rattle.std.specs.Prelude.{slice_index, replicate, Some}
 use Rattle.std.proofs.lemmas.Bool.{cases_lt}
 use Rattle.std.proofs.lemmas.List.{length-replicate, get_or-replicate, get_or_past, map-append}
 use Rattle.mk_never.specs.declared.types.Kind.{Kind}
@@ -9,19 +9,22 @@ use Rattle.mk_never.specs.declared.operations.Op.{Op}
 use Rattle.mk_never.specs.NeverHeap.{NeverState, start_of, reply_of, after_op, after_calls, replies_of}
 use Rattle.mk_never.proofs.Parts.{after_append, replies_append}
 use Rattle.mk_core.specs.declared.events.Answer.{Answer}
+use Rattle.mk_core.specs.Decided.{flagged}
 use Rattle.mk_core.specs.Image.{answer_of, answers_of}
 use Rattle.mk_script.specs.declared.items.Item.{Item}
 use Rattle.mk_script.specs.declared.items.Item.TheVariants.{New, Getn, Setn}
-use Rattle.mk_check.specs.Blocks.{Blocks, Line, blocks_from, script_of}
+use Rattle.mk_check.specs.Blocks.{blocks_from, script_of}
 use Rattle.mk_check.specs.Declarations.{types_of, pages_of}
-use Rattle.mk_check.specs.Feed.{Scope, Fed, op_of, noted, note, with_answer, take_answer, take_answers, begun, started, feed, has_ended}
+use Rattle.mk_check.specs.Feed.{Fed, op_of, begun, feed, has_ended}
 use Rattle.mk_check.specs.Feeding.{FeedState, script_scope, next_op, FeedStandsFor, TakesAnswer}
 use Rattle.mk_check.specs.Typing.{IsWellTyped}
-use Rattle.mk_check.proofs.Numbered.{run_agrees, ops-with_answer}
+use Rattle.mk_check.specs.Laws.{heap_of}
+use Rattle.mk_check.proofs.Numbered.{run_agrees}
 use Rattle.mk_check.proofs.LinesLeft.{next_line}
+use Rattle.mk_check.proofs.FeedLaws.{ops-feed_push}
 use Rattle.markus.specs.Narrow.{is_narrow, object_words}
 use Rattle.markus.specs.Plain.{PlainHeap, wiped, IsPlainOp, plain_answer, after_plain}
-use Rattle.markus.specs.RunText.{calls_of, FullIsByRoom, EachFullIsByRoom, bases_of, IsRunText}
+use Rattle.markus.specs.RunText.{calls_of, calls_fed, FullIsByRoom, EachFullIsByRoom, bases_of, IsRunText}
 use Rattle.markus.proofs.NarrowPrograms.{AsksPlainly, IsPlain, is_plain, narrow_type, place_of_type, place_of_pointer}
 use Rattle.markus.proofs.PlainOps.{agrees}
 use Rattle.markus.proofs.Stands.{StandsFor}
@@ -46,38 +49,19 @@ full_more : (heap_words : ℕ) (n : NeverState) (ops : List Op) (o : Op) → Eac
 full_more heap_words n [] o each last = (last, tt)
 full_more heap_words n (first ∷ ops) o each last = (each.0, full_more heap_words (after_op n 0 first) ops o each.1 last)
 
-take_answers-push : (scope : Scope) (fed : Fed) (answers : List Answer) (a : Answer)
-    → take_answers scope fed (answers ++ a ∷ []) ≡ take_answer scope (take_answers scope fed answers) (take_answers scope fed answers).left a
-take_answers-push scope fed [] a = refl
-take_answers-push scope fed (b ∷ answers) a = take_answers-push scope (take_answer scope fed fed.left b) answers a
-
--- the operation that is answered is noted behind the others
-ops-push : (program : List Item) (answers : List Answer) (a : Answer) (line : ℕ) (item : Item) (rest : Blocks) (o : Op)
-    → (feed program 0 answers).left ≡ Line line item rest → op_of (script_scope program 0) (feed program 0 answers) item ≡ Some o
-    → (feed program 0 (answers ++ a ∷ [])).ops ≡ (feed program 0 answers).ops ++ noted o a ∷ []
-ops-push program answers a line item rest o left asks =
-    let scope = script_scope program 0 in
-    let fed = feed program 0 answers in
-    let at = note fed (op_of scope fed item) line a in
-    ap (λ (f : Fed). f.ops) (take_answers-push scope (started scope (script_of program 0)) answers a)
-    ∙ (ap (λ (b : Blocks). (take_answer scope fed b a).ops) left
-    ∙ ((run_agrees scope rest (with_answer scope at item a)).answers
-    ∙ (ops-with_answer scope at item a
-    ∙ ap (λ (x : Option Op). (note fed x line a).ops) asks)))
-
 -- A narrow script in the middle.
 
 -- what the operations that were answered leave
 abbrev pub never_state : List Item → List Answer → NeverState
-never_state program answers = after_calls (start_of (types_of program) 1) (calls_of 0 (feed program 0 answers).ops)
+never_state program answers = after_calls (heap_of program 1) (calls_fed program answers)
 
 -- the plain heap and the script stand where the answers of the heap that never reuses storage lead
 pub record Runs (program : List Item) (p : PlainHeap) (f : FeedState) : Type 0 where
   pub answers : List Answer
   pub fed : FeedStandsFor program 0 f answers
   pub stands : StandsFor p (never_state program answers)
-  pub given : (bases : List ℕ) → answers ≡ answers_of bases (replies_of (start_of (types_of program) 1) (calls_of 0 (feed program 0 answers).ops))
-  pub full : EachFullIsByRoom (64 * pages_of program) (start_of (types_of program) 1) (calls_of 0 (feed program 0 answers).ops)
+  pub given : (bases : List ℕ) → answers ≡ answers_of bases (replies_of (heap_of program 1) (calls_fed program answers))
+  pub full : EachFullIsByRoom (64 * pages_of program) (heap_of program 1) (calls_fed program answers)
   pub size : p.size ≡ object_words program
   pub heap : length p.heap ≡ 64 * pages_of program
 
@@ -109,15 +93,15 @@ begins program p f narrow e fed =
     let scope = script_scope program 0 in
     let script = script_of program 0 in
     let none : (feed program 0 []).ops ≡ [] = (run_agrees scope (blocks_from script.line script.items) (begun scope script)).answers in
-    let before : start_of (types_of program) 1 ≡ never_state program [] =
-    ap (λ (ops : List Op). after_calls (start_of (types_of program) 1) (calls_of 0 ops)) (sym none) in
+    let before : heap_of program 1 ≡ never_state program [] =
+    ap (λ (ops : List Op). after_calls (heap_of program 1) (calls_of 0 ops)) (sym none) in
     record {
       answers = [];
       fed = fed;
       stands = rw e (subst (λ (n : NeverState). StandsFor (wiped (pages_of program) (object_words program)) n) before
           (wiped_stands (pages_of program) (object_words program) (types_of program) (narrow_type program narrow).kinds));
-      given = λ bases. ap (λ (ops : List Op). answers_of bases (replies_of (start_of (types_of program) 1) (calls_of 0 ops))) (sym none);
-      full = subst (λ (ops : List Op). EachFullIsByRoom (64 * pages_of program) (start_of (types_of program) 1) (calls_of 0 ops)) (sym none) tt;
+      given = λ bases. ap (λ (ops : List Op). answers_of bases (replies_of (heap_of program 1) (calls_of 0 ops))) (sym none);
+      full = subst (λ (ops : List Op). EachFullIsByRoom (64 * pages_of program) (heap_of program 1) (calls_of 0 ops)) (sym none) tt;
       size = ap (λ (x : PlainHeap). x.size) e;
       heap = ap (λ (x : PlainHeap). length x.heap) e ∙ length-replicate (64 * pages_of program) 0;
     }
@@ -154,17 +138,14 @@ pub goes_on : (program : List Item) (p : PlainHeap) (f g : FeedState) (o : Op) �
     → (runs : Runs program p f) → next_op program 0 runs.answers ≡ Some o → TakesAnswer f (plain_answer p o) g
     → Runs program (after_plain p o) g
 goes_on program p f g o narrow typed runs next takes =
-    let plain : IsPlain program = is_plain program narrow typed in
-    let here = next_line (AsksPlainly plain.declared) program 0 runs.answers o plain.asks next in
     let n = never_state program runs.answers in
     let a = plain_answer p o in
     let ops = (feed program 0 runs.answers).ops in
-    let start = start_of (types_of program) 1 in
+    let start = heap_of program 1 in
     let both = agrees p n o runs.stands (next_is_plain program p f o narrow typed runs next) in
-    let pushed : (feed program 0 (runs.answers ++ a ∷ [])).ops ≡ ops ++ noted o a ∷ [] =
-    ops-push program runs.answers a here.line here.item here.rest o here.left here.op in
-    let after : after_op n 0 (noted o a) ≡ never_state program (runs.answers ++ a ∷ []) =
-    sym (ap (λ (xs : List Op). after_calls start (calls_of 0 xs)) pushed ∙ after_more start ops (noted o a)) in
+    let pushed : (feed program 0 (runs.answers ++ a ∷ [])).ops ≡ ops ++ flagged o a ∷ [] = ops-feed_push program 0 runs.answers a o next in
+    let after : after_op n 0 (flagged o a) ≡ never_state program (runs.answers ++ a ∷ []) =
+    sym (ap (λ (xs : List Op). after_calls start (calls_of 0 xs)) pushed ∙ after_more start ops (flagged o a)) in
     record {
       answers = runs.answers ++ a ∷ [];
       fed = takes program 0 runs.answers runs.fed;
@@ -172,11 +153,11 @@ goes_on program p f g o narrow typed runs next takes =
       given = λ bases.
           ap (λ (answers : List Answer). answers ++ a ∷ []) (runs.given bases)
           ∙ (ap (λ (b : Answer). answers_of bases (replies_of start (calls_of 0 ops)) ++ b ∷ []) (both.replies bases)
-          ∙ (sym (answers_more bases start ops (noted o a))
+          ∙ (sym (answers_more bases start ops (flagged o a))
           ∙ ap (λ (xs : List Op). answers_of bases (replies_of start (calls_of 0 xs))) (sym pushed)));
       full = subst (λ (xs : List Op). EachFullIsByRoom (64 * pages_of program) start (calls_of 0 xs)) (sym pushed)
-          (full_more (64 * pages_of program) start ops (noted o a) runs.full
-          (subst (λ (k : ℕ). FullIsByRoom k n (noted o a)) runs.heap both.full));
+          (full_more (64 * pages_of program) start ops (flagged o a) runs.full
+          (subst (λ (k : ℕ). FullIsByRoom k n (flagged o a)) runs.heap both.full));
       size = both.size ∙ runs.size;
       heap = both.heap ∙ runs.heap;
     }

@@ -13,7 +13,8 @@ use Rattle.mk_never.specs.NeverHeap.{NeverState, Allocation, register_at, alloca
 use Rattle.mk_core.specs.declared.events.Answer.TheVariants.{Num as Number}
 use Rattle.mk_never.specs.declared.values.Target.TheVariants.{Unmapped, WordOf}
 use Rattle.mk_never.specs.declared.operations.Reply.TheVariants.{Num as NumReply, Done as DoneReply}
-use Rattle.mk_core.specs.Image.{address_of, answer_of}
+use Rattle.mk_geom.specs.Addresses.{address_of}
+use Rattle.mk_core.specs.Image.{answer_of}
 use Rattle.markus.specs.RunText.{granted_words}
 use Rattle.markus.specs.Plain.{PlainHeap, word_behind, get_answer, set_answer, after_set}
 

@@ -3,12 +3,13 @@ use Rattle.std.specs.Prelude.{◌≡◌, ℕ, ◌+◌, ◌*◌, true, List, [], 
 use Rattle.mk_never.specs.declared.operations.Op.{Op}
 use Rattle.mk_never.specs.declared.operations.Op.TheVariants.{New}
 use Rattle.mk_never.specs.Types.{kinds_of}
-use Rattle.mk_never.specs.NeverHeap.{NeverState, Allocation, Call, start_of, after_op, after_calls, replies_of}
+use Rattle.mk_never.specs.NeverHeap.{NeverState, Allocation, Call, after_op, after_calls, replies_of}
 use Rattle.mk_core.specs.declared.events.Answer.{Answer}
 use Rattle.mk_core.specs.Image.{answers_of}
 use Rattle.mk_script.specs.declared.items.Item.{Item}
-use Rattle.mk_check.specs.Declarations.{types_of, pages_of}
+use Rattle.mk_check.specs.Declarations.{pages_of}
 use Rattle.mk_check.specs.Feed.{feed, has_ended}
+use Rattle.mk_check.specs.Laws.{heap_of}
 
 -- the words of all objects granted so far
 abbrev pub granted_words : NeverState → ℕ
@@ -26,6 +27,10 @@ EachFullIsByRoom heap_words n (x ∷ xs) = FullIsByRoom heap_words n x.op × Eac
 abbrev pub calls_of : ℕ → List Op → List Call
 calls_of caller ops = map (λ op. record { caller = caller; op = op }) ops
 
+-- the calls of the script, fed with answers
+abbrev pub calls_fed : List Item → List Answer → List Call
+calls_fed program answers = calls_of 0 (feed program 0 answers).ops
+
 -- each object's first word: it stands directly behind the one before
 abbrev pub bases_behind : ℕ → List Allocation → List ℕ
 bases_behind word [] = []
@@ -39,6 +44,6 @@ bases_of n = bases_behind 0 n.allocations
 pub record IsRunText (program : List Item) (text : List ℕ) : Type 0 where
   pub answers : List Answer
   pub ended : has_ended (feed program 0 answers) ≡ true
-  pub given : answers ≡ answers_of (bases_of (after_calls (start_of (types_of program) 1) (calls_of 0 (feed program 0 answers).ops))) (replies_of (start_of (types_of program) 1) (calls_of 0 (feed program 0 answers).ops))
-  pub full : EachFullIsByRoom (64 * pages_of program) (start_of (types_of program) 1) (calls_of 0 (feed program 0 answers).ops)
+  pub given : answers ≡ answers_of (bases_of (after_calls (heap_of program 1) (calls_fed program answers))) (replies_of (heap_of program 1) (calls_fed program answers))
+  pub full : EachFullIsByRoom (64 * pages_of program) (heap_of program 1) (calls_fed program answers)
   pub printed : text ≡ (feed program 0 answers).text

@@ -12,6 +12,7 @@ use Rattle.mk_never.specs.Admitted.{IsNumber, IsPointer, IsOfKind, IsBase, Meets
 use Rattle.mk_never.proofs.Edits.{left_at_by, if_by}
 use Rattle.mk_core.specs.declared.events.Answer.{Answer}
 use Rattle.mk_core.specs.declared.events.Answer.TheVariants as answer
+use Rattle.mk_core.specs.Decided.{flagged}
 use Rattle.mk_script.specs.declared.items.At.{At}
 use Rattle.mk_script.specs.declared.items.TypeWord.TheVariants.{Number, Pointer}
 use Rattle.mk_script.specs.declared.items.Item.{Item}
@@ -19,16 +20,16 @@ use Rattle.mk_script.specs.declared.items.Item.TheVariants.{New, Free, Getn, Set
 use Rattle.mk_script.specs.Scopes.{type_names, global_names, pointer_names}
 use Rattle.mk_check.specs.Typing.{pointer_at, global_type, moved_by, base_of}
 use Rattle.mk_check.specs.Declarations.{place_of, kind_of, globals_of}
-use Rattle.mk_check.specs.Feed.{Fed, op_of, noted, scope_of}
+use Rattle.mk_check.specs.Feed.{Fed, op_of, scope_of}
 use Rattle.mk_check.specs.NamesInScope.{HasFew}
 use Rattle.mk_check.proofs.DeclaredPlaces.{pointer_within, type_place, global_place, global_within}
 use Rattle.mk_check.proofs.TypedLines.{PointsBefore, PointsBeforeOne, PointsBehind, PointsToType, PointsToGlobal, Says}
 use Rattle.mk_check.proofs.DeclaredRegisters.{kind_at, register_of, AreAsDeclared, FitsScript, set_register, meets_weaker, meets_before, loaded_word, moved_word, global_word}
 
 -- what holds of a New, full or not, holds of it as it is noted
-noted_new : (Q : Op → Type 0) (d ty : ℕ) → ((full : Bool) → Q (op.New d ty full)) → (a : Answer) → Q (noted (op.New d ty false) a)
-noted_new Q d ty holds answer.Full = holds true
-noted_new Q d ty holds a = holds false
+flagged_new : (Q : Op → Type 0) (d ty : ℕ) → ((full : Bool) → Q (op.New d ty full)) → (a : Answer) → Q (flagged (op.New d ty false) a)
+flagged_new Q d ty holds answer.Full = holds true
+flagged_new Q d ty holds a = holds false
 
 -- null or a pointer to a first word is a whole allocation
 bases : (program : List Item) (v : Value) (at : At) → at.offset ≡ 0 → IsOfKind v (kind_at program at) → IsBase v
@@ -89,8 +90,8 @@ module _ (program script : List Item) (few : HasFew (scope_of program script)) (
       (sym (global_place (type_names program) global program s.ty s.is)) (fits.declared stored (base_of s.ty) s.declared)
 
   -- What a typed line asks for is admitted, also as it is noted.
-  pub admitted : (fed : Fed) (item : Item) → Says program script item → IfSome (op_of (scope_of program script) fed item) (λ o. (a : Answer) → Admits (noted o a))
-  admitted fed (New pointer ty) s = noted_new Admits _ _ (λ full. record {
+  pub admitted : (fed : Fed) (item : Item) → Says program script item → IfSome (op_of (scope_of program script) fed item) (λ o. (a : Answer) → Admits (flagged o a))
+  admitted fed (New pointer ty) s = flagged_new Admits _ _ (λ full. record {
     of_a_caller = fits.of_a_caller;
     in_range = (pointers pointer _ s.declared, types pointer ty s);
     access = tt;
@@ -191,8 +192,8 @@ module _ (program script : List Item) (few : HasFew (scope_of program script)) (
 
   -- A typed line leaves the registers as declared.
   pub line_keeps : (fed : Fed) (item : Item) → Says program script item
-      → IfSome (op_of (scope_of program script) fed item) (λ o. (a : Answer) → Keeps (after_op n caller (noted o a)))
-  line_keeps fed (New pointer ty) s = noted_new (λ o. Keeps (after_op n caller o)) _ _ (λ full.
+      → IfSome (op_of (scope_of program script) fed item) (λ o. (a : Answer) → Keeps (after_op n caller (flagged o a)))
+  line_keeps fed (New pointer ty) s = flagged_new (λ o. Keeps (after_op n caller o)) _ _ (λ full.
       if_by Keeps full _ _ (λ e. fits.declared)
       (λ e. set_register program script (with_new n (place_of ty (type_names program))) caller pointer (base_of ty) _ fits.declared s.declared (refl, refl)))
   line_keeps fed (Free pointer) s = λ a. free_keeps (register_of script n caller pointer)

@@ -1,13 +1,12 @@
 -- The operations of a well-typed program's scripts are admitted.
 use Rattle.std.proofs.Common.{◌≡◌, ◌≢◌, ℕ, ◌+◌, ◌*◌, ◌<◌, ◌≤◌, Bool, true, false, List, [], ◌∷◌, ◌++◌, length, Option, Some, None, refl, ap, sym, subst, ◌∙◌, ⊎_elim, arith}
-use Rattle.std.specs.Prelude.{All, IfSome, ◌==◌, if◌then◌else◌}
+use Rattle.std.specs.Prelude.{All, IfSome, option_map, ◌==◌, if◌then◌else◌}
 use Rattle.std.proofs.lemmas.Bool.{eqb-true, eq-eqb, cases_Bool, false≢true}
 use Rattle.std.proofs.lemmas.List.{append-nil, get_or-replicate, length-replicate}
 use Rattle.std.proofs.lemmas.List.Elements.{All-nil, All-head, All-tail, All-push}
 use Rattle.mk_never.specs.declared.values.Value.{Value}
 use Rattle.mk_never.specs.declared.values.Value.TheVariants.{Null}
 use Rattle.mk_never.specs.declared.operations.Op.{Op}
-use Rattle.mk_never.specs.declared.operations.Op.TheVariants as op
 use Rattle.mk_never.specs.NeverHeap.{NeverState, Call, after_op, after_calls}
 use Rattle.mk_never.specs.Admitted.{IsOfKind, IsAdmitted, AreAdmitted}
 use Rattle.mk_never.specs.Laws.{Continues, KeepsRegisters}
@@ -16,11 +15,13 @@ use Rattle.mk_never.proofs.Registers as registers
 use Rattle.mk_never.proofs.TypedCalls as typed_calls
 use Rattle.mk_core.specs.declared.events.Answer.{Answer}
 use Rattle.mk_core.specs.declared.events.Answer.TheVariants as answer
+use Rattle.mk_core.specs.Decided.{flagged}
 use Rattle.mk_script.specs.declared.items.Item.{Item}
+use Rattle.mk_script.specs.declared.items.Item.TheVariants.{New}
 use Rattle.mk_script.specs.Scopes.{pointer_names, script_names}
-use Rattle.mk_check.specs.Blocks.{Blocks, Done, Line, Rounds, Choice, AllPlaced, AllFrom, blocks_from, script_of}
+use Rattle.mk_check.specs.Blocks.{Blocks, Done, Line, Rounds, Choice, AllPlaced, blocks_from, script_of}
 use Rattle.mk_check.specs.Declarations.{place_of, types_of, globals_of}
-use Rattle.mk_check.specs.Feed.{Fed, op_of, noted, note, with_answer, run, take_answer, take_answers, begun, started, scope_of, feed}
+use Rattle.mk_check.specs.Feed.{Scope, Fed, op_of, note, with_answer, run, take_answer, take_answers, begun, started, scope_of, feed}
 use Rattle.mk_check.specs.Feeding.{script_scope, next_op}
 use Rattle.mk_check.specs.Laws.{IsChecked, IsScript, ops_of_caller, AreNotedBy, AnswersAreNoted, OthersAreIgnored, heap_of, AreAdmittedFor, NextIsAdmitted, AreOfScripts}
 use Rattle.mk_check.specs.NamesInScope.{HasFew}
@@ -28,9 +29,9 @@ use Rattle.mk_check.proofs.AdmittedLines.{admitted, line_keeps}
 use Rattle.mk_check.proofs.DeclaredPlaces.{pointer_within}
 use Rattle.mk_check.proofs.DeclaredRegisters.{kind_at, AreAsDeclared, FitsScript}
 use Rattle.mk_check.proofs.FewNames.{text_has_few}
-use Rattle.mk_check.proofs.LinesLeft.{AllPlaced-run, AllPlaced-take_answers, placed_of_script, next_placed}
+use Rattle.mk_check.proofs.LinesLeft.{AllPlaced-run, AllPlaced-take_answers, placed_of_script, next_placed, next_stands}
 use Rattle.mk_check.proofs.Numbered.{run_agrees, ops-with_answer}
-use Rattle.mk_check.proofs.FeedLaws.{take_answers_push}
+use Rattle.mk_check.proofs.FeedLaws.{ops-feed_push}
 use Rattle.mk_check.proofs.TypedLines.{Says}
 use Rattle.mk_check.proofs.TypedScripts.{script_says}
 
@@ -42,12 +43,12 @@ record IsAsked (program script : List Item) (op : Op) : Type 0 where
   asked : Op
   is : op_of (scope_of program script) fed item ≡ Some asked
   answer : Answer
-  noted_so : op ≡ noted asked answer
+  noted_so : op ≡ flagged asked answer
 
--- without an answer it is as it is noted with this one
-noted_done : (o : Op) → noted o answer.Done ≡ o
-noted_done (op.New d ty full) = refl
-noted_done o = refl
+-- No line asks for a New that is full, so an operation is asked for as it is noted with this answer.
+flagged_asked : (scope : Scope) (fed : Fed) (item : Item) → option_map (λ o. flagged o answer.Done) (op_of scope fed item) ≡ op_of scope fed item
+flagged_asked scope fed (New pointer ty) = refl
+flagged_asked scope fed item = refl
 
 by_caller : {P : Type 0} (c caller : ℕ) → (c ≡ caller → P) → (c ≢ caller → P) → P
 by_caller c caller own other =
@@ -76,7 +77,7 @@ module _ (program script : List Item) (few : HasFew (scope_of program script)) w
       → (o : Option Op) → op_of (scope_of program script) fed item ≡ o → All Asked (note fed o line a).ops
   note_asked fed line item a says before None is = before
   note_asked fed line item a says before (Some o) is =
-      All-push Asked fed.ops (noted o a) before (record { item = item; says = says; fed = fed; asked = o; is = is; answer = a; noted_so = refl })
+      All-push Asked fed.ops (flagged o a) before (record { item = item; says = says; fed = fed; asked = o; is = is; answer = a; noted_so = refl })
 
   take_asked : (fed : Fed) (left : Blocks) (a : Answer) → AllPlaced (λ l. Says program script) left → All Asked fed.ops
       → All Asked (take_answer (scope_of program script) fed left a).ops
@@ -103,13 +104,13 @@ module _ (program script : List Item) (few : HasFew (scope_of program script)) w
   asked_admitted : (n : NeverState) (caller : ℕ) → FitsScript program script n caller → (o : Op) → Asked o → IsAdmitted (globals_of program) n caller o
   asked_admitted n caller fits o asked =
       subst (λ (x : Op). IsAdmitted (globals_of program) n caller x) (sym asked.noted_so)
-      (of_some (op_of (scope_of program script) asked.fed asked.item) (λ x. (a : Answer) → IsAdmitted (globals_of program) n caller (noted x a)) asked.asked asked.is
+      (of_some (op_of (scope_of program script) asked.fed asked.item) (λ x. (a : Answer) → IsAdmitted (globals_of program) n caller (flagged x a)) asked.asked asked.is
       (admitted program script few n caller fits asked.fed asked.item asked.says) asked.answer)
 
   own_keeps : (n : NeverState) (caller : ℕ) → FitsScript program script n caller → (o : Op) → Asked o → AreAsDeclared program script (after_op n caller o) caller
   own_keeps n caller fits o asked =
       subst (λ (x : Op). AreAsDeclared program script (after_op n caller x) caller) (sym asked.noted_so)
-      (of_some (op_of (scope_of program script) asked.fed asked.item) (λ x. (a : Answer) → AreAsDeclared program script (after_op n caller (noted x a)) caller) asked.asked asked.is
+      (of_some (op_of (scope_of program script) asked.fed asked.item) (λ x. (a : Answer) → AreAsDeclared program script (after_op n caller (flagged x a)) caller) asked.asked asked.is
       (line_keeps program script few n caller fits asked.fed asked.item asked.says) asked.answer)
 
   others_keep : (n : NeverState) (caller : ℕ) → AreAsDeclared program script n caller → (m : NeverState) → KeepsRegisters caller n m → AreAsDeclared program script m caller
@@ -193,29 +194,12 @@ other_op caller x differs = by_test (x.caller == caller) refl
     by_test true e = absurd (differs (eqb-true x.caller caller e))
     by_test false e = refl
 
-any_line : (P : Item → Type 0) → ((item : Item) → P item) → (line : ℕ) (items : List Item) → AllFrom (λ l. P) line items
-any_line P each line [] = tt
-any_line P each line (item ∷ items) = (each item, any_line P each (line + 1) items)
-
--- the answer is noted behind those before it
-answer_ops : (program : List Item) (k : ℕ) (answers : List Answer) (o : Op) (a : Answer) → next_op program k answers ≡ Some o
-    → (feed program k (answers ++ a ∷ [])).ops ≡ (feed program k answers).ops ++ noted o a ∷ []
-answer_ops program k answers o a e =
-    let scope = script_scope program k in
-    let fed = feed program k answers in
-    let at = next_placed (λ line item. Unit {0}) program k answers o (any_line (λ item. Unit {0}) (λ item. tt) (script_of program k).line (lines_of program k)) e in
-    let with_note = note fed (op_of scope fed at.item) at.line a in
-    ap (λ (f : Fed). f.ops) (take_answers_push scope (started scope (script_of program k)) answers a)
-    ∙ (ap (λ (left : Blocks). (take_answer scope fed left a).ops) at.left
-    ∙ ((run_agrees scope at.rest (with_answer scope with_note at.item a)).answers
-    ∙ (ops-with_answer scope with_note at.item a ∙ ap (λ (asked : Option Op). (note fed asked at.line a).ops) at.op)))
-
 pub answers_are_noted : (program : List Item) (k : ℕ) (answers : List Answer) (calls : List Call) → AreNotedBy program k answers calls
     → AnswersAreNoted program k answers calls
 answers_are_noted program k answers calls are o a e =
-    let call : Call = record { caller = k; op = noted o a } in
+    let call : Call = record { caller = k; op = flagged o a } in
     ops_push k calls call ∙ (ap (λ (ops : List Op). ops ++ ops_of_caller k (call ∷ [])) are
-    ∙ (ap (λ (ops : List Op). (feed program k answers).ops ++ ops) (own_op k (noted o a)) ∙ sym (answer_ops program k answers o a e)))
+    ∙ (ap (λ (ops : List Op). (feed program k answers).ops ++ ops) (own_op k (flagged o a)) ∙ sym (ops-feed_push program k answers a o e)))
 
 pub others_are_ignored : (program : List Item) (k : ℕ) (answers : List Answer) (calls : List Call) → AreNotedBy program k answers calls
     → OthersAreIgnored program k answers calls
@@ -238,10 +222,18 @@ noted_asked program k answers calls checked are =
     subst (All (IsAsked program (lines_of program k))) (sym are) (feed_asked program k answers checked)
 
 next_asked : (program : List Item) (k : ℕ) (answers : List Answer) (o : Op) (a : Answer) → IsChecked program → next_op program k answers ≡ Some o
-    → IsAsked program (lines_of program k) (noted o a)
+    → IsAsked program (lines_of program k) (flagged o a)
 next_asked program k answers o a checked e =
     let at = next_placed (λ line. Says program (lines_of program k)) program k answers o (script_says program k checked.well_typed) e in
     record { item = at.item; says = at.holds; fed = feed program k answers; asked = o; is = at.op; answer = a; noted_so = refl }
+
+flagged_next : (program : List Item) (k : ℕ) (answers : List Answer) (o : Op) → next_op program k answers ≡ Some o → flagged o answer.Done ≡ o
+flagged_next program k answers o e =
+    let at = next_stands program k answers o e in
+    some_value (ap (option_map (λ x. flagged x answer.Done)) (sym at.op) ∙ (flagged_asked (script_scope program k) (feed program k answers) at.item ∙ at.op))
+  where
+    some_value : {a b : Op} → Some a ≡ Some b → a ≡ b
+    some_value e = cc
 
 pub next_is_admitted : (program : List Item) (callers : ℕ) (calls : List Call) (k : ℕ) (answers : List Answer) → IsChecked program
     → length (script_names program) ≤ callers → IsScript program k → AreAdmittedFor program callers calls → AreNotedBy program k answers calls
@@ -253,9 +245,10 @@ next_is_admitted program callers calls k answers checked enough is_script admits
     let fits = calls_fit program script few (heap_of program callers) k calls (start_fits program script few callers k is_caller) admits
     (noted_asked program k answers calls checked are) in
     let noted_too = λ (o : Op) (a : Answer) (e : next_op program k answers ≡ Some o).
-    asked_admitted program script few (after_calls (heap_of program callers) calls) k fits (noted o a) (next_asked program k answers o a checked e) in
+    asked_admitted program script few (after_calls (heap_of program callers) calls) k fits (flagged o a) (next_asked program k answers o a checked e) in
     record {
-      asked = λ o e. subst (λ (x : Op). IsAdmitted (globals_of program) (after_calls (heap_of program callers) calls) k x) (noted_done o) (noted_too o answer.Done e);
+      asked = λ o e. subst (λ (x : Op). IsAdmitted (globals_of program) (after_calls (heap_of program callers) calls) k x)
+          (flagged_next program k answers o e) (noted_too o answer.Done e);
       noted = noted_too;
     }
 

@@ -3,9 +3,10 @@ use Rattle.std.proofs.Common.{◌≡◌, ℕ, true, List, [], ◌∷◌, ◌++�
 use Rattle.std.specs.Prelude.{Option, Some}
 use Rattle.mk_never.specs.declared.operations.Op.{Op}
 use Rattle.mk_core.specs.declared.events.Answer.{Answer}
+use Rattle.mk_core.specs.Decided.{flagged}
 use Rattle.mk_script.specs.declared.items.Item.{Item}
 use Rattle.mk_check.specs.Blocks.{Blocks, Done, Line, Rounds, Choice, is_done, script_of}
-use Rattle.mk_check.specs.Feed.{Scope, Fed, op_of, noted, with_answer, note, take_answer, take_answers, started, feed, has_ended}
+use Rattle.mk_check.specs.Feed.{Scope, Fed, op_of, with_answer, note, take_answer, take_answers, started, feed, has_ended}
 use Rattle.mk_check.specs.Feeding.{first_op, script_scope, next_op}
 use Rattle.mk_check.proofs.Numbered.{run_agrees, ops-with_answer}
 
@@ -31,7 +32,7 @@ feed_push-ended program k answers a h =
     feed_push program k answers a ∙ taken_at_end (script_scope program k) (feed program k answers) (feed program k answers).left a h
 
 ops_taken : (scope : Scope) (fed : Fed) (left : Blocks) (a : Answer) (o : Op) → first_op scope fed left ≡ Some o
-    → (take_answer scope fed left a).ops ≡ fed.ops ++ noted o a ∷ []
+    → (take_answer scope fed left a).ops ≡ fed.ops ++ flagged o a ∷ []
 ops_taken scope fed Done a o h = cc
 ops_taken scope fed (Line line item rest) a o h =
     (run_agrees scope rest (with_answer scope (note fed (op_of scope fed item) line a) item a)).answers
@@ -41,7 +42,7 @@ ops_taken scope fed (Choice number first second rest) a o h = cc
 
 -- The operation that is answered is noted behind those before it.
 pub ops-feed_push : (program : List Item) (k : ℕ) (answers : List Answer) (a : Answer) (o : Op) → next_op program k answers ≡ Some o
-    → (feed program k (answers ++ a ∷ [])).ops ≡ (feed program k answers).ops ++ noted o a ∷ []
+    → (feed program k (answers ++ a ∷ [])).ops ≡ (feed program k answers).ops ++ flagged o a ∷ []
 ops-feed_push program k answers a o h =
     ap (λ (f : Fed). f.ops) (feed_push program k answers a)
     ∙ ops_taken (script_scope program k) (feed program k answers) (feed program k answers).left a o h

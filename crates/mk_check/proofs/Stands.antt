@@ -4,13 +4,14 @@ use Rattle.std.specs.Prelude.{Option, Some, None, is_some}
 use Rattle.std.proofs.lemmas.List.{length_push, append_assoc}
 use Rattle.mk_never.specs.declared.operations.Op.{Op}
 use Rattle.mk_core.specs.declared.events.Answer.{Answer}
+use Rattle.mk_core.specs.Decided.{flagged}
 use Rattle.mk_script.specs.declared.items.Item.{Item}
 use Rattle.mk_check.specs.declared.feeding.instructions.Instruction.{Instruction}
 use Rattle.mk_check.specs.declared.feeding.instructions.Instruction.TheVariants.{Nothing, Const, Add, Sub, Print, Ask, Store, Load, Show}
 use Rattle.mk_check.specs.declared.feeding.tree.Node.{Node}
 use Rattle.mk_check.specs.declared.feeding.tree.Node.TheVariants as node
 use Rattle.mk_check.specs.Blocks.{Blocks, Done, Line, Rounds, Choice, ScriptText, script_of, blocks_from, is_done}
-use Rattle.mk_check.specs.Feed.{Scope, Fed, op_of, noted, refusal_line, refusal_text, number_of, shown, with_answer, note, take_answer, begun, feed, has_ended}
+use Rattle.mk_check.specs.Feed.{Scope, Fed, op_of, refusal_line, refusal_text, number_of, shown, with_answer, note, take_answer, begun, feed, has_ended}
 use Rattle.mk_check.specs.Steps.{Steps, then_steps, steps_of, instruction_of, Kept, Stopped, asked, with_text, answered, ran, ran_on}
 use Rattle.mk_check.specs.Steps as steps
 use Rattle.mk_check.specs.Trees.{Place, steps_at, trees, left_in, kept_in, stopped_in, with_kept, node_at, IsTree, IsWithin, StopsAt, HasStopped}
@@ -121,7 +122,7 @@ record Notes (fed : Fed) (noted : Fed) (line : ℕ) (a : Answer) : Type 0 where
 
 notes : (fed : Fed) (o : Option Op) (line : ℕ) (a : Answer) → is_some o ≡ true → Notes fed (note fed o line a) line a
 notes fed None line a h = cc
-notes fed (Some o) line a h = record { kept = refl; more = length_push fed.ops (noted o a) }
+notes fed (Some o) line a h = record { kept = refl; more = length_push fed.ops (flagged o a) }
 
 record Answers (scope : Scope) (fed : Fed) (line : ℕ) (item : Item) (rest : Blocks) (a : Answer) : Type 0 where
   stop : stopped_of scope (take_answer scope fed (Line line item rest) a) ≡ ran_on (steps_of scope (Line line item rest)) a (kept_of fed)

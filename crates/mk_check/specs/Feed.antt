@@ -1,11 +1,12 @@
 -- A script fed with answers: the operations that it asks for, and its text.
-use Rattle.std.specs.Prelude.{ℕ, zero, suc, ◌+◌, ◌-◌, ◌%◌, ◌^◌, Bool, true, false, List, [], ◌∷◌, ◌++◌, length, replicate, slice_index, slice_set, ◌==◌, if◌then◌else◌, Option, Some, None, is_some}
+use Rattle.std.specs.Prelude.{ℕ, zero, suc, ◌+◌, ◌-◌, ◌%◌, ◌^◌, Bool, false, List, [], ◌∷◌, ◌++◌, length, replicate, slice_index, slice_set, ◌==◌, if◌then◌else◌, Option, Some, None, is_some}
 use Rattle.std.specs.Fmt.{decimal}
 use lib.Chars.{codes}
 use Rattle.mk_never.specs.declared.operations.Op.{Op}
 use Rattle.mk_never.specs.declared.operations.Op.TheVariants as op
 use Rattle.mk_core.specs.declared.events.Answer.{Answer}
 use Rattle.mk_core.specs.declared.events.Answer.TheVariants as answer
+use Rattle.mk_core.specs.Decided.{flagged}
 use Rattle.mk_script.specs.declared.items.Item.{Item}
 use Rattle.mk_script.specs.declared.items.Item.TheVariants.{Heap, TypeLine, Global, Script, Ptr, Num, New, Free, Getn, Setn, Getp, Setp, Casp, Lea, Move, Clear, Loadg, Storeg, Same, Isnull, Show, Const, Add, Sub, Print, Repeat, If, Else, End}
 use Rattle.mk_script.specs.Scopes.{type_names, global_names, pointer_names, number_names}
@@ -99,11 +100,6 @@ run scope (Rounds rounds body rest) fed = then_run (run_rounds rounds body (run 
 run scope (Choice number first second rest) fed =
     then_run (if number_in scope fed number == 0 then run scope second fed else run scope first fed) (run scope rest) rest
 
--- a New is noted as full exactly where its answer is Full
-abbrev pub noted : Op → Answer → Op
-noted (op.New d ty full) answer.Full = op.New d ty true
-noted o a = o
-
 -- what is printed of an answer that refuses the instruction at this line
 abbrev pub refusal_text : Answer → List ℕ
 refusal_text answer.Done = []
@@ -140,7 +136,7 @@ with_answer scope fed item a = fed
 abbrev pub note : Fed → Option Op → ℕ → Answer → Fed
 note fed None line a = fed
 note fed (Some o) line a =
-    record fed { ops = fed.ops ++ noted o a ∷ []; text = fed.text ++ refusal_line line (refusal_text a) }
+    record fed { ops = fed.ops ++ flagged o a ∷ []; text = fed.text ++ refusal_line line (refusal_text a) }
 
 -- An operation's answer: the operation is noted, a refusal is printed, and the script runs on. A script that has ended takes none.
 abbrev pub take_answer : Scope → Fed → Blocks → Answer → Fed

@@ -4,12 +4,13 @@ use Rattle.mk_never.specs.declared.operations.Op.{Op}
 use Rattle.mk_never.specs.NeverHeap.{NeverState, Call, start_of, after_calls}
 use Rattle.mk_never.specs.Admitted.{IsAdmitted, AreAdmitted}
 use Rattle.mk_core.specs.declared.events.Answer.{Answer}
+use Rattle.mk_core.specs.Decided.{flagged}
 use Rattle.mk_script.specs.declared.items.Item.{Item}
 use Rattle.mk_script.specs.Scopes.{script_names}
 use Rattle.mk_script.specs.Grammar.{IsOfSomeText}
 use Rattle.mk_check.specs.Typing.{IsWellTyped}
 use Rattle.mk_check.specs.Declarations.{types_of, globals_of}
-use Rattle.mk_check.specs.Feed.{feed, noted}
+use Rattle.mk_check.specs.Feed.{feed}
 use Rattle.mk_check.specs.Feeding.{next_op}
 
 -- a program that is well typed, and the program of some text
@@ -33,7 +34,7 @@ AreNotedBy program k answers calls = ops_of_caller k calls ≡ (feed program k a
 -- Behind what script k asks for next, noted with any answer, the caller's operations are still those that the script notes.
 abbrev pub AnswersAreNoted : List Item → ℕ → List Answer → List Call → Type 0
 AnswersAreNoted program k answers calls = (op : Op) (answer : Answer) → next_op program k answers ≡ Some op
-    → AreNotedBy program k (answers ++ answer ∷ []) (calls ++ record { caller = k; op = noted op answer } ∷ [])
+    → AreNotedBy program k (answers ++ answer ∷ []) (calls ++ record { caller = k; op = flagged op answer } ∷ [])
 
 -- Behind a call of another, they are those that it noted.
 abbrev pub OthersAreIgnored : List Item → ℕ → List Answer → List Call → Type 0
@@ -54,7 +55,7 @@ OpIsAdmittedBehind program callers calls caller op = IsAdmitted (globals_of prog
 -- What script k asks for next is admitted behind the calls, as it is asked for and as it is noted with any answer.
 pub record NextIsAdmitted (program : List Item) (callers : ℕ) (calls : List Call) (k : ℕ) (answers : List Answer) : Type 0 where
   pub asked : (op : Op) → next_op program k answers ≡ Some op → OpIsAdmittedBehind program callers calls k op
-  pub noted : (op : Op) (answer : Answer) → next_op program k answers ≡ Some op → OpIsAdmittedBehind program callers calls k (noted op answer)
+  pub noted : (op : Op) (answer : Answer) → next_op program k answers ≡ Some op → OpIsAdmittedBehind program callers calls k (flagged op answer)
 
 -- some answers with which script k notes the caller's operations among the calls
 pub record HasAnswers (program : List Item) (k : ℕ) (calls : List Call) : Type 0 where

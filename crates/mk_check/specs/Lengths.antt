@@ -1,6 +1,5 @@
 -- How many instructions a script executes at most.
-use Rattle.std.specs.Prelude.{ℕ, ◌+◌, ◌*◌, max, Bool, true, false, if◌then◌else◌, List}
-use Rattle.mk_script.specs.declared.items.Item.{Item}
+use Rattle.std.specs.Prelude.{ℕ, ◌+◌, ◌*◌, max, if◌then◌else◌}
 use Rattle.mk_script.specs.Scopes.{is_instruction}
 use Rattle.mk_check.specs.Blocks.{Blocks, Done, Line, Rounds, Choice, ScriptText, blocks_from}
 

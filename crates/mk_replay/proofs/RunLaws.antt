@@ -16,13 +16,14 @@ use Rattle.mk_core.specs.declared.events.Seat.{Seat}
 use Rattle.mk_core.specs.declared.events.Seat.TheVariants as seat
 use Rattle.mk_core.specs.Moments.{flight_of}
 use Rattle.mk_core.specs.Effects.{answer_decided}
-use Rattle.mk_core.specs.History.{first_world, left, AreEnabled, Decided, entry_of, calls}
+use Rattle.mk_core.specs.Decided.{Decided, entry_of}
+use Rattle.mk_core.specs.History.{first_world, left, AreEnabled, calls}
 use Rattle.mk_core.proofs.Histories.{calls_more, last_enabled}
 use Rattle.mk_check.specs.declared.text.Text.{Text}
 use Rattle.mk_core.specs.Order.{seat_exists}
 use Rattle.mk_core.specs.Accesses.{caller_number}
 use Rattle.mk_core.specs.Enabled.{failing, IsEnabled}
-use Rattle.mk_core.specs.Standing.{CoreState, StandsFor as CoreStandsFor}
+use Rattle.mk_core.specs.Standing.{CoreState, CoreStandsFor}
 use Rattle.mk_core.proofs.Conditions.{enabled_meets}
 use Rattle.mk_replay.specs.declared.players.Player.{Player}
 use Rattle.mk_replay.specs.declared.replaying.Run.{Run}

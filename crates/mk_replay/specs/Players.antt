@@ -9,7 +9,7 @@ use Rattle.mk_core.specs.declared.events.Event.{Event}
 use Rattle.mk_core.specs.declared.events.Answer.{Answer}
 use Rattle.mk_core.specs.Effects.{answer_decided}
 use Rattle.mk_core.specs.History.{World, first_world, world_behind}
-use Rattle.mk_core.specs.Standing.{StandsFor as CoreStandsFor}
+use Rattle.mk_core.specs.Standing.{CoreStandsFor}
 use Rattle.mk_replay.specs.declared.players.Player.{Player}
 use Rattle.mk_replay.specs.declared.replaying.Run.{Run}
 use Rattle.mk_replay.specs.declared.replaying.ReplayStop.{ReplayStop}
