@@ -20,8 +20,6 @@ mod seats;
 mod stepping;
 mod stop_conditions;
 mod table;
-#[cfg(test)]
-mod tests;
 mod turn_conditions;
 
 pub use accesses::{Access, TableWord};
