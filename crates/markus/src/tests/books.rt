@@ -1,4 +1,6 @@
-use super::*;
+//! First fit, the counts and what is given back, on pages that are worked out by hand.
+
+use mk_books::{Census, Page, Place, census, due, first_fit, free_pages, freeable, words_held};
 use mk_geom::FREE_PAGE;
 
 /// A full block of cells of 32 words, a leaf block with its cell 1 free, a block with its cell 0 free, a
@@ -47,24 +49,7 @@ fn carved(page: u64) -> Option<Place> {
 }
 
 #[test]
-fn a_pass_is_due_above_a_quarter(rt: HostRuntime) {
-    for (fresh, held, expected) in [
-        (16, 64, false),
-        (18, 64, true),
-        (u64::MAX, u64::MAX, true),
-        (0, 0, false),
-    ] {
-        assert_eq!(rt; due(fresh, held), expected, "{fresh} of {held}");
-    }
-}
-
-#[test]
-fn only_unmarked_cells_of_the_snapshot_are_freeable(rt: HostRuntime) {
-    assert_eq!(rt; freeable(0b111, 0b11 << 32, 0b01), 0b10);
-}
-
-#[test]
-fn objects_go_to_the_lowest_place(rt: HostRuntime) {
+fn books_are_those_of_the_pages(rt: HostRuntime) {
     for (limit, words, leaf, expected) in [
         (6, 32, false, cell(2, 0)),
         (6, 32, true, cell(1, 1)),
@@ -81,14 +66,9 @@ fn objects_go_to_the_lowest_place(rt: HostRuntime) {
             "{words} words, limit {limit}"
         );
     }
-    assert_eq!(rt;
-        first_fit(&[UNMAPPED, FREE_PAGE, FREE_PAGE], 2, 65, true),
-        carved(1)
-    );
-}
+    let behind = [UNMAPPED, FREE_PAGE, FREE_PAGE];
+    assert_eq!(rt; first_fit(&behind, 2, 65, true), carved(1));
 
-#[test]
-fn a_census_counts_pages_and_free_cells(rt: HostRuntime) {
     let mut free_cells = [0; 16];
     free_cells[7] = 1;
     free_cells[15] = 1;
@@ -100,22 +80,18 @@ fn a_census_counts_pages_and_free_cells(rt: HostRuntime) {
     };
     assert_eq!(rt; census(&FRAGMENTED), expected);
     assert_eq!(rt; free_pages(&FRAGMENTED), 2);
-
-    let reserved = census(&[UNMAPPED, FREE_PAGE, FREE_PAGE]);
-    assert_eq!(rt; reserved.resident, 0);
-    assert_eq!(rt; reserved.longest_range, 2);
-}
-
-#[test]
-fn taken_cells_and_mapped_runs_are_held(rt: HostRuntime) {
+    assert_eq!(rt; census(&behind).resident, 0);
+    assert_eq!(rt; census(&behind).longest_range, 2);
     assert_eq!(rt; words_held(&FRAGMENTED), 64 + 32 + 32 + 64);
-    assert_eq!(rt; words_held(&[UNMAPPED, FREE_PAGE]), 0);
-}
+    assert_eq!(rt; words_held(&behind), 0);
 
-#[test]
-fn a_book_keeps_what_is_set(rt: HostRuntime) -> Result<(), NoMemory> {
-    let mut book = Book::new(rt.alloc(), 3)?;
-    book.set(1, UNMAPPED);
-    assert_eq!(rt; book.pages(), [FREE_PAGE, UNMAPPED, FREE_PAGE].as_slice());
-    Ok(())
+    for (fresh, held, expected) in [
+        (16, 64, false),
+        (18, 64, true),
+        (u64::MAX, u64::MAX, true),
+        (0, 0, false),
+    ] {
+        assert_eq!(rt; due(fresh, held), expected, "{fresh} of {held}");
+    }
+    assert_eq!(rt; freeable(0b111, 0b11 << 32, 0b01), 0b10);
 }
