@@ -124,7 +124,8 @@ host_acts c m x h = by (group_of x) refl
     ]
 
 -- where no caller is astray, each event that meets the conditions is one of these
-pub acts : (c : Config) (m : Moment) (seat : Seat) (x : Step) → ((k : ℕ) → k < c.callers → is_astray (standing (flight_of m (Caller k))) ≡ false) → Meets c m seat x → Actor c m seat x
+pub acts : (c : Config) (m : Moment) (seat : Seat) (x : Step) → ((k : ℕ) → k < c.callers → is_astray (standing (flight_of m (Caller k))) ≡ false)
+    → Meets c m seat x → Actor c m seat x
 acts c m (Caller k) x a h = caller_acts c m k x h (a k (ltb-true k c.callers h.seat))
 acts c m (Marker k) x a h = marker_acts c m k x h
 acts c m Host x a h = host_acts c m x h

@@ -37,7 +37,7 @@ use Rattle.mk_protocol.proofs.Actors.{Meets}
 use Rattle.mk_protocol.proofs.Protocols.{not_astray, actor_of, protocol_of}
 use Rattle.mk_protocol.proofs.Readings.{in_counts}
 use Rattle.mk_protocol.proofs.Known.{Known, known_behind, known_left, holds_turn}
-use Rattle.mk_protocol.proofs.OthersMoves.{WorldBehind, OthersMove, Waits, Calls, Marks, MarkerWrite, ComesIn, gate_one, others_move}
+use Rattle.mk_protocol.proofs.OthersMoves.{with_words_seats, WorldBehind, OthersMove, Waits, Calls, Marks, MarkerWrite, ComesIn, gate_one, others_move}
 use Rattle.mk_protocol.proofs.Growth.{grows_same, grows_joined}
 use Rattle.mk_protocol.proofs.TurnFrame.{holding_out, turn_after, turn_same, turn_joined}
 use Rattle.mk_protocol.proofs.RegisterSteps.{register_step, others_registers}
@@ -62,7 +62,8 @@ others_marker c w seat (Caller k) x ne = refl
 others_marker c w seat Host x ne = refl
 
 -- A seat that holds the turn holds it still, behind an event of another.
-others_out : (c : Config) (w : World) (seat s : Seat) (x : Step) → Known c w.now → Meets c w.now seat x → seat ≢ s → Holds c w.now s → OthersMove c w seat (WorldBehind c w seat x)
+others_out : (c : Config) (w : World) (seat s : Seat) (x : Step) → Known c w.now → Meets c w.now seat x → seat ≢ s → Holds c w.now s
+    → OthersMove c w seat (WorldBehind c w seat x)
 others_out c w seat s x known h ne holds =
     let t = holds_turn c w.now s known.orderly holds in
     let turn = turn_of c (view_of w.now) s known.orderly t in
@@ -90,13 +91,16 @@ own_after c w seat s x known h ne =
       holding = λ holds.
           let move = others_out c w seat s x known h ne holds in
           let turn = turn_after c w seat (WorldBehind c w seat x) known move in
-          (still_holds c s w (WorldBehind c w seat x) (others_flight c w seat s x ne) (ap (λ (y : Steady). y.turn) turn.steady) holds, holding_out c w seat (WorldBehind c w seat x) move);
+          (still_holds c s w (WorldBehind c w seat x) (others_flight c w seat s x ne) (ap (λ (y : Steady). y.turn) turn.steady) holds,
+          holding_out c w seat (WorldBehind c w seat x) move);
     }
 
 -- a call in flight is that of a caller, whose gate is 1
 in_call_gate : (c : Config) (m : Moment) (k : ℕ) → Known c m → is_in_call (flight_of m (Caller k)) ≡ true → (k < c.callers) × (slice_index m.words.gates k ≡ 1)
 in_call_gate c m k known is = elim (cases_lt k c.callers) [
-  | inl lt ↦ (lt, gate_one c m k known lt (in_call_is (standing (flight_of m (Caller k))) (in_call_told (flight_of m (Caller k)).stage (flight_of m (Caller k)).op (not_astray c m known.orderly k lt) ∙ is)))
+  | inl lt ↦
+      let f = flight_of m (Caller k) in
+      (lt, gate_one c m k known lt (in_call_is (standing f) (in_call_told f.stage f.op (not_astray c m known.orderly k lt) ∙ is)))
   | inr past ↦
       let f : false ≡ true = ap (λ (g : Flight). is_in_call g) (sym (get_or_past m.seats.flights k at_rest (omega (arith, known.orderly.flights)))) ∙ is in
       cc
@@ -112,11 +116,12 @@ mapped_after c w seat Host x known h ne call p is = absurd call
 
 -- Where all other gates are held, callers do nothing, and markers don't change what callers do.
 marks_leave : (w : World) (k : ℕ) (y : MarkerState) (ms : List MarkerState) (x : Words) → MarkerWrite k w.now y x
-    → written_of (record { now = record { words = x; seats = record w.now.seats { markers = ms }; fresh_words = w.now.fresh_words }; allocations = w.allocations }) ≡ written_of w
+    → written_of (with_words_seats w x (record w.now.seats { markers = ms })) ≡ written_of w
 marks_leave w k y ms x (ComesIn a) = refl
 marks_leave w k y ms x _ = refl
 
-stop_out : (c : Config) (w : World) (seat s : Seat) (v : World) → OthersMove c w seat v → seat ≢ s → Holds c w.now s → others_are_held c.callers w.now.words s ≡ true → written_of v ≡ written_of w
+stop_out : (c : Config) (w : World) (seat s : Seat) (v : World) → OthersMove c w seat v → seat ≢ s → Holds c w.now s
+    → others_are_held c.callers w.now.words s ≡ true → written_of v ≡ written_of w
 stop_out c w seat s v Waits ne holds all = refl
 stop_out c w seat s v (Calls {k} f {x} lt le write) ne holds all =
     let two = others_held c w.now s all k lt (λ e. ne (same s k lt holds e)) in
@@ -223,7 +228,8 @@ record CountsNothing (c : Config) (w : World) (es : List Event) : Type 0 where
   none_ends : ends es ≡ 0
   none_full : fulls_of (calls_from c w es) ≡ 0
 
-counts_later : (c : Config) (s : Seat) (w : World) (es : List Event) → Known c w.now → AreEnabledFrom c w es → AreOfOthers (s ∷ []) es → Holds c w.now s → CountsNothing c w es
+counts_later : (c : Config) (s : Seat) (w : World) (es : List Event) → Known c w.now → AreEnabledFrom c w es → AreOfOthers (s ∷ []) es
+    → Holds c w.now s → CountsNothing c w es
 unfolding calls_from AreEnabledFrom AreOfOthers
 counts_later c s w [] k on others holds = record { none_ends = refl; none_full = refl }
 counts_later c s w (e ∷ es) k on others holds =
@@ -244,7 +250,9 @@ counts_left : (c : Config) (es more : List Event) → CountsNothing c (left c es
 counts_left c es more h =
     record {
       ends = sum_by-append (λ (x : Event). cond {A = ℕ} (is_end x.step) 1 0) es more ∙ (let r = h.none_ends in omega arith);
-      fulls = ap (λ (ds : List Decided). fulls_of ds) (calls_append c (first_world c) es more) ∙ fulls_append (calls c es) (calls_from c (left c es) more) ∙ (let r = h.none_full in omega arith);
+      fulls =
+          ap (λ (ds : List Decided). fulls_of ds) (calls_append c (first_world c) es more) ∙ fulls_append (calls c es) (calls_from c (left c es) more)
+          ∙ (let r = h.none_full in omega arith);
     }
 
 -- the law
@@ -271,7 +279,9 @@ is_left c s es more l known counts =
     record {
       own = l.own;
       in_call = λ k is call. record {
-        gate = (in_call_gate c (left c (es ++ more)).now k known (subst (λ (t : Seat). IsInCall (left c (es ++ more)).now t) is (still_calls c s (left c es) (left c (es ++ more)) l.own call))).1;
+        gate =
+            (in_call_gate c (left c (es ++ more)).now k known
+            (subst (λ (t : Seat). IsInCall (left c (es ++ more)).now t) is (still_calls c s (left c es) (left c (es ++ more)) l.own call))).1;
         mapped = l.mapped call;
       };
       turn = λ holds. (l.turn holds, counts holds);

@@ -51,7 +51,8 @@ works_served c v seat f i h t s =
 works_shown : (c : Config) (v : View) (seat : Seat) (f : Flight) (i : Holding) → Orderly c v → HoldsTurn c v seat → Service (flight_at v.flights seat) v.holding f i
     → AllShow c.callers v.turn v.gates (flights_with v.flights seat f)
 works_shown c v seat f i h t s =
-    all_but_seat c v.turn seat v.gates v.flights f (holder_shows c v seat f h t (λ is. service_stands (flight_at v.flights seat) v.holding f i is s)) (λ b lb ne. h.each b lb)
+    all_but_seat c v.turn seat v.gates v.flights f (holder_shows c v seat f h t (λ is. service_stands (flight_at v.flights seat) v.holding f i is s))
+    (λ b lb ne. h.each b lb)
 
 -- a gate of another is set
 gate_shown : (c : Config) (v : View) (j x : ℕ) → c.callers ≤ 16 → Orderly c v → j < c.callers → Shows v.turn x j (standing (flight_in v j))
@@ -159,7 +160,9 @@ kept c v seat n small h (GoesOn {k} f lt was is) =
       gates = h.gates;
       markers = h.markers;
       turn = h.turn;
-      each = all_but_flight c.callers v.turn k v.gates v.flights f (omega (arith, h.flights)) (subst (λ (x : Standing). Shows v.turn (gate_in v k) k x) (sym is) s) (λ b lb ne. h.each b lb);
+      each =
+          all_but_flight c.callers v.turn k v.gates v.flights f (omega (arith, h.flights))
+          (subst (λ (x : Standing). Shows v.turn (gate_in v k) k x) (sym is) s) (λ b lb ne. h.each b lb);
       served = others_served c v k f h s.1;
       free = h.free;
       phase = h.phase;
@@ -177,7 +180,9 @@ kept c v seat n small h (Leaves {k} lt was) =
       gates = length-set v.gates k 0 ∙ h.gates;
       markers = h.markers;
       turn = h.turn;
-      each = all_but_both c.callers v.turn k 0 v.gates v.flights at_rest (omega (arith, h.gates)) (omega (arith, h.flights)) (λ e. absurd (omega arith), omega arith, λ e. refl, s.1) h.each;
+      each =
+          all_but_both c.callers v.turn k 0 v.gates v.flights at_rest (omega (arith, h.gates)) (omega (arith, h.flights))
+          (λ e. absurd (omega arith), omega arith, λ e. refl, s.1) h.each;
       served = others_served c v k at_rest h s.1;
       free = h.free;
       phase = h.phase;
@@ -194,7 +199,8 @@ kept c v seat n small h (Takes f z may) =
       markers = h.markers;
       turn = omega (arith, taker_number c v seat f may);
       each = all_but_seat c (1 + holder_number c seat) seat v.gates v.flights f (taker_shows c v seat f h z may)
-          (λ b lb ne. shows_taken (gate_in v b) b (holder_number c seat) (standing (flight_in v b)) ne (subst (λ t. Shows t (gate_in v b) b (standing (flight_in v b))) z (h.each b lb)));
+          (λ b lb ne. shows_taken (gate_in v b) b (holder_number c seat) (standing (flight_in v b)) ne
+          (subst (λ t. Shows t (gate_in v b) b (standing (flight_in v b))) z (h.each b lb)));
       served = nothing_served _ _;
       free = λ e. absurd (omega arith);
       phase = h.phase;
@@ -246,7 +252,9 @@ kept c v seat n small h (Holds j t lj ne was) =
       gates = length-set v.gates j 2 ∙ h.gates;
       markers = h.markers;
       turn = h.turn;
-      each = gate_shown c v j 2 small h lj (shows_held v.turn j (holder_number c seat) (standing (flight_in v j)) ne turn (subst (λ x. Shows v.turn x j (standing (flight_in v j))) was (h.each j lj)));
+      each =
+          gate_shown c v j 2 small h lj
+          (shows_held v.turn j (holder_number c seat) (standing (flight_in v j)) ne turn (subst (λ x. Shows v.turn x j (standing (flight_in v j))) was (h.each j lj)));
       served = h.served;
       free = λ e. absurd (omega arith);
       phase = h.phase;
@@ -263,7 +271,9 @@ kept c v seat n small h (Opens j t lj ne was open3) =
       gates = length-set v.gates j 0 ∙ h.gates;
       markers = h.markers;
       turn = h.turn;
-      each = gate_shown c v j 0 small h lj (shows_opened v.turn j (holder_number c seat) (standing (flight_in v j)) ne turn (subst (λ x. Shows v.turn x j (standing (flight_in v j))) was (h.each j lj)));
+      each =
+          gate_shown c v j 0 small h lj
+          (shows_opened v.turn j (holder_number c seat) (standing (flight_in v j)) ne turn (subst (λ x. Shows v.turn x j (standing (flight_in v j))) was (h.each j lj)));
       served = h.served;
       free = λ e. absurd (omega arith);
       phase = h.phase;

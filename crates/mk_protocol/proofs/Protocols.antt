@@ -22,6 +22,7 @@ use Rattle.mk_protocol.specs.Protocol.{is_decided_new, is_decided_free, SomeCall
 use Rattle.mk_protocol.proofs.Standings.{Resting, standing, is_astray, is_standing_in_call, Shows, shown_not_astray, shows_turn, shows_gate, in_call_told, in_turn_told, stage_told}
 use Rattle.mk_protocol.proofs.Services.{nothing_served}
 use Rattle.mk_protocol.proofs.Views.{view_of, flight_in, gate_in}
+use Rattle.mk_protocol.proofs.Moves.{Move}
 use Rattle.mk_protocol.proofs.Orderly.{Orderly}
 use Rattle.mk_protocol.proofs.Kept.{kept}
 use Rattle.mk_protocol.proofs.Actors.{Meets, Actor, acts}
@@ -35,13 +36,18 @@ not_astray c m h k lt = shown_not_astray m.words.turn (gate_in (view_of m) k) k 
 pub actor_of : (c : Config) (m : Moment) (seat : Seat) (x : Step) → Orderly c (view_of m) → Meets c m seat x → Actor c m seat x
 actor_of c m seat x o h = acts c m seat x (not_astray c m o) h
 
+pub event_moves : (c : Config) (m : Moment) (seat : Seat) (x : Step) → Orderly c (view_of m) → Meets c m seat x → Move c (view_of m) seat (view_of (Behind c m seat x))
+event_moves c m seat x o h = moves c m seat x (not_astray c m o) (actor_of c m seat x o h) h
+
 -- one event, and many
 
-pub orderly_behind : (c : Config) (m : Moment) (seat : Seat) (x : Step) → c.callers ≤ 16 → Orderly c (view_of m) → Meets c m seat x → Orderly c (view_of (Behind c m seat x))
+pub orderly_behind : (c : Config) (m : Moment) (seat : Seat) (x : Step) → c.callers ≤ 16 → Orderly c (view_of m) → Meets c m seat x
+    → Orderly c (view_of (Behind c m seat x))
 orderly_behind c m seat x small o h =
-    kept c (view_of m) seat (view_of (Behind c m seat x)) small o (moves c m seat x (not_astray c m o) (actor_of c m seat x o h) h)
+    kept c (view_of m) seat (view_of (Behind c m seat x)) small o (event_moves c m seat x o h)
 
-pub orderly_from : (c : Config) (w : World) (es : List Event) → c.callers ≤ 16 → Orderly c (view_of w.now) → AreEnabledFrom c w es → Orderly c (view_of (left_from c w es).now)
+pub orderly_from : (c : Config) (w : World) (es : List Event) → c.callers ≤ 16 → Orderly c (view_of w.now) → AreEnabledFrom c w es
+    → Orderly c (view_of (left_from c w es).now)
 unfolding left_from AreEnabledFrom
 orderly_from c w [] small o on = o
 orderly_from c w (e ∷ es) small o on =
@@ -79,7 +85,8 @@ orderly_at_first c small =
 -- what is in order is as the protocol says
 
 -- the holder is a caller, where its call is so and no call is astray
-some_caller : (c : Config) (m : Moment) (test : Flight → Bool) → Orderly c (view_of m) → test at_rest ≡ false → test (flight_in (view_of m) (m.words.turn - 1)) ≡ true → SomeCaller c m test
+some_caller : (c : Config) (m : Moment) (test : Flight → Bool) → Orderly c (view_of m) → test at_rest ≡ false
+    → test (flight_in (view_of m) (m.words.turn - 1)) ≡ true → SomeCaller c m test
 some_caller c m test o rests is = elim (cases_lt (m.words.turn - 1) c.callers) [
   | inl lt ↦ record { caller = m.words.turn - 1; within = lt; holds = is }
   | inr past ↦

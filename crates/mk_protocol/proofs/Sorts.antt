@@ -98,7 +98,8 @@ entered v k o b =
       flights = slice_set v.flights k ((if b then record { flight = begun o; answer = None } else still (flight_in v k)).flight);
     }
 
-enter_move : (c : Config) (m : Moment) (k : ℕ) (o : Op) → k < c.callers → standing (flight_of m (Caller k)) ≡ Resting → is_under_turn o ≡ false → Moves c m (Caller k) (step.Enter o)
+enter_move : (c : Config) (m : Moment) (k : ℕ) (o : Op) → k < c.callers → standing (flight_of m (Caller k)) ≡ Resting → is_under_turn o ≡ false
+    → Moves c m (Caller k) (step.Enter o)
 enter_move c m k o lt was out = elim (cases_eq (slice_index m.words.gates k) 0) [
   | inl z ↦
       subst (λ (b : Bool). Move c (view_of m) (Caller k) (entered (view_of m) k o b)) (sym (eq-eqb (slice_index m.words.gates k) 0 z))
@@ -109,7 +110,8 @@ enter_move c m k o lt was out = elim (cases_eq (slice_index m.words.gates k) 0) 
 ]
 
 -- `reg`, in a call outside the turn or of a Free
-reg_move : (c : Config) (m : Moment) (k : ℕ) → k < c.callers → is_reg_stage (flight_of m (Caller k)).stage ≡ true → is_astray (standing (flight_of m (Caller k))) ≡ false → Moves c m (Caller k) step.Reg
+reg_move : (c : Config) (m : Moment) (k : ℕ) → k < c.callers → is_reg_stage (flight_of m (Caller k)).stage ≡ true
+    → is_astray (standing (flight_of m (Caller k))) ≡ false → Moves c m (Caller k) step.Reg
 reg_move c m k lt is a =
     with_words c (view_of m) (Caller k) m.words (accessed m.words (reached c m e) (access c m e)) _ m.seats.holding m.seats.markers
     (reg_keeps m.words k (register_met f f.stage) (reg_access f f.stage))
@@ -128,23 +130,28 @@ reg_move c m k lt is a =
         → Move c (view_of m) (Caller k) (record (view_of m) { flights = slice_set m.seats.flights k g })
     by Resting was same = absurd (regs_work (flight_of m (Caller k)).stage (flight_of m (Caller k)).op is was)
     by InCall was same = GoesOn g lt was (same ∙ was)
-    by UnderTurn was same = Works g m.seats.holding (lt, was) (Loads g (loads_under_turn f.stage f.op is was) (same ∙ was) (reg_no_new f.stage f.op f.q f.p f.r f.loaded (found c m e) is was))
+    by UnderTurn was same =
+        Works g m.seats.holding (lt, was)
+        (Loads g (loads_under_turn f.stage f.op is was) (same ∙ was) (reg_no_new f.stage f.op f.q f.p f.r f.loaded (found c m e) is was))
     by Astray was same = let y : true ≡ false = ap is_astray (sym was) ∙ a in cc
 
 -- the other steps of a call
-on : (c : Config) (m : Moment) (k : ℕ) (x : Step) → Meets c m (Caller k) x → has_stage_of_its_own x ≡ true → is_call_stage (stage_of x) ≡ true → is_astray (standing (flight_of m (Caller k))) ≡ false
+on : (c : Config) (m : Moment) (k : ℕ) (x : Step) → Meets c m (Caller k) x → has_stage_of_its_own x ≡ true → is_call_stage (stage_of x) ≡ true
+    → is_astray (standing (flight_of m (Caller k))) ≡ false
     → standing (flight_of m (Caller k)) ≡ InCall
 on c m k x h own is a =
     let f = flight_of m (Caller k) in
     calls_stand f.stage f.op (ap is_call_stage (at_its_stage f.stage f.op x own h.order) ∙ is) a
 
-onward_from : (c : Config) (m : Moment) (k : ℕ) (x : Step) → Meets c m (Caller k) x → has_stage_of_its_own x ≡ true → goes_on (stage_of x) ≡ true → standing (flight_of m (Caller k)) ≡ InCall
+onward_from : (c : Config) (m : Moment) (k : ℕ) (x : Step) → Meets c m (Caller k) x → has_stage_of_its_own x ≡ true → goes_on (stage_of x) ≡ true
+    → standing (flight_of m (Caller k)) ≡ InCall
     → standing_at (stage_behind (flight_of m (Caller k)).stage (steps_of (flight_of m (Caller k)).op)) (flight_of m (Caller k)).op ≡ InCall
 onward_from c m k x h own is was =
     let f = flight_of m (Caller k) in
     onward_stands f.stage f.op was (ap goes_on (at_its_stage f.stage f.op x own h.order) ∙ is)
 
-pub call_moves : (c : Config) (m : Moment) (k : ℕ) (x : Step) → k < c.callers → group_of x ≡ group.Callers → is_astray (standing (flight_of m (Caller k))) ≡ false → Meets c m (Caller k) x → Moves c m (Caller k) x
+pub call_moves : (c : Config) (m : Moment) (k : ℕ) (x : Step) → k < c.callers → group_of x ≡ group.Callers
+    → is_astray (standing (flight_of m (Caller k))) ≡ false → Meets c m (Caller k) x → Moves c m (Caller k) x
 call_moves c m k (step.Enter o) lt g a h =
     let s = at_enter (flight_of m (Caller k)).stage (flight_of m (Caller k)).op o h.order in
     enter_move c m k o lt (ap (λ (t : Stage). standing_at t (flight_of m (Caller k)).op) s.0) s.1
@@ -183,7 +190,9 @@ pub marker_moves : (c : Config) (m : Moment) (k : ℕ) (x : Step) → k < 8 → 
 marker_moves c m k step.Attend lt g h =
     Attends _ lt (not_from_true _ h.marker) (attends_in (m.words.phase % 8 == 1)) (attends_at m.words.phase) (record { scan = refl; hand = refl; seen = refl })
 marker_moves c m k step.Quit lt g h = Quits lt h.marker
-marker_moves c m k (step.Mlook w) lt g h = Scans _ lt (work_stays c (finds c m (Marker k) (step.Mlook w)) (step.Mlook w) (marker_of m k) refl) (work_idles c (finds c m (Marker k) (step.Mlook w)) (step.Mlook w) (marker_of m k) h.marker refl)
+marker_moves c m k (step.Mlook w) lt g h =
+    Scans _ lt (work_stays c (finds c m (Marker k) (step.Mlook w)) (step.Mlook w) (marker_of m k) refl)
+    (work_idles c (finds c m (Marker k) (step.Mlook w)) (step.Mlook w) (marker_of m k) h.marker refl)
 marker_moves c m k (step.Claim p i) lt g h = Scans _ lt refl (work_idles c (finds c m (Marker k) (step.Claim p i)) (step.Claim p i) (marker_of m k) h.marker refl)
 marker_moves c m k step.Mload lt g h = Scans _ lt refl (work_idles c (finds c m (Marker k) step.Mload) step.Mload (marker_of m k) h.marker refl)
 marker_moves c m k step.Mmark lt g h = Scans _ lt refl (work_idles c (finds c m (Marker k) step.Mmark) step.Mmark (marker_of m k) h.marker refl)
@@ -200,7 +209,8 @@ taken_by v k o b =
       holding = if b then nothing_done else v.holding;
     }
 
-pub call_takes : (c : Config) (m : Moment) (k : ℕ) (o : Op) → k < c.callers → (flight_of m (Caller k)).stage ≡ stage.Idle → is_under_turn o ≡ true → Moves c m (Caller k) (step.Take (Some o))
+pub call_takes : (c : Config) (m : Moment) (k : ℕ) (o : Op) → k < c.callers → (flight_of m (Caller k)).stage ≡ stage.Idle → is_under_turn o ≡ true
+    → Moves c m (Caller k) (step.Take (Some o))
 call_takes c m k o lt idle is = elim (cases_eq m.words.turn 0) [
   | inl z ↦
       subst (λ (b : Bool). Move c (view_of m) (Caller k) (taken_by (view_of m) k o b)) (sym (eq-eqb m.words.turn 0 z))
@@ -278,8 +288,10 @@ by_kind c m seat (step.Used p v) t n h =
 by_kind c m seat (step.Quar p v) t n h = works c m seat _ _ t (quarantines c.pages m.words (flight_of m seat) m.seats.holding p v)
 by_kind c m seat step.Grant t n h = works c m seat _ _ t (Grants (grants_new c m seat h))
 by_kind c m seat (step.Tally n v) t _ h =
-    with_words c (view_of m) seat m.words (accessed m.words (Named (tally_word n)) (Store v)) _ m.seats.holding m.seats.markers (tally_keeps m.words n v) (works_on c m seat t)
-by_kind c m seat (step.Hold j) t n h = let o = other_caller c seat j h.range in stays_at c m seat (view_of (Behind c m seat (step.Hold j))) (hold_move c m seat j t o.0 o.1)
+    with_words c (view_of m) seat m.words (accessed m.words (Named (tally_word n)) (Store v)) _ m.seats.holding m.seats.markers
+    (tally_keeps m.words n v) (works_on c m seat t)
+by_kind c m seat (step.Hold j) t n h =
+    let o = other_caller c seat j h.range in stays_at c m seat (view_of (Behind c m seat (step.Hold j))) (hold_move c m seat j t o.0 o.1)
 by_kind c m seat (step.Open j) t n h =
     let o = other_caller c seat j h.range in
     stays_at c m seat (view_of (Behind c m seat (step.Open j)))
@@ -292,7 +304,8 @@ by_kind c m seat (step.Mark p v) t n h =
     (chooses c m (flight_of m seat)) (Goes m.seats.holding refl refl))
 by_kind c m seat (step.Wipe i) t n h = works_on c m seat t
 by_kind c m seat step.Full t n h =
-    works c m seat _ _ t (Fills (fills_new c m seat h) (full_unplaced c.resident m.words.pages (object_made c (flight_of m seat).op) m.seats.holding.placing m.seats.holding.cycle h.holder))
+    works c m seat _ _ t
+    (Fills (fills_new c m seat h) (full_unplaced c.resident m.words.pages (object_made c (flight_of m seat).op) m.seats.holding.placing m.seats.holding.cycle h.holder))
 by_kind c m seat step.Begin t n h = stays_at c m seat (view_of (Behind c m seat step.Begin)) (Phases _ t refl refl (Begins (eqb-true (phase_of m.words) 0 h.phase)))
 by_kind c m seat step.Close t n h =
     stays_at c m seat (view_of (Behind c m seat step.Close))
@@ -309,7 +322,8 @@ by_kind c m seat step.Over t n h =
 by_kind c m seat _ t n h = cc
 
 -- all kinds
-pub moves : (c : Config) (m : Moment) (seat : Seat) (x : Step) → ((k : ℕ) → k < c.callers → is_astray (standing (flight_of m (Caller k))) ≡ false) → Actor c m seat x → Meets c m seat x → Moves c m seat x
+pub moves : (c : Config) (m : Moment) (seat : Seat) (x : Step) → ((k : ℕ) → k < c.callers → is_astray (standing (flight_of m (Caller k))) ≡ false)
+    → Actor c m seat x → Meets c m seat x → Moves c m seat x
 moves c m seat x a (InCallOf k _ lt g) h = call_moves c m k x lt g (a k lt) h
 moves c m seat x a (AsMarker k _ lt g) h = marker_moves c m k x lt g h
 moves c m seat x a (CallTakes k o lt idle is) h = call_takes c m k o lt idle is
