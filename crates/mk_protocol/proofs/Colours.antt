@@ -26,7 +26,7 @@ use Rattle.mk_core.specs.Effects.{hand_given}
 use Rattle.mk_core.specs.Frames.{OnlyGrow}
 use Rattle.mk_protocol.proofs.Asked.{none_at}
 use Rattle.mk_protocol.proofs.Actors.{Meets}
-use Rattle.mk_protocol.proofs.Sorts.{Behind}
+use Rattle.mk_protocol.proofs.SameWords.{Behind}
 use Rattle.mk_protocol.proofs.Growth.{grows_same, grows_more}
 
 pub record Colours : Type 0 where

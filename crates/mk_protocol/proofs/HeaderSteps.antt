@@ -23,7 +23,7 @@ use Rattle.mk_core.specs.Moments.{Moment, flight_of, is_number_of, is_held, othe
 use Rattle.mk_core.specs.Accesses.{caller_number, register_met, reg_access, tally_word}
 use Rattle.mk_core.proofs.AllBelow.{all_below-at}
 use Rattle.mk_protocol.proofs.Actors.{Meets}
-use Rattle.mk_protocol.proofs.Sorts.{Behind}
+use Rattle.mk_protocol.proofs.SameWords.{Behind}
 
 -- what becomes of the pages
 pub data HeaderStep (w : Words) : List Page → Type 0 where

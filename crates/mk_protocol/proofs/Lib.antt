@@ -1,5 +1,6 @@
 pub mod Actors
 pub mod Asked
+pub mod CallMoves
 pub mod Colours
 pub mod Frames
 pub mod Ground
@@ -11,6 +12,7 @@ pub mod IdleMarkers
 pub mod InHeap
 pub mod Kept
 pub mod Known
+pub mod MarkerMoves
 pub mod Markers
 pub mod Moves
 pub mod NewPlace
@@ -19,11 +21,13 @@ pub mod Operands
 pub mod Orderly
 pub mod OthersCounts
 pub mod OthersMoves
+pub mod PhaseKept
 pub mod Protocols
 pub mod Reaching
 pub mod Readings
 pub mod RegisterSteps
 pub mod RunsInHeap
+pub mod SameWords
 pub mod ScansInHeap
 pub mod Services
 pub mod Shown

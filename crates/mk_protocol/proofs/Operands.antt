@@ -22,7 +22,7 @@ use Rattle.mk_core.specs.Effects.{progress, progress_freed}
 use Rattle.mk_core.specs.TurnConditions.{cell_freed}
 use Rattle.mk_core.specs.Ranges.{is_in_range}
 use Rattle.mk_protocol.proofs.Actors.{Meets}
-use Rattle.mk_protocol.proofs.Sorts.{Behind}
+use Rattle.mk_protocol.proofs.SameWords.{Behind}
 
 -- what a step makes of the operation in flight
 pub data OpStep (c : Config) (old : Op) : Op → Type 0 where

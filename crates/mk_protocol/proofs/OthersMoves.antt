@@ -31,7 +31,7 @@ use Rattle.mk_protocol.proofs.Views.{view_of, HoldsTurn}
 use Rattle.mk_protocol.proofs.Orderly.{shows_at}
 use Rattle.mk_protocol.proofs.Actors.{Meets, Actor, InCallOf, AsMarker, CallTakes, HostTakes, AsHolder}
 use Rattle.mk_protocol.proofs.IdleMarkers.{work_attends, look_stays}
-use Rattle.mk_protocol.proofs.Sorts.{attends_at}
+use Rattle.mk_protocol.proofs.MarkerMoves.{attends_at}
 use Rattle.mk_protocol.proofs.Markers.{count_in-at}
 use Rattle.mk_protocol.proofs.Protocols.{not_astray, actor_of}
 use Rattle.mk_protocol.proofs.Operands.{Operands, operands_of, register_small}

@@ -26,7 +26,8 @@ use Rattle.mk_protocol.proofs.Moves.{Move}
 use Rattle.mk_protocol.proofs.Orderly.{Orderly}
 use Rattle.mk_protocol.proofs.Kept.{kept}
 use Rattle.mk_protocol.proofs.Actors.{Meets, Actor, acts}
-use Rattle.mk_protocol.proofs.Sorts.{Behind, moves}
+use Rattle.mk_protocol.proofs.SameWords.{Behind}
+use Rattle.mk_protocol.proofs.Sorts.{moves}
 
 -- no call is astray, so each event is someone's
 

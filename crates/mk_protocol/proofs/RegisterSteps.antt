@@ -20,7 +20,7 @@ use Rattle.mk_core.specs.Calls.{d_of}
 use Rattle.mk_core.specs.Moments.{Moment, flight_of}
 use Rattle.mk_core.specs.Accesses.{register_met, reg_access, tally_word}
 use Rattle.mk_protocol.proofs.Actors.{Meets, grants_new}
-use Rattle.mk_protocol.proofs.Sorts.{Behind}
+use Rattle.mk_protocol.proofs.SameWords.{Behind}
 use Rattle.mk_protocol.proofs.Operands.{HaveOperands, Operands, operands_of, register_small}
 
 pub data RegisterStep (w : Words) : Seat → List ℕ → Type 0 where
