@@ -34,7 +34,8 @@ use Rattle.mk_protocol.proofs.Views.{view_of}
 use Rattle.mk_protocol.proofs.Orderly.{turn_of, same_holder}
 use Rattle.mk_protocol.proofs.Asked.{others_held}
 use Rattle.mk_protocol.proofs.Actors.{Meets}
-use Rattle.mk_protocol.proofs.Protocols.{not_astray, actor_of, protocol_of}
+use Rattle.mk_protocol.proofs.OrderlyLists.{not_astray, actor_of}
+use Rattle.mk_protocol.proofs.Protocols.{protocol_of}
 use Rattle.mk_protocol.proofs.Readings.{in_counts}
 use Rattle.mk_protocol.proofs.Known.{Known, known_behind, known_left, holds_turn}
 use Rattle.mk_protocol.proofs.OthersMoves.{with_words_seats, WorldBehind, OthersMove, Waits, Calls, Marks, MarkerWrite, ComesIn, gate_one, others_move}
@@ -75,12 +76,12 @@ still_holds c (Marker k) w v flight turn h = h
 still_holds c Host w v flight turn h = turn ∙ h
 
 -- what is left, by worlds
-record Left (c : Config) (s : Seat) (w v : World) : Type 0 where
-  own : OwnIsLeft c s w v
-  mapped : IsInCall w.now s → (p : ℕ) → is_unmapped_header (header_in w.now.words p) ≡ false → is_unmapped_header (header_in v.now.words p) ≡ false
-  turn : Holds c w.now s → TurnIsLeft w v
-  stop : HoldsAll c w.now s → written_of v ≡ written_of w
-  scan : Attends w.now s → OnlyGrow w.now.words.marks v.now.words.marks × OnlyGrow w.now.words.blacks v.now.words.blacks
+pub record Left (c : Config) (s : Seat) (w v : World) : Type 0 where
+  pub own : OwnIsLeft c s w v
+  pub mapped : IsInCall w.now s → (p : ℕ) → is_unmapped_header (header_in w.now.words p) ≡ false → is_unmapped_header (header_in v.now.words p) ≡ false
+  pub turn : Holds c w.now s → TurnIsLeft w v
+  pub stop : HoldsAll c w.now s → written_of v ≡ written_of w
+  pub scan : Attends w.now s → OnlyGrow w.now.words.marks v.now.words.marks × OnlyGrow w.now.words.blacks v.now.words.blacks
 
 own_after : (c : Config) (w : World) (seat s : Seat) (x : Step) → Known c w.now → Meets c w.now seat x → seat ≢ s → OwnIsLeft c s w (WorldBehind c w seat x)
 own_after c w seat s x known h ne =
@@ -141,7 +142,7 @@ scan_after c w seat (Caller k) x known h a = absurd a
 scan_after c w seat Host x known h a = absurd a
 
 -- one event of another seat
-left_after : (c : Config) (w : World) (seat s : Seat) (x : Step) → Known c w.now → Meets c w.now seat x → seat ≢ s → Left c s w (WorldBehind c w seat x)
+pub left_after : (c : Config) (w : World) (seat s : Seat) (x : Step) → Known c w.now → Meets c w.now seat x → seat ≢ s → Left c s w (WorldBehind c w seat x)
 left_after c w seat s x known h ne =
     record {
       own = own_after c w seat s x known h ne;
@@ -151,7 +152,7 @@ left_after c w seat s x known h ne =
       scan = scan_after c w seat s x known h;
     }
 
-left_same : (c : Config) (s : Seat) (w : World) → Left c s w w
+pub left_same : (c : Config) (s : Seat) (w : World) → Left c s w w
 left_same c s w =
     record {
       own = record { flight = refl; marker = refl; registers = λ k r is lt. refl; holding = λ holds. (holds, refl) };
@@ -184,7 +185,7 @@ still_stopped c s w u l all = (
   ap (λ (y : Written). all_below c.callers (λ j. is_number_of s j || (slice_index y.gates j == 2))) (l.stop all) ∙ all.1,
 )
 
-left_joined : (c : Config) (s : Seat) (w u v : World) → Left c s w u → Left c s u v → Left c s w v
+pub left_joined : (c : Config) (s : Seat) (w u v : World) → Left c s w u → Left c s u v → Left c s w v
 left_joined c s w u v a b =
     record {
       own = record {
@@ -209,12 +210,12 @@ same_seat (Caller k) = eq-eqb k k refl
 same_seat (Marker k) = eq-eqb k k refl
 same_seat Host = refl
 
-other_seat : (s seat : Seat) → is_one_of (s ∷ []) seat ≡ false → seat ≢ s
+pub other_seat : (s seat : Seat) → is_one_of (s ∷ []) seat ≡ false → seat ≢ s
 other_seat s seat h e =
     let f : true ≡ false = sym (ap (λ b. b || false) (same_seat s)) ∙ ap (λ (t : Seat). is_one_of (s ∷ []) t) (sym e) ∙ h in
     cc
 
-left_later : (c : Config) (s : Seat) (w : World) (es : List Event) → Known c w.now → AreEnabledFrom c w es → AreOfOthers (s ∷ []) es → Left c s w (left_from c w es)
+pub left_later : (c : Config) (s : Seat) (w : World) (es : List Event) → Known c w.now → AreEnabledFrom c w es → AreOfOthers (s ∷ []) es → Left c s w (left_from c w es)
 unfolding left_from AreEnabledFrom AreOfOthers
 left_later c s w [] k on others = left_same c s w
 left_later c s w (e ∷ es) k on others =
@@ -275,7 +276,7 @@ visit_left c Host m p i = absurd i
 is_left : (c : Config) (s : Seat) (es more : List Event) → Left c s (left c es) (left c (es ++ more)) → Known c (left c (es ++ more)).now
     → (Holds c (left c es).now s → CountsAreLeft c es (es ++ more)) → IsLeft c s es (es ++ more)
 is_left c s es more l known counts =
-    let p = protocol_of c (left c (es ++ more)).now known.orderly in
+    let p = protocol_of c (left c (es ++ more)).now known in
     record {
       own = l.own;
       in_call = λ k is call. record {

@@ -13,7 +13,7 @@ use Rattle.mk_core.specs.Accesses.{caller_number, register_met, reg_access}
 use Rattle.mk_core.specs.History.{World, first_world, world_behind, left_from, left}
 use Rattle.mk_core.specs.HeldGates.{is_hold_of, changes_gate, is_gate_held_from, is_gate_held}
 use Rattle.mk_protocol.proofs.SameWords.{Behind, reg_keeps, tally_keeps}
-use Rattle.mk_protocol.proofs.Protocols.{at_first}
+use Rattle.mk_protocol.proofs.OrderlyLists.{at_first}
 
 -- a gate that changes has the value that was set
 unchanged : (gs : List ℕ) (i : ℕ) → not (slice_index gs i == slice_index gs i) ≡ true → ⊥

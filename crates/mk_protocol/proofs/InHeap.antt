@@ -23,7 +23,7 @@ use Rattle.mk_core.proofs.Conditions.{enabled_meets}
 use Rattle.mk_core.proofs.Lengths.{zero_lengths, accessed_lengths}
 use Rattle.mk_protocol.proofs.Markers.{marker_set}
 use Rattle.mk_protocol.proofs.Actors.{Meets}
-use Rattle.mk_protocol.proofs.Protocols.{at_first}
+use Rattle.mk_protocol.proofs.OrderlyLists.{at_first}
 use Rattle.mk_protocol.proofs.Known.{Known, known_behind, known_at_first}
 use Rattle.mk_protocol.proofs.OthersMoves.{WorldBehind}
 use Rattle.mk_protocol.proofs.Ground.{ground_of, ground_step}

@@ -19,6 +19,7 @@ pub mod NewPlace
 pub mod NextSteps
 pub mod Operands
 pub mod Orderly
+pub mod OrderlyLists
 pub mod OthersCounts
 pub mod OthersMoves
 pub mod PhaseKept

@@ -31,7 +31,7 @@ use Rattle.mk_protocol.proofs.Views.{View, view_of, flight_in, flight_at, flight
 use Rattle.mk_protocol.proofs.Moves.{Move, Enters, GoesOn, Leaves, Takes, Gives as GivesTurn, Works}
 use Rattle.mk_protocol.proofs.Orderly.{same_holder}
 use Rattle.mk_protocol.proofs.Actors.{Meets}
-use Rattle.mk_protocol.proofs.Protocols.{event_moves}
+use Rattle.mk_protocol.proofs.OrderlyLists.{event_moves}
 use Rattle.mk_protocol.proofs.Known.{Known}
 use Rattle.mk_protocol.proofs.OthersMoves.{WorldBehind}
 use Rattle.mk_protocol.proofs.Ground.{Ground, GroundStep, Starts, Gives, Carves, Unmaps, TakesCell, Grants, Places, ground_step}

@@ -33,7 +33,7 @@ use Rattle.mk_protocol.proofs.Actors.{Meets, Actor, InCallOf, AsMarker, CallTake
 use Rattle.mk_protocol.proofs.IdleMarkers.{work_attends, look_stays}
 use Rattle.mk_protocol.proofs.MarkerMoves.{attends_at}
 use Rattle.mk_protocol.proofs.Markers.{count_in-at}
-use Rattle.mk_protocol.proofs.Protocols.{not_astray, actor_of}
+use Rattle.mk_protocol.proofs.OrderlyLists.{not_astray, actor_of}
 use Rattle.mk_protocol.proofs.Operands.{Operands, operands_of, register_small}
 use Rattle.mk_protocol.proofs.Known.{Known}
 
