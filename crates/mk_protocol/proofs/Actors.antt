@@ -107,7 +107,6 @@ host_takes c m (step.Take (Some o)) h t = absurd (never (host_has_turn c m) h.or
 host_takes c m _ h t = cc
 
 host_acts : (c : Config) (m : Moment) (x : Step) → Meets c m Host x → Actor c m Host x
-host_acts c m step.Over h = AsHolder Host step.Over (eqb-true m.words.turn (1 + c.callers) (over_holds c m h)) refl
 host_acts c m x h = by (group_of x) refl
   where
     by : (g : Group) → group_of x ≡ g → Actor c m Host x

@@ -91,9 +91,10 @@ own_after c w seat s x known h ne =
       registers = λ k r is lt. others_registers w.now.words seat _ k r (register_step c w.now seat x known.operands h) (λ e. ne (e ∙ sym is)) lt;
       holding = λ holds.
           let move = others_out c w seat s x known h ne holds in
-          let turn = turn_after c w seat (WorldBehind c w seat x) known move in
-          (still_holds c s w (WorldBehind c w seat x) (others_flight c w seat s x ne) (ap (λ (y : Steady). y.turn) turn.steady) holds,
-          holding_out c w seat (WorldBehind c w seat x) move);
+          let turn = turn_after c w seat (WorldBehind c w seat x) known move in (
+            still_holds c s w (WorldBehind c w seat x) (others_flight c w seat s x ne) (ap (λ (y : Steady). y.turn) turn.steady) holds,
+            holding_out c w seat (WorldBehind c w seat x) move,
+          );
     }
 
 -- a call in flight is that of a caller, whose gate is 1

@@ -56,9 +56,6 @@ first_fits : (resident : ℕ) (pages : List Page) (o : Object) (place : Place) �
     → is_small_object o ≡ false → place.page + run_pages_of o.words ≤ length pages
 first_fits resident pages o place is large = (run_place_is resident o.words o.leaf pages place (leb-false o.words 32 large) is).free.within
 
-same_some : (x y : Place) → Some x ≡ Some y → x ≡ y
-same_some x y e = cc
-
 in_fits : (c : Config) (pages : List Page) (o : Op) (placing : Placing) (place : Place) → length pages ≡ c.pages
     → ((y : Place) → held_place placing ≡ Some y → PlaceFits c o y)
     → place_in c.resident pages (object_made c o) placing ≡ Some place → PlaceFits c o place

@@ -10,11 +10,10 @@ use Rattle.mk_core.specs.declared.events.Step.{Step}
 use Rattle.mk_core.specs.declared.events.Event.{Event}
 use Rattle.mk_core.specs.declared.seats.Flight.{Flight}
 use Rattle.mk_core.specs.declared.seats.Marker.{Marker}
-use Rattle.mk_core.specs.Config.{IsWithinLimits}
 use Rattle.mk_core.specs.Calls.{at_rest}
 use Rattle.mk_core.specs.Moments.{Moment, first_moment, outside, flight_of}
 use Rattle.mk_core.specs.StopConditions.{is_attending}
-use Rattle.mk_core.specs.History.{World, first_world, world_behind, left_from, AreEnabledFrom}
+use Rattle.mk_core.specs.History.{World, world_behind, left_from, AreEnabledFrom}
 use Rattle.mk_core.proofs.Conditions.{enabled_meets}
 use Rattle.mk_protocol.proofs.Standings.{Resting, standing, is_astray, Shows, shown_not_astray}
 use Rattle.mk_protocol.proofs.Services.{nothing_served}
@@ -79,6 +78,3 @@ orderly_at_first c small =
         seen = ap (λ (x : Marker). x.seen) (at_first 8 k outside);
       };
     }
-
-pub orderly_left : (c : Config) (es : List Event) → IsWithinLimits c → AreEnabledFrom c (first_world c) es → Orderly c (view_of (left_from c (first_world c) es).now)
-orderly_left c es limits on = orderly_from c (first_world c) es limits.callers.1 (orderly_at_first c limits.callers.1) on
