@@ -7,6 +7,7 @@ pub mod Ground
 pub mod Growth
 pub mod HeaderSteps
 pub mod HeldGates
+pub mod Holders
 pub mod HoldersSteps
 pub mod IdleMarkers
 pub mod InHeap
