@@ -6,6 +6,7 @@ pub mod Frames
 pub mod Ground
 pub mod Growth
 pub mod HeaderSteps
+pub mod HeadersStay
 pub mod HeldGates
 pub mod Holders
 pub mod HoldersSteps
