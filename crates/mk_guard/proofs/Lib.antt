@@ -1,0 +1,4 @@
+pub mod Changes
+pub mod KeptGuard
+pub mod Scans
+pub mod Wells
