@@ -1,7 +1,12 @@
 pub mod BlackCells
 pub mod Changes
+pub mod ClosedAllocations
+pub mod Closing
 pub mod Headers
+pub mod Histories
 pub mod KeptGuard
 pub mod Markers
+pub mod OneEvent
 pub mod Scans
+pub mod Stopped
 pub mod Wells

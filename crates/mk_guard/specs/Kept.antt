@@ -8,7 +8,7 @@ use Rattle.mk_core.specs.declared.events.Event.{Event}
 use Rattle.mk_core.specs.declared.events.Seat.{Seat}
 use Rattle.mk_core.specs.declared.events.Step.TheVariants as step
 use Rattle.mk_core.specs.Config.{IsWithinLimits}
-use Rattle.mk_core.specs.Words.{Words, header_at}
+use Rattle.mk_core.specs.Words.{Words, header_at, phase_of}
 use Rattle.mk_core.specs.Cells.{header_in, cells_under, words_under, has_no_pointers, head_page, is_marked}
 use Rattle.mk_core.specs.Moments.{Moment}
 use Rattle.mk_core.specs.NewPlaces.{pages_made, header_made}
@@ -17,7 +17,7 @@ use Rattle.mk_core.specs.StandingAllocations.{object_placed, StandsOnHeap}
 use Rattle.mk_core.specs.ClosedMarks.{MarksAreClosed, MarkingIsGuarded}
 use Rattle.mk_core.specs.Enabled.{MeetsAll}
 use Rattle.mk_core.specs.History.{World, world_behind, first_world, left, AreEnabled, IsEnabledBehind}
-use Rattle.mk_guard.specs.Guard.{GoesOn, IsMarking, CellsAreClosed, MarksStand}
+use Rattle.mk_guard.specs.Guard.{GoesOn, IsMarking, MarksStand}
 
 -- While a cycle marks, a `head` finds no header on its page, marked cells and words 0; or it unmaps, which shows the same.
 pub data HeadFinds (pages : ℕ) (w : Words) (p header : ℕ) : Type 0 where
@@ -46,6 +46,8 @@ pub record OthersSay (c : Config) (w : World) : Type 0 where
       → has_no_pointers (header_in w.now.words p) ≡ false → i < words_under (header_in w.now.words p)
       → slice_index w.now.words.heap (64 * p + k * words_under (header_in w.now.words p) + i) ≢ 0
       → head_page w.now.words ((64 * p + k * words_under (header_in w.now.words p) + i) / 64) ≡ p
+  -- A mapped allocation stands on its pages, and they show it.
+  pub mapped : (i : ℕ) → is_mapped c (placed_at w.allocations i) ≡ true → StandsMapped c w.now.words (placed_at w.allocations i)
 
 -- They say so before each event, from this world on.
 unfoldable pub OthersSayFrom : Config → World → List Event → Type 0
@@ -64,19 +66,18 @@ MarksStandBehindLists =
     (c : Config) (es : List Event) → IsWithinLimits c → AreEnabled c es → OthersSayFrom c (first_world c) es
     → MarksStand c (left c es).now
 
--- The guard is that of the words of black cells,
-abbrev pub MarkingGuards : Type 0
-MarkingGuards = (c : Config) (m : Moment) → MarksStand c m → MarkingIsGuarded c m
-
--- a `close` finds the marks closed,
+-- A `close` finds the marks closed.
 abbrev pub CloseFindsMarksClosed : Type 0
 CloseFindsMarksClosed =
     (c : Config) (es : List Event) (seat : Seat) → IsWithinLimits c → AreEnabled c es
-    → IsEnabledBehind c es (record { seat = seat; step = step.Close }) → MarksStand c (left c es).now → CellsAreClosed c (left c es).now.words
+    → IsEnabledBehind c es (record { seat = seat; step = step.Close }) → OthersSay c (left c es) → MarksStand c (left c es).now
+    → MarksAreClosed c (left c es)
 
--- and where the cells are closed, so are the allocations that stand there.
-abbrev pub ClosedCellsCloseMarks : Type 0
-ClosedCellsCloseMarks =
-    (c : Config) (w : World) → IsWithinLimits c
-    → ((i : ℕ) → is_mapped c (placed_at w.allocations i) ≡ true → StandsMapped c w.now.words (placed_at w.allocations i))
-    → CellsAreClosed c w.now.words → MarksAreClosed c w
+-- They stay so up to the `release`.
+abbrev pub StoppedMarksAreClosed : Type 0
+StoppedMarksAreClosed =
+    (c : Config) (w : World) → IsWithinLimits c → OthersSay c w → MarksStand c w.now → phase_of w.now.words ≡ 3 → MarksAreClosed c w
+
+-- While the cycle marks, each word of a black cell is guarded.
+abbrev pub MarkingGuards : Type 0
+MarkingGuards = (c : Config) (m : Moment) → MarksStand c m → MarkingIsGuarded c m
