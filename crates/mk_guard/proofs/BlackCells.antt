@@ -1,12 +1,11 @@
 -- The words of black cells stay guarded: cells that turn black, and pages that are made clean.
-use Rattle.std.proofs.Common.{◌≡◌, ◌≢◌, ◌⊎◌, ℕ, zero, suc, ◌+◌, ◌*◌, ◌/◌, ◌%◌, ◌^◌, ◌<◌, Bool, true, false, List, refl, sym, ◌∙◌, ap, subst, inl, inr, arith}
+use Rattle.std.proofs.Common.{◌≡◌, ◌≢◌, ℕ, zero, suc, ◌+◌, ◌*◌, ◌/◌, ◌^◌, ◌<◌, Bool, true, false, List, refl, sym, ◌∙◌, ap, subst, inl, inr, arith}
 use Rattle.std.specs.Prelude.{Option, Some, None, is_none, slice_index, slice_set, nat_lt, ◌&&◌, ◌||◌, ◌==◌, not, bit_or}
 use Rattle.std.proofs.lemmas.Bool.{cases_eq, true≢false, eqb-true, and_parts, or_cases, not-true}
 use Rattle.std.proofs.lemmas.List.{get_or-set_other}
 use Rattle.mk_core.specs.declared.config.Config.{Config}
 use Rattle.mk_core.specs.declared.events.Seat.{Seat}
-use Rattle.mk_core.specs.declared.events.Seat.TheVariants.{Caller, Marker, Host}
-use Rattle.mk_core.specs.declared.events.Step.{Step}
+use Rattle.mk_core.specs.declared.events.Seat.TheVariants.{Marker}
 use Rattle.mk_core.specs.declared.events.Step.TheVariants as step
 use Rattle.mk_core.specs.declared.seats.Scan.{Scan}
 use Rattle.mk_core.specs.Bits.{has_bit}
@@ -17,7 +16,7 @@ use Rattle.mk_core.specs.Cells.{cells_under, words_under, has_no_pointers, head_
 use Rattle.mk_core.specs.Moments.{Moment, marker_of, is_phase}
 use Rattle.mk_core.specs.Accesses.{scan_page, scan_bit}
 use Rattle.mk_core.specs.MarkerConditions.{is_scanned}
-use Rattle.mk_core.specs.StopConditions.{none_attends, may_black, blackens, may_turn_black}
+use Rattle.mk_core.specs.StopConditions.{none_attends, blackens, may_turn_black}
 use Rattle.mk_core.specs.ClosedMarks.{IsGuarded, PointsWell, PageIsDirty, DirtyIsOwed, BlackIsGuarded}
 use Rattle.mk_core.specs.History.{World}
 use Rattle.mk_core.proofs.AllBelow.{all_below-at}
@@ -38,7 +37,7 @@ use Rattle.mk_guard.proofs.Markers.{nothing_is}
 blackened : (c : Config) (m n : Moment) (q bits : ℕ) → Keeps c m n → NewCellsAreGuarded c m n
     → n.words.blacks ≡ slice_set m.words.blacks q (bit_or (slice_index m.words.blacks q) bits)
     → ((k : ℕ) → has_bit bits k ≡ true → (i : ℕ) → k < cells_under (header_in m.words q) → has_no_pointers (header_in m.words q) ≡ false → i < words_under (header_in m.words q)
-        → IsGuarded c m (64 * q + k * words_under (header_in m.words q) + i))
+    → IsGuarded c m (64 * q + k * words_under (header_in m.words q) + i))
     → BlackIsGuarded c m → BlackIsGuarded c n
 blackened c m n q bits keeps new are guarded black =
     black_kept c m n keeps new
@@ -81,11 +80,11 @@ black_kind c m seat p value keeps new h black =
     let a = and_parts (value == 2 ^ t.bit) (may_turn_black c.pages m.words (record { page = p; index = t.bit })) t.is in
     blackened c m (Behind c m seat (step.Black p value)) p value keeps new refl
     (λ k is i lt sc li.
-      let e = bit_of_power t.bit k (subst (λ n. has_bit n k ≡ true) (eqb-true value (2 ^ t.bit) a.0) is) in
-      let words = turned_words c.pages m.words p t.bit a.1 sc in
-      let at : word_points_well c.pages m.words (64 * p + t.bit * words_under (header_in m.words p) + i) ≡ true =
-      all_below-at (cell_words m.words (record { page = p; index = t.bit })) i (λ j. word_points_well c.pages m.words (first_word m.words (record { page = p; index = t.bit }) + j)) words li in
-      subst (λ r. IsGuarded c m (64 * p + r * words_under (header_in m.words p) + i)) (sym e) (PointsWell at))
+    let e = bit_of_power t.bit k (subst (λ n. has_bit n k ≡ true) (eqb-true value (2 ^ t.bit) a.0) is) in
+    let words = turned_words c.pages m.words p t.bit a.1 sc in
+    let at : word_points_well c.pages m.words (64 * p + t.bit * words_under (header_in m.words p) + i) ≡ true =
+    all_below-at (cell_words m.words (record { page = p; index = t.bit })) i (λ j. word_points_well c.pages m.words (first_word m.words (record { page = p; index = t.bit }) + j)) words li in
+    subst (λ r. IsGuarded c m (64 * p + r * words_under (header_in m.words p) + i)) (sym e) (PointsWell at))
     black
 
 -- `mblack`: the marker's scan is at its end

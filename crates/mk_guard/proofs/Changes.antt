@@ -1,6 +1,6 @@
 -- What each kind of step changes of what the guard reads.
-use Rattle.std.proofs.Common.{◌≡◌, ◌≢◌, ◌⊎◌, ℕ, ◌+◌, ◌*◌, ◌/◌, ◌%◌, ◌^◌, ◌<◌, Bool, true, false, List, length, refl, sym, ◌∙◌, ap, subst, inl, inr, arith}
-use Rattle.std.specs.Prelude.{nat_le, nat_lt, ◌&&◌, slice_index, slice_index_or, slice_set}
+use Rattle.std.proofs.Common.{◌≡◌, ◌⊎◌, ℕ, ◌*◌, ◌/◌, ◌<◌, Bool, true, false, List, length, refl, sym, ◌∙◌, ap, subst, inl, inr, arith}
+use Rattle.std.specs.Prelude.{nat_le, nat_lt, slice_index, slice_index_or, slice_set}
 use Rattle.std.proofs.lemmas.Bool.{cases_eq, cases_lt, true≢false, ltb-true, and_parts}
 use Rattle.std.proofs.lemmas.List.{get_or-set_same, get_or-set_other, set_past}
 use Rattle.mk_never.specs.declared.operations.Op.{Op}
@@ -23,7 +23,7 @@ use Rattle.mk_core.specs.declared.seats.Stage.TheVariants as stage
 use Rattle.mk_core.specs.declared.seats.Flight.{Flight}
 use Rattle.mk_core.specs.Bits.{has_bit}
 use Rattle.mk_core.specs.Calls.{at_rest, page_met, word_met, steps_of, stage_behind}
-use Rattle.mk_core.specs.Words.{Words, accessed, header_at, used_at, phase_of}
+use Rattle.mk_core.specs.Words.{Words, accessed, header_at}
 use Rattle.mk_core.specs.Layout.{AreOfPages}
 use Rattle.mk_core.specs.Moments.{Moment, flight_of}
 use Rattle.mk_core.specs.Order.{comes_next}
@@ -32,14 +32,14 @@ use Rattle.mk_core.specs.Effects.{progress}
 use Rattle.mk_core.specs.Frames.{OnlyGrow}
 use Rattle.mk_core.specs.ClosedMarks.{OwesDirty, IsGuarded, PointsWell, DirtyIsOwed}
 use Rattle.mk_core.proofs.WordBits.{no_bit}
-use Rattle.mk_protocol.proofs.Standings.{standing_at, standing, is_astray}
+use Rattle.mk_protocol.proofs.Standings.{standing_at, is_astray}
 use Rattle.mk_protocol.proofs.NextSteps.{at_its_stage}
 use Rattle.mk_protocol.proofs.Actors.{Meets}
 use Rattle.mk_protocol.proofs.Sorts.{Behind}
 use Rattle.mk_protocol.proofs.Protocols.{not_astray}
 use Rattle.mk_protocol.proofs.Known.{Known}
 use Rattle.mk_protocol.proofs.Growth.{grows_same, grows_more}
-use Rattle.mk_protocol.proofs.Colours.{Colours, colours_of, ColourStep, Leaves, ClearsMarks, AddsMarks, MarksSeen, colour_step}
+use Rattle.mk_protocol.proofs.Colours.{Colours, colours_of, ColourStep, ClearsMarks, AddsMarks, MarksSeen, colour_step}
 use Rattle.mk_guard.specs.Guard.{IsMarking}
 use Rattle.mk_guard.proofs.Wells.{well_is, bare_word_well}
 

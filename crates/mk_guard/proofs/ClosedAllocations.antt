@@ -1,18 +1,17 @@
 -- Where cells are closed, so are the allocations that stand there.
-use Rattle.std.proofs.Common.{◌≡◌, ℕ, ◌+◌, ◌-◌, ◌*◌, ◌/◌, ◌<◌, true, false, refl, sym, ◌∙◌, ap, subst, inl, arith}
-use Rattle.std.specs.Prelude.{◌&&◌, ◌||◌, not}
+use Rattle.std.proofs.Common.{◌≡◌, ℕ, ◌+◌, ◌-◌, ◌/◌, true, false, sym, ◌∙◌, ap, subst, inl, arith}
+use Rattle.std.specs.Prelude.{◌||◌, not}
 use Rattle.std.proofs.lemmas.Bool.{and_parts, not-true}
-use Rattle.mk_geom.specs.declared.headers.Header.{Header}
 use Rattle.mk_geom.specs.Headers.{header_of}
 use Rattle.mk_geom.specs.StorageWords.{IsWordOf, cell_of_storage}
 use Rattle.mk_core.specs.declared.config.Config.{Config}
 use Rattle.mk_core.specs.Config.{IsWithinLimits}
 use Rattle.mk_core.specs.Words.{header_at}
-use Rattle.mk_core.specs.Cells.{header_in, has_no_pointers, is_unmapped_header, is_marked, first_word, cell_words, word_points_well}
+use Rattle.mk_core.specs.Cells.{header_in, has_no_pointers, is_unmapped_header, first_word, cell_words, word_points_well}
 use Rattle.mk_core.specs.NewPlaces.{header_made}
 use Rattle.mk_core.specs.Allocations.{PlacedAllocation, placed_at, is_mapped, storage_of, storage_words}
 use Rattle.mk_core.specs.StandingAllocations.{object_placed, HasItsHeaders}
-use Rattle.mk_core.specs.ClosedMarks.{MarksAreClosed, is_marked_allocation, is_scanned_allocation}
+use Rattle.mk_core.specs.ClosedMarks.{MarksAreClosed, is_marked_allocation}
 use Rattle.mk_core.specs.History.{World}
 use Rattle.mk_core.proofs.Sizes.{pages_some}
 use Rattle.mk_core.proofs.ObjectHeaders.{made_is_mapped, part_has_no_pointers}

@@ -1,12 +1,11 @@
 -- `close`: no dirty word, nothing owed, marked cells black; so the marks are closed.
-use Rattle.std.proofs.Common.{◌≡◌, ◌≢◌, ◌⊎◌, ℕ, ◌+◌, ◌*◌, ◌/◌, ◌<◌, Bool, true, false, List, length, refl, sym, ◌∙◌, ap, subst, inl, inr, arith}
+use Rattle.std.proofs.Common.{◌≡◌, ℕ, ◌+◌, ◌/◌, ◌<◌, true, false, refl, sym, ◌∙◌, ap, subst, inl, inr, arith}
 use Rattle.std.specs.Prelude.{slice_index, slice_index_or, min, ◌&&◌, ◌==◌, bit_and}
 use Rattle.std.specs.List.{list_all}
 use Rattle.std.specs.Int.{bit_at}
 use Rattle.std.proofs.lemmas.Bool.{cases_eq, cases_lt, true≢false, eqb-true, eq-eqb, and_parts}
 use Rattle.std.proofs.lemmas.List.{get_or_past}
 use Rattle.std.proofs.lemmas.Nat.Bits.{bit_at_and, bit_at_ones}
-use Rattle.mk_geom.specs.declared.addresses.Cell.{Cell}
 use Rattle.mk_geom.specs.declared.pages.Page.{Page}
 use Rattle.mk_geom.specs.Storages.{free_page}
 use Rattle.mk_geom.specs.Headers.{header_of}
@@ -22,11 +21,11 @@ use Rattle.mk_core.specs.Bounded.{all_below}
 use Rattle.mk_core.specs.Calls.{at_rest}
 use Rattle.mk_core.specs.Words.{Words}
 use Rattle.mk_core.specs.Layout.{AreOfPages}
-use Rattle.mk_core.specs.Cells.{cells_under, header_in, cell_bits, cell_words, first_word, has_no_pointers, is_marked, points_well, word_points_well}
+use Rattle.mk_core.specs.Cells.{cells_under, header_in, cell_bits, first_word, points_well, word_points_well}
 use Rattle.mk_core.specs.Moments.{Moment, flight_of, holder_number}
 use Rattle.mk_core.specs.Order.{comes_next}
-use Rattle.mk_core.specs.StopConditions.{none_attends, has_closed_page, roots_point_well, may_close}
-use Rattle.mk_core.specs.ClosedMarks.{OwesDirty, IsGuarded, PointsWell, PageIsDirty, DirtyIsOwed, BlackIsGuarded}
+use Rattle.mk_core.specs.StopConditions.{none_attends, has_closed_page, roots_point_well}
+use Rattle.mk_core.specs.ClosedMarks.{IsGuarded, PointsWell, PageIsDirty, DirtyIsOwed, BlackIsGuarded}
 use Rattle.mk_core.proofs.AllBelow.{all_below-at}
 use Rattle.mk_core.proofs.ListTests.{list_all-at}
 use Rattle.mk_core.proofs.WordBits.{without_none, fewer_bits}
@@ -54,7 +53,7 @@ none_owes c m seat j known h at = elim (cases_lt j c.callers) [
     | inr ne ↦
         let fine = subst (λ (s : Stage). is_astray (standing_at s (flight_of m (Caller j)).op) ≡ false) at (not_astray c m known.orderly j lt) in
         let stands : standing (flight_of m (Caller j)) ≡ InCall
-              = ap (λ (s : Stage). standing_at s (flight_of m (Caller j)).op) at ∙ calls_stand stage.Dirty (flight_of m (Caller j)).op refl fine in
+        = ap (λ (s : Stage). standing_at s (flight_of m (Caller j)).op) at ∙ calls_stand stage.Dirty (flight_of m (Caller j)).op refl fine in
         let one = (shows_at c (view_of m) j InCall known.orderly lt stands).0 in
         let two = others_held c m seat h.gates j lt ne in
         absurd (omega arith)
@@ -85,9 +84,9 @@ black_bit w p k h lt is =
     (without_none (bit_and (slice_index w.marks p) (cell_bits w p)) (slice_index w.blacks p) h.black)
     (eq-eqb (bit_at (bit_and (slice_index w.marks p) (cell_bits w p)) k) 1 (bit_at_and (slice_index w.marks p) (cell_bits w p) k
     ∙ (let one = eqb-true (bit_at (slice_index w.marks p) k) 1 is in
-      let ones = bit_at_ones (cells_under (header_in w p)) k lt in
-      let both : min (bit_at (slice_index w.marks p) k) (bit_at (cell_bits w p) k) ≡ 1 = omega arith in
-      both)))
+    let ones = bit_at_ones (cells_under (header_in w p)) k lt in
+    let both : min (bit_at (slice_index w.marks p) k) (bit_at (cell_bits w p) k) ≡ 1 = omega arith in
+    both)))
 
 pub closed : (c : Config) (m : Moment) (seat : Seat) → Known c m → AreOfPages c.pages m.words → Meets c m seat step.Close → BlackIsGuarded c m → CellsAreClosed c m.words
 closed c m seat known len h black =

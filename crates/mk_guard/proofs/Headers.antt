@@ -1,6 +1,6 @@
 -- A `head` while a cycle marks, from what it finds: headers go on, and what points well goes on doing so.
-use Rattle.std.proofs.Common.{◌≡◌, ◌≢◌, ◌⊎◌, ℕ, ◌+◌, ◌*◌, ◌/◌, ◌<◌, Bool, true, false, List, length, refl, sym, ◌∙◌, ap, subst, inl, inr, arith}
-use Rattle.std.specs.Prelude.{Option, Some, None, slice_index, slice_index_or, slice_set, if◌then◌else◌}
+use Rattle.std.proofs.Common.{◌≡◌, ◌≢◌, ℕ, ◌+◌, ◌*◌, ◌<◌, Bool, true, false, refl, sym, ◌∙◌, ap, subst, inl, inr, arith}
+use Rattle.std.specs.Prelude.{Some, None, slice_index, slice_index_or, slice_set, if◌then◌else◌}
 use Rattle.std.proofs.lemmas.Bool.{cases_eq, true≢false, ltb-true}
 use Rattle.std.proofs.lemmas.List.{get_or-set_same, get_or-set_other}
 use Rattle.mk_geom.specs.declared.addresses.Cell.{Cell}
@@ -13,7 +13,7 @@ use Rattle.mk_core.specs.declared.events.Seat.{Seat}
 use Rattle.mk_core.specs.declared.events.Step.{Step}
 use Rattle.mk_core.specs.declared.events.Step.TheVariants as step
 use Rattle.mk_core.specs.Layout.{AreOfPages}
-use Rattle.mk_core.specs.Words.{Words, header_at, used_at}
+use Rattle.mk_core.specs.Words.{header_at, used_at}
 use Rattle.mk_core.specs.Cells.{header_in, cells_under, words_under, is_marked}
 use Rattle.mk_core.specs.Moments.{Moment}
 use Rattle.mk_core.specs.ClosedMarks.{IsGuarded, PointsWell}
@@ -82,7 +82,7 @@ head_keeps c m seat p n len h finds =
         → IsGuarded c (Behind c m seat (step.Head p n)) (64 * q + k * words_under (header_in (Behind c m seat (step.Head p n)).words q) + i)
     made (Carved free marked bare) q k i e none lt li =
         let first : 64 * q + k * words_under (header_in (Behind c m seat (step.Head p n)).words q) + i ≡ 64 * p + k * words_under (header_of n) + i
-              = ap (λ a. 64 * q + k * words_under (header_of a) + i) (here q e) ∙ ap (λ j. 64 * j + k * words_under (header_of n) + i) e in
+        = ap (λ a. 64 * q + k * words_under (header_of a) + i) (here q e) ∙ ap (λ j. 64 * j + k * words_under (header_of n) + i) e in
         PointsWell (well_is c (Behind c m seat (step.Head p n)).words _ (bare_word_well c (Behind c m seat (step.Head p n)).words _ (ap (λ j. slice_index m.words.heap j) first ∙ bare k i lt li)))
     made (Unmapped on back still) q k i e none lt li = let z = still none in absurd (omega arith)
 

@@ -1,17 +1,15 @@
 -- What a change must leave for words to stay guarded, and for scans to stand.
-use Rattle.std.proofs.Common.{◌≡◌, ◌≢◌, ◌⊎◌, ℕ, ◌+◌, ◌*◌, ◌/◌, ◌<◌, ◌≤◌, Bool, true, false, List, refl, sym, ◌∙◌, ap, subst, inl, inr, arith}
-use Rattle.std.specs.Prelude.{Option, Some, None, slice_index}
+use Rattle.std.proofs.Common.{◌≡◌, ◌≢◌, ◌⊎◌, ℕ, ◌+◌, ◌*◌, ◌/◌, ◌<◌, ◌≤◌, Bool, true, false, refl, sym, ◌∙◌, ap, subst, inl, inr, arith}
+use Rattle.std.specs.Prelude.{Option, Some, slice_index}
 use Rattle.std.proofs.lemmas.Bool.{true≢false, cases_eq}
 use Rattle.mk_geom.specs.declared.addresses.Cell.{Cell}
 use Rattle.mk_geom.specs.Headers.{header_of}
-use Rattle.mk_geom.specs.Addresses.{cell_at, page_at_address}
 use Rattle.mk_core.specs.declared.config.Config.{Config}
 use Rattle.mk_core.specs.declared.seats.Marker.{Marker}
 use Rattle.mk_core.specs.declared.seats.Scan.{Scan}
-use Rattle.mk_core.specs.declared.seats.SeenHeader.{SeenHeader}
 use Rattle.mk_core.specs.Bits.{has_bit}
 use Rattle.mk_core.specs.Words.{Words, header_at}
-use Rattle.mk_core.specs.Cells.{header_in, cells_under, words_under, has_no_pointers, first_word, word_points_well}
+use Rattle.mk_core.specs.Cells.{header_in, cells_under, words_under, has_no_pointers, first_word}
 use Rattle.mk_core.specs.Moments.{Moment}
 use Rattle.mk_core.specs.Frames.{OnlyGrow}
 use Rattle.mk_core.specs.ClosedMarks.{OwesDirty, IsGuarded, PointsWell, PageIsDirty, DirtyIsOwed, BlackIsGuarded}
@@ -54,7 +52,7 @@ NewCellsAreGuarded c m n =
 pub guards : (c : Config) (m n : Moment) → Keeps c m n → (x : ℕ) → IsGuarded c m x → IsGuarded c n x
 guards c m n k x (PointsWell h) = elim (k.heap x) [
   | inl e ↦ PointsWell (well_is c n.words (slice_index n.words.heap x)
-        (subst (λ v. IsWell c n.words v) (sym e) (k.wells (slice_index m.words.heap x) (is_well c m.words (slice_index m.words.heap x) h))))
+      (subst (λ v. IsWell c n.words v) (sym e) (k.wells (slice_index m.words.heap x) (is_well c m.words (slice_index m.words.heap x) h))))
   | inr g ↦ g
 ]
 guards c m n k x (PageIsDirty h) = PageIsDirty (k.dirty (x / 64) h)
@@ -93,7 +91,7 @@ scan_kept c m n hand x k h =
       next = h.next;
       end = elim h.end [
         | inl e ↦ inl (e ∙ ap (λ j. j + words_under (header_in m.words x.page)) (sym first)
-              ∙ ap (λ j. first_word n.words (cell_scanned x) + j) (sym (g.words some)))
+            ∙ ap (λ j. first_word n.words (cell_scanned x) + j) (sym (g.words some)))
         | inr e ↦ inr (e.0 ∙ sym first, g.unscanned some e.1)
       ];
       passed = λ f i le lt. passes c m n hand k i
@@ -110,7 +108,7 @@ marker_kept c m n x k h =
 -- The guarded words of a cell stay so, where it is there and scanned before.
 pub cell_kept : (c : Config) (m n : Moment) (p k i : ℕ) → Keeps c m n → cells_under (header_in m.words p) ≢ 0
     → (k < cells_under (header_in m.words p) → has_no_pointers (header_in m.words p) ≡ false → i < words_under (header_in m.words p)
-        → IsGuarded c m (64 * p + k * words_under (header_in m.words p) + i))
+    → IsGuarded c m (64 * p + k * words_under (header_in m.words p) + i))
     → k < cells_under (header_in n.words p) → has_no_pointers (header_in n.words p) ≡ false → i < words_under (header_in n.words p)
     → IsGuarded c n (64 * p + k * words_under (header_in n.words p) + i)
 cell_kept c m n p k i keeps some before cell scanned lt =
@@ -123,8 +121,8 @@ cell_kept c m n p k i keeps some before cell scanned lt =
 -- Cells that are black behind were so before, or their words were guarded before.
 pub black_kept : (c : Config) (m n : Moment) → Keeps c m n → NewCellsAreGuarded c m n
     → ((p k : ℕ) → has_bit (slice_index n.words.blacks p) k ≡ true → (has_bit (slice_index m.words.blacks p) k ≡ true)
-        ⊎ ((i : ℕ) → k < cells_under (header_in m.words p) → has_no_pointers (header_in m.words p) ≡ false → i < words_under (header_in m.words p)
-            → IsGuarded c m (64 * p + k * words_under (header_in m.words p) + i)))
+    ⊎ ((i : ℕ) → k < cells_under (header_in m.words p) → has_no_pointers (header_in m.words p) ≡ false → i < words_under (header_in m.words p)
+    → IsGuarded c m (64 * p + k * words_under (header_in m.words p) + i)))
     → BlackIsGuarded c m → BlackIsGuarded c n
 black_kept c m n keeps new more h p k i cell is scanned lt = elim (cases_eq (cells_under (header_in m.words p)) 0) [
   | inl none ↦ new p k i none cell lt

@@ -1,5 +1,5 @@
 -- What the markers are in the middle of stands behind an event that keeps what is guarded.
-use Rattle.std.proofs.Common.{◌≡◌, ℕ, ◌<◌, Bool, true, false, refl, sym, ◌∙◌, ap, subst, inl, inr, arith}
+use Rattle.std.proofs.Common.{◌≡◌, ℕ, ◌<◌, Bool, true, false, refl, sym, ap, subst, arith}
 use Rattle.std.specs.Prelude.{Option, Some, None, is_none, is_some, slice_index, slice_set, bit_or, ◌&&◌, ◌==◌, if◌then◌else◌}
 use Rattle.std.proofs.lemmas.Bool.{and_parts}
 use Rattle.mk_geom.specs.declared.addresses.Cell.{Cell}
@@ -18,7 +18,6 @@ use Rattle.mk_core.specs.declared.seats.SeenHeader.{SeenHeader}
 use Rattle.mk_core.specs.Bits.{has_bit, bit_for}
 use Rattle.mk_core.specs.Layout.{AreOfPages}
 use Rattle.mk_core.specs.Words.{header_at}
-use Rattle.mk_core.specs.Cells.{is_marked}
 use Rattle.mk_core.specs.Moments.{Moment, marker_of}
 use Rattle.mk_core.specs.Accesses.{found, next_word, seen_page, seen_bit}
 use Rattle.mk_core.specs.Effects.{marker_behind, behind_mlook}

@@ -1,5 +1,5 @@
 -- One event, whatever it is: what stands while a cycle marks and stops, stands behind it.
-use Rattle.std.proofs.Common.{◌≡◌, ◌⊎◌, ℕ, ◌+◌, ◌-◌, ◌%◌, ◌^◌, ◌<◌, Bool, true, false, refl, sym, ◌∙◌, ap, subst, inl, inr, arith}
+use Rattle.std.proofs.Common.{◌≡◌, ◌⊎◌, ℕ, ◌%◌, ◌≤◌, Bool, true, false, refl, sym, ◌∙◌, ap, subst, inl, inr, arith}
 use Rattle.std.specs.Prelude.{slice_index, ◌&&◌, ◌==◌}
 use Rattle.std.proofs.lemmas.Bool.{cases_lt, true≢false, eqb-true, and_parts}
 use Rattle.std.proofs.lemmas.List.{get_or_past}
@@ -9,13 +9,12 @@ use Rattle.mk_core.specs.declared.events.Seat.TheVariants.{Caller, Marker, Host}
 use Rattle.mk_core.specs.declared.events.Step.{Step}
 use Rattle.mk_core.specs.declared.events.Step.TheVariants as step
 use Rattle.mk_core.specs.declared.seats.Marker.{Marker as MarkerState}
-use Rattle.mk_core.specs.Bits.{has_bit}
 use Rattle.mk_core.specs.Bounded.{all_below}
 use Rattle.mk_core.specs.Words.{header_at, phase_of}
 use Rattle.mk_core.specs.Layout.{AreOfPages}
 use Rattle.mk_core.specs.Moments.{Moment, marker_of, is_phase}
 use Rattle.mk_core.specs.Order.{host_has_turn}
-use Rattle.mk_core.specs.StopConditions.{is_attending, none_attends, may_begin, has_clean_page}
+use Rattle.mk_core.specs.StopConditions.{is_attending, has_clean_page}
 use Rattle.mk_core.specs.ClosedMarks.{BlackIsGuarded}
 use Rattle.mk_core.specs.History.{World}
 use Rattle.mk_core.proofs.AllBelow.{all_below-at}
@@ -24,7 +23,7 @@ use Rattle.mk_protocol.proofs.Actors.{Meets}
 use Rattle.mk_protocol.proofs.Asked.{none_at}
 use Rattle.mk_protocol.proofs.Sorts.{Behind}
 use Rattle.mk_protocol.proofs.Known.{Known}
-use Rattle.mk_guard.specs.Guard.{MarkerStands, Guard, IsMarking, CellsAreClosed, MarksStand}
+use Rattle.mk_guard.specs.Guard.{MarkerStands, Guard, IsMarking, MarksStand}
 use Rattle.mk_guard.specs.Kept.{OthersSay}
 use Rattle.mk_guard.proofs.Wells.{wells_from}
 use Rattle.mk_guard.proofs.KeptGuard.{Keeps, goes_equal, black_kept}
@@ -33,7 +32,7 @@ use Rattle.mk_guard.proofs.Headers.{head_keeps, no_new_cells}
 use Rattle.mk_guard.proofs.Markers.{markers_stand}
 use Rattle.mk_guard.proofs.BlackCells.{black_kind, mblack_kind, undirty_kind, undirties}
 use Rattle.mk_guard.proofs.Closing.{closed}
-use Rattle.mk_guard.proofs.Stopped.{LeavesClosed, stays_closed, leaves_closed}
+use Rattle.mk_guard.proofs.Stopped.{stays_closed, leaves_closed}
 
 -- what a step keeps of the guarded words
 

@@ -1,6 +1,6 @@
 -- What a marker's own step makes of its scan, its hand and the header that it has seen, in the words as they are.
 use Rattle.std.proofs.Common.{◌≡◌, ◌≢◌, ◌⊎◌, ℕ, ◌+◌, ◌*◌, ◌<◌, ◌≤◌, Bool, true, false, refl, sym, ◌∙◌, ap, subst, inl, inr, arith}
-use Rattle.std.specs.Prelude.{Option, Some, None, slice_index, nat_lt, ◌&&◌, ◌==◌, not, if◌then◌else◌}
+use Rattle.std.specs.Prelude.{Option, Some, None, slice_index, nat_lt, ◌==◌, not, if◌then◌else◌}
 use Rattle.std.proofs.lemmas.Bool.{cases_eq, cases_lt, true≢false, eqb-true, and_parts, ltb-true, lt-ltb}
 use Rattle.mk_geom.specs.declared.addresses.Cell.{Cell}
 use Rattle.mk_geom.specs.Headers.{header_of}
@@ -12,12 +12,12 @@ use Rattle.mk_core.specs.declared.seats.Scan.{Scan}
 use Rattle.mk_core.specs.declared.seats.SeenHeader.{SeenHeader}
 use Rattle.mk_core.specs.Bits.{has_bit}
 use Rattle.mk_core.specs.Words.{Words, header_at}
-use Rattle.mk_core.specs.Cells.{header_in, cells_under, words_under, has_no_pointers, is_marked, first_word}
+use Rattle.mk_core.specs.Cells.{header_in, cells_under, words_under, has_no_pointers, is_marked}
 use Rattle.mk_core.specs.Moments.{Moment}
 use Rattle.mk_core.specs.MarkerConditions.{has_seen_cell, cell_seen, has_next_word, is_scanned}
 use Rattle.mk_core.specs.Effects.{open_hand, hand_behind_look, scan_begun, scan_claimed, scan_onward}
 use Rattle.mk_core.specs.ClosedMarks.{IsGuarded, PointsWell}
-use Rattle.mk_guard.specs.Guard.{GoesOn, cell_scanned, EndsItsCell, ScanStands, MarkerStands}
+use Rattle.mk_guard.specs.Guard.{GoesOn, ScanStands, MarkerStands}
 use Rattle.mk_guard.proofs.Wells.{IsWell, well_is}
 use Rattle.mk_guard.proofs.KeptGuard.{goes_same}
 

@@ -1,9 +1,8 @@
 -- From `close` to `release` the marks stay closed: nothing changes but words that are wiped.
-use Rattle.std.proofs.Common.{◌≡◌, ◌≢◌, ◌⊎◌, ℕ, ◌+◌, ◌*◌, ◌<◌, Bool, true, false, List, length, refl, sym, ◌∙◌, ap, subst, inl, inr, arith}
+use Rattle.std.proofs.Common.{◌≡◌, ◌⊎◌, ℕ, ◌+◌, ◌*◌, ◌<◌, true, false, List, length, refl, sym, ◌∙◌, ap, subst, inl, inr, arith}
 use Rattle.std.specs.Prelude.{slice_index, slice_set, ◌==◌, ◌||◌}
 use Rattle.std.proofs.lemmas.Bool.{cases_Bool, cases_eq, cases_lt, true≢false, ltb-true, eqb-true, or_cases}
 use Rattle.std.proofs.lemmas.List.{get_or-set_same, get_or-set_other, set_past}
-use Rattle.mk_geom.specs.declared.addresses.Cell.{Cell}
 use Rattle.mk_geom.specs.Headers.{header_of}
 use Rattle.mk_core.specs.declared.config.Config.{Config}
 use Rattle.mk_core.specs.declared.accesses.TableWord.TheVariants.{Named}
@@ -23,11 +22,10 @@ use Rattle.mk_core.specs.declared.seats.Stage.{Stage}
 use Rattle.mk_core.specs.declared.seats.Stage.TheVariants as stage
 use Rattle.mk_core.specs.declared.seats.Flight.{Flight}
 use Rattle.mk_core.specs.Words.{Words, header_at, phase_of, accessed}
-use Rattle.mk_core.specs.Cells.{cells_under, words_under, has_no_pointers, header_in, is_marked, first_word, points_well, word_points_well}
+use Rattle.mk_core.specs.Cells.{cells_under, words_under, has_no_pointers, is_marked, first_word, points_well, word_points_well}
 use Rattle.mk_core.specs.Moments.{Moment, flight_of, marker_of}
 use Rattle.mk_core.specs.Accesses.{register_met, reg_access}
-use Rattle.mk_core.specs.Ranges.{has_phase}
-use Rattle.mk_protocol.proofs.Standings.{InCall, standing, standing_at, is_astray}
+use Rattle.mk_protocol.proofs.Standings.{InCall}
 use Rattle.mk_protocol.proofs.Stages.{is_call_stage, is_reg_stage, calls_stand}
 use Rattle.mk_protocol.proofs.NextSteps.{stage_of, has_stage_of_its_own, at_its_stage, at_reg}
 use Rattle.mk_protocol.proofs.Views.{view_of}
@@ -38,7 +36,7 @@ use Rattle.mk_protocol.proofs.Protocols.{not_astray}
 use Rattle.mk_protocol.proofs.Known.{Known}
 use Rattle.mk_protocol.proofs.IdleMarkers.{work_attends}
 use Rattle.mk_guard.specs.Guard.{CellsAreClosed}
-use Rattle.mk_guard.proofs.Wells.{IsWell, well_is, is_well, bare_word_well, wells_from}
+use Rattle.mk_guard.proofs.Wells.{well_is, is_well, bare_word_well, wells_from}
 use Rattle.mk_guard.proofs.Changes.{Table, reg_table, tally_table, is_head, headers_kind}
 
 -- what leaves closed marks closed

@@ -1,5 +1,5 @@
 -- Values that point well: each cell that one points into is marked.
-use Rattle.std.proofs.Common.{◌≡◌, ℕ, true, List, refl, sym, ◌∙◌, ap, subst}
+use Rattle.std.proofs.Common.{◌≡◌, ℕ, true, refl, sym, subst}
 use Rattle.std.specs.Prelude.{Option, Some, None}
 use Rattle.mk_geom.specs.declared.addresses.Cell.{Cell}
 use Rattle.mk_geom.specs.Addresses.{cell_at, page_at_address}
@@ -8,7 +8,6 @@ use Rattle.mk_core.specs.Bounded.{is_none_or}
 use Rattle.mk_core.specs.Words.{Words, header_at}
 use Rattle.mk_core.specs.Cells.{pointed_cell, is_marked, points_well}
 use Rattle.mk_core.specs.Frames.{OnlyGrow}
-use Rattle.mk_guard.specs.Guard.{GoesOn}
 
 abbrev pub IsWell : Config → Words → ℕ → Type 0
 IsWell c w value = (x : Cell) → cell_at c.pages (header_at w (page_at_address value)) value ≡ Some x → is_marked w x ≡ true

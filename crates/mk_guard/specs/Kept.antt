@@ -24,7 +24,7 @@ pub data HeadFinds (pages : ℕ) (w : Words) (p header : ℕ) : Type 0 where
   Carved : header_at w p ≡ 0
       → ((value : ℕ) (x : Cell) → page_at_address value ≡ p → cell_at pages header value ≡ Some x → is_marked w x ≡ true)
       → ((k i : ℕ) → k < cells_under (header_of header) → i < words_under (header_of header)
-          → slice_index w.heap (64 * p + k * words_under (header_of header) + i) ≡ 0)
+      → slice_index w.heap (64 * p + k * words_under (header_of header) + i) ≡ 0)
       → HeadFinds pages w p header
   Unmapped : GoesOn pages (header_at w p) header
       → ((value : ℕ) (x : Cell) → page_at_address value ≡ p → cell_at pages header value ≡ Some x → cell_at pages (header_at w p) value ≡ Some x)

@@ -4,19 +4,16 @@
 ghost use Rattle.mk_guard.specs.Kept.{EventsKeepTheMarks, MarksStandBehindLists, CloseFindsMarksClosed, StoppedMarksAreClosed, MarkingGuards};
 
 /// One event keeps what stands while a cycle marks and stops, where the layout says what is asked of it.
-#[tactic(auto, using(crate::proofs::Histories::events_keep_the_marks))]
 pub fn events_keep_the_marks()
     ensures { EventsKeepTheMarks }
 {}
 
 /// So it stands behind every list along which the layout says so.
-#[tactic(auto, using(crate::proofs::Histories::marks_stand_behind_lists))]
 pub fn marks_stand_behind_lists()
     ensures { MarksStandBehindLists }
 {}
 
 /// Then words of black cells are guarded while a cycle marks; a `close` finds the marks closed, and they stay so.
-#[tactic(auto, using(crate::proofs::Histories::marking_guards, crate::proofs::Histories::close_finds_marks_closed, crate::proofs::Histories::stopped_marks_are_closed))]
 pub fn marks_are_closed()
     ensures guarded { MarkingGuards }
     ensures at_close { CloseFindsMarksClosed }
