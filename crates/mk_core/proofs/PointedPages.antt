@@ -80,7 +80,7 @@ pub record PointsTo (count : ℕ) (w : Words) (value : ℕ) (cell : Cell) : Type
   pub shown : header_in w (page_at_address value) ≡ Some header
   pub lies : LiesUnder header (page_at_address value) cell
 
-found_under : (count header value : ℕ) (cell : Cell) → cell_at count header value ≡ Some cell
+pub found_under : (count header value : ℕ) (cell : Cell) → cell_at count header value ≡ Some cell
     → (h : Header) × (header_of header ≡ Some h) × (cell_under h (page_at_address value) (word_at_address value) ≡ Some cell)
 found_under count header value cell is = by (is_heap_address count value) (header_of header) refl is
   where

@@ -30,6 +30,7 @@ use Rattle.mk_guard.specs.Kept.{OthersSay}
 use Rattle.mk_guard.proofs.Wells.{well_is, bare_word_well}
 use Rattle.mk_guard.proofs.KeptGuard.{Keeps, NewCellsAreGuarded, black_kept}
 use Rattle.mk_guard.proofs.Changes.{owed_kind}
+use Rattle.mk_guard.proofs.CoveredWords.{covered_word}
 use Rattle.mk_guard.proofs.Scans.{scanned_guarded}
 use Rattle.mk_guard.proofs.Markers.{nothing_is}
 
@@ -136,7 +137,7 @@ undirty_kind c w seat q len early say h black p k i lt is scanned li = elim (cas
   | inr some ↦ elim (cases_eq ((64 * p + k * words_under (header_in w.now.words p) + i) / 64) q) [
     | inl e ↦
         let u = undirties c w.now seat q early h in
-        let head : head_page w.now.words q ≡ p = subst (λ j. head_page w.now.words j ≡ p) e (say.covered early p k i lt scanned li some) in
+        let head : head_page w.now.words q ≡ p = subst (λ j. head_page w.now.words j ≡ p) e (covered_word w.now.words p k i (say.later early) lt scanned li some) in
         absurd (true≢false (sym is ∙ no_bit (slice_index w.now.words.blacks p) k (ap (λ j. slice_index w.now.words.blacks j) (sym head) ∙ u.head)))
     | inr ne ↦ by (black p k i lt is scanned li) ne
   ]

@@ -13,17 +13,28 @@ use Rattle.mk_core.specs.declared.events.Seat.{Seat}
 use Rattle.mk_core.specs.declared.events.Step.{Step}
 use Rattle.mk_core.specs.declared.events.Step.TheVariants as step
 use Rattle.mk_core.specs.Layout.{AreOfPages}
-use Rattle.mk_core.specs.Words.{header_at, used_at}
+use Rattle.mk_core.specs.Words.{Words, header_at, used_at}
 use Rattle.mk_core.specs.Cells.{header_in, cells_under, words_under, is_marked}
 use Rattle.mk_core.specs.Moments.{Moment}
 use Rattle.mk_core.specs.ClosedMarks.{IsGuarded, PointsWell}
 use Rattle.mk_protocol.proofs.Actors.{Meets}
 use Rattle.mk_protocol.proofs.Sorts.{Behind}
 use Rattle.mk_guard.specs.Guard.{GoesOn}
-use Rattle.mk_guard.specs.Kept.{HeadFinds, Carved, Unmapped}
 use Rattle.mk_guard.proofs.Wells.{IsWell, well_is, bare_word_well}
 use Rattle.mk_guard.proofs.KeptGuard.{NewCellsAreGuarded, goes_same}
 use Rattle.mk_guard.proofs.Changes.{is_head, headers_kind}
+
+-- It finds no header on its page, marked cells and words 0; or it unmaps, which shows the same.
+pub data HeadFinds (pages : ℕ) (w : Words) (p header : ℕ) : Type 0 where
+  Carved : header_at w p ≡ 0
+      → ((value : ℕ) (x : Cell) → page_at_address value ≡ p → cell_at pages header value ≡ Some x → is_marked w x ≡ true)
+      → ((k i : ℕ) → k < cells_under (header_of header) → i < words_under (header_of header)
+      → slice_index w.heap (64 * p + k * words_under (header_of header) + i) ≡ 0)
+      → HeadFinds pages w p header
+  Unmapped : GoesOn pages (header_at w p) header
+      → ((value : ℕ) (x : Cell) → page_at_address value ≡ p → cell_at pages header value ≡ Some x → cell_at pages (header_at w p) value ≡ Some x)
+      → (cells_under (header_in w p) ≡ 0 → cells_under (header_of header) ≡ 0)
+      → HeadFinds pages w p header
 
 none_some : {A : Type 0} {x : A} → None ≡ Some x → ⊥
 none_some e = true≢false (let y : true ≡ false = cc in y)

@@ -4,6 +4,7 @@ use Rattle.std.proofs.lemmas.Bool.{eqb-true}
 use Rattle.mk_core.specs.declared.config.Config.{Config}
 use Rattle.mk_core.specs.declared.events.Event.{Event}
 use Rattle.mk_core.specs.declared.events.Step.TheVariants as step
+use Rattle.mk_core.specs.Config.{IsWithinLimits}
 use Rattle.mk_core.specs.Words.{phase_of}
 use Rattle.mk_core.specs.Layout.{AreOfPages}
 use Rattle.mk_core.specs.Moments.{first_moment}
@@ -20,21 +21,21 @@ use Rattle.mk_guard.proofs.OneEvent.{marks_behind}
 
 pub events_keep_the_marks : EventsKeepTheMarks
 events_keep_the_marks c es e limits on enabled say g =
-    marks_behind c (left c es) e.seat e.step (known_left c es limits on) (histories_keep_lengths c es) say (enabled_meets c (left c es).now e enabled) g
+    marks_behind c (left c es) e.seat e.step limits (known_left c es limits on) (histories_keep_lengths c es) say (enabled_meets c (left c es).now e enabled) g
 
 -- nothing stands at first: the phase is 0
 marks_at_first : (c : Config) → MarksStand c (first_moment c)
 marks_at_first c = record { guarded = λ early. absurd (elim early [ inl e ↦ omega arith | inr e ↦ omega arith ]); closed = λ three. absurd (omega arith) }
 
-marks_from : (c : Config) (w : World) (es : List Event) → AreOfPages c.pages w.now.words → Known c w.now → AreEnabledFrom c w es → OthersSayFrom c w es → MarksStand c w.now → MarksStand c (left_from c w es).now
+marks_from : (c : Config) (w : World) (es : List Event) → IsWithinLimits c → AreOfPages c.pages w.now.words → Known c w.now → AreEnabledFrom c w es → OthersSayFrom c w es → MarksStand c w.now → MarksStand c (left_from c w es).now
 unfolding left_from AreEnabledFrom OthersSayFrom
-marks_from c w [] len known on say g = g
-marks_from c w (e ∷ es) len known on say g =
-    marks_from c (world_behind c w e) es (accessed_lengths c.pages w.now.words (reached c w.now e) (access c w.now e) len) (known_behind c w.now e known on.0) on.1 say.1
-    (marks_behind c w e.seat e.step known len say.0 (enabled_meets c w.now e on.0) g)
+marks_from c w [] limits len known on say g = g
+marks_from c w (e ∷ es) limits len known on say g =
+    marks_from c (world_behind c w e) es limits (accessed_lengths c.pages w.now.words (reached c w.now e) (access c w.now e) len) (known_behind c w.now e known on.0) on.1 say.1
+    (marks_behind c w e.seat e.step limits known len say.0 (enabled_meets c w.now e on.0) g)
 
 pub marks_stand_behind_lists : MarksStandBehindLists
-marks_stand_behind_lists c es limits on say = marks_from c (first_world c) es (zero_lengths c.pages) (known_at_first c limits) on say (marks_at_first c)
+marks_stand_behind_lists c es limits on say = marks_from c (first_world c) es limits (zero_lengths c.pages) (known_at_first c limits) on say (marks_at_first c)
 
 pub close_finds_marks_closed : CloseFindsMarksClosed
 close_finds_marks_closed c es seat limits on enabled say g =
@@ -52,8 +53,9 @@ marking_guards c m g early = (g.guarded (elim early [ inl e ↦ inl (eqb-true (p
 pub others_at_first : (c : Config) → OthersSay c (first_world c)
 others_at_first c =
     record {
-      head = λ seat p n early h. absurd (not_early early);
-      covered = λ early p k i lt sc li some. absurd (not_early early);
+      place = λ early seat place now. absurd (not_early early);
+      freed = λ early run is. absurd (not_early early);
+      later = λ early p count distance is some lt. absurd (not_early early);
       mapped = λ i is. cc;
     }
   where

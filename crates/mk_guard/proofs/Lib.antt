@@ -2,6 +2,8 @@ pub mod BlackCells
 pub mod Changes
 pub mod ClosedAllocations
 pub mod Closing
+pub mod CoveredWords
+pub mod FoundHeaders
 pub mod Headers
 pub mod Histories
 pub mod KeptGuard

@@ -10,6 +10,7 @@ use Rattle.mk_core.specs.declared.events.Step.{Step}
 use Rattle.mk_core.specs.declared.events.Step.TheVariants as step
 use Rattle.mk_core.specs.declared.seats.Marker.{Marker as MarkerState}
 use Rattle.mk_core.specs.Bounded.{all_below}
+use Rattle.mk_core.specs.Config.{IsWithinLimits}
 use Rattle.mk_core.specs.Words.{header_at, phase_of}
 use Rattle.mk_core.specs.Layout.{AreOfPages}
 use Rattle.mk_core.specs.Moments.{Moment, marker_of, is_phase}
@@ -28,6 +29,7 @@ use Rattle.mk_guard.specs.Kept.{OthersSay}
 use Rattle.mk_guard.proofs.Wells.{wells_from}
 use Rattle.mk_guard.proofs.KeptGuard.{Keeps, goes_equal, black_kept}
 use Rattle.mk_guard.proofs.Changes.{Table, reg_table, tally_table, heap_kind, dirty_kind, owed_kind, headers_kind, marks_kind, blacks_kind, is_head, is_undirty, is_blackening}
+use Rattle.mk_guard.proofs.FoundHeaders.{head_finds}
 use Rattle.mk_guard.proofs.Headers.{head_keeps, no_new_cells}
 use Rattle.mk_guard.proofs.Markers.{markers_stand}
 use Rattle.mk_guard.proofs.BlackCells.{black_kind, mblack_kind, undirty_kind, undirties}
@@ -48,10 +50,10 @@ keeps_of c m seat x known len early h nh nu =
       marks = marks_kind c m seat x early h;
     }
 
-keeps_head : (c : Config) (w : World) (seat : Seat) (p n : ℕ) → Known c w.now → AreOfPages c.pages w.now.words → IsMarking w.now.words → OthersSay c w → Meets c w.now seat (step.Head p n)
+keeps_head : (c : Config) (w : World) (seat : Seat) (p n : ℕ) → IsWithinLimits c → Known c w.now → AreOfPages c.pages w.now.words → IsMarking w.now.words → OthersSay c w → Meets c w.now seat (step.Head p n)
     → Keeps c w.now (Behind c w.now seat (step.Head p n))
-keeps_head c w seat p n known len early say h =
-    let s = head_keeps c w.now seat p n len h (say.head seat p n early h) in
+keeps_head c w seat p n limits known len early say h =
+    let s = head_keeps c w.now seat p n len h (head_finds c w seat p n limits known early say h) in
     record {
       wells = s.wells;
       heap = heap_kind c w.now seat (step.Head p n) known h;
@@ -61,19 +63,19 @@ keeps_head c w seat p n known len early say h =
       marks = marks_kind c w.now seat (step.Head p n) early h;
     }
 
-black_behind : (c : Config) (w : World) (seat : Seat) (x : Step) → Known c w.now → AreOfPages c.pages w.now.words → IsMarking w.now.words → OthersSay c w → Meets c w.now seat x → Guard c w.now
+black_behind : (c : Config) (w : World) (seat : Seat) (x : Step) → IsWithinLimits c → Known c w.now → AreOfPages c.pages w.now.words → IsMarking w.now.words → OthersSay c w → Meets c w.now seat x → Guard c w.now
     → BlackIsGuarded c (Behind c w.now seat x)
-black_behind c w seat (step.Head p n) known len early say h g =
-    black_kept c w.now (Behind c w.now seat (step.Head p n)) (keeps_head c w seat p n known len early say h) (head_keeps c w.now seat p n len h (say.head seat p n early h)).new
+black_behind c w seat (step.Head p n) limits known len early say h g =
+    black_kept c w.now (Behind c w.now seat (step.Head p n)) (keeps_head c w seat p n limits known len early say h) (head_keeps c w.now seat p n len h (head_finds c w seat p n limits known early say h)).new
     (λ q k is. inl (blacks_kind c w.now seat (step.Head p n) refl q k is)) g.black
-black_behind c w seat (step.Undirty q) known len early say h g = undirty_kind c w seat q len early say h g.black
-black_behind c w seat (step.Black p n) known len early say h g =
+black_behind c w seat (step.Undirty q) limits known len early say h g = undirty_kind c w seat q len early say h g.black
+black_behind c w seat (step.Black p n) limits known len early say h g =
     black_kind c w.now seat p n (keeps_of c w.now seat (step.Black p n) known len early h refl refl) (no_new_cells c w.now seat (step.Black p n) refl) h g.black
-black_behind c w (Marker k) step.Mblack known len early say h g =
+black_behind c w (Marker k) step.Mblack limits known len early say h g =
     mblack_kind c w.now k known (keeps_of c w.now (Marker k) step.Mblack known len early h refl refl) (no_new_cells c w.now (Marker k) step.Mblack refl) h g
-black_behind c w (Caller k) step.Mblack known len early say h g = let kind = h.kind in cc
-black_behind c w Host step.Mblack known len early say h g = let kind = h.kind in cc
-black_behind c w seat x known len early say h g = rest x h refl refl refl
+black_behind c w (Caller k) step.Mblack limits known len early say h g = let kind = h.kind in cc
+black_behind c w Host step.Mblack limits known len early say h g = let kind = h.kind in cc
+black_behind c w seat x limits known len early say h g = rest x h refl refl refl
   where
     rest : (x : Step) → Meets c w.now seat x → is_head x ≡ false → is_undirty x ≡ false → is_blackening x ≡ false → BlackIsGuarded c (Behind c w.now seat x)
     rest x h nh nu nb =
@@ -85,20 +87,20 @@ same_markers c m (Caller k) q j h = refl
 same_markers c m Host q j h = refl
 same_markers c m (Marker k) q j h = let kind = h.kind in cc
 
-markers_behind : (c : Config) (w : World) (seat : Seat) (x : Step) → Known c w.now → AreOfPages c.pages w.now.words → IsMarking w.now.words → OthersSay c w → Meets c w.now seat x → Guard c w.now
+markers_behind : (c : Config) (w : World) (seat : Seat) (x : Step) → IsWithinLimits c → Known c w.now → AreOfPages c.pages w.now.words → IsMarking w.now.words → OthersSay c w → Meets c w.now seat x → Guard c w.now
     → (j : ℕ) → is_attending (marker_of (Behind c w.now seat x) j).presence ≡ true → MarkerStands c (Behind c w.now seat x) (marker_of (Behind c w.now seat x) j)
-markers_behind c w seat (step.Head p n) known len early say h g j at = markers_stand c w.now seat (step.Head p n) len h (keeps_head c w seat p n known len early say h) g.markers j at
-markers_behind c w seat (step.Undirty q) known len early say h g j at =
+markers_behind c w seat (step.Head p n) limits known len early say h g j at = markers_stand c w.now seat (step.Head p n) len h (keeps_head c w seat p n limits known len early say h) g.markers j at
+markers_behind c w seat (step.Undirty q) limits known len early say h g j at =
     let u = undirties c w.now seat q early h in
     absurd (true≢false (sym (subst (λ (y : MarkerState). is_attending y.presence ≡ true) (same_markers c w.now seat q j h) at) ∙ none_at w.now.seats.markers j u.none))
-markers_behind c w seat x known len early say h g j at = rest x h refl refl at
+markers_behind c w seat x limits known len early say h g j at = rest x h refl refl at
   where
     rest : (x : Step) → Meets c w.now seat x → is_head x ≡ false → is_undirty x ≡ false → is_attending (marker_of (Behind c w.now seat x) j).presence ≡ true
         → MarkerStands c (Behind c w.now seat x) (marker_of (Behind c w.now seat x) j)
     rest x h nh nu at = markers_stand c w.now seat x len h (keeps_of c w.now seat x known len early h nh nu) g.markers j at
 
-guard_behind : (c : Config) (w : World) (seat : Seat) (x : Step) → Known c w.now → AreOfPages c.pages w.now.words → IsMarking w.now.words → OthersSay c w → Meets c w.now seat x → Guard c w.now → Guard c (Behind c w.now seat x)
-guard_behind c w seat x known len early say h g = record { black = black_behind c w seat x known len early say h g; markers = markers_behind c w seat x known len early say h g }
+guard_behind : (c : Config) (w : World) (seat : Seat) (x : Step) → IsWithinLimits c → Known c w.now → AreOfPages c.pages w.now.words → IsMarking w.now.words → OthersSay c w → Meets c w.now seat x → Guard c w.now → Guard c (Behind c w.now seat x)
+guard_behind c w seat x limits known len early say h g = record { black = black_behind c w seat x limits known len early say h g; markers = markers_behind c w seat x limits known len early say h g }
 
 -- `begin`: nothing is black, and no marker attends
 begun : (c : Config) (m : Moment) (seat : Seat) → Known c m → AreOfPages c.pages m.words → Meets c m seat step.Begin → Guard c (Behind c m seat step.Begin)
@@ -165,30 +167,30 @@ past c m n is out =
     late : (1 ≤ n) × (n ≤ 3) → ⊥
     late is = elim out [ inl z ↦ omega arith | inr le ↦ omega arith ]
 
-pub marks_behind : (c : Config) (w : World) (seat : Seat) (x : Step) → Known c w.now → AreOfPages c.pages w.now.words → OthersSay c w → Meets c w.now seat x → MarksStand c w.now → MarksStand c (Behind c w.now seat x)
-marks_behind c w seat step.Begin known len say h g =
+pub marks_behind : (c : Config) (w : World) (seat : Seat) (x : Step) → IsWithinLimits c → Known c w.now → AreOfPages c.pages w.now.words → OthersSay c w → Meets c w.now seat x → MarksStand c w.now → MarksStand c (Behind c w.now seat x)
+marks_behind c w seat step.Begin limits known len say h g =
     let z = eqb-true (phase_of w.now.words) 0 h.phase in
     record { guarded = λ early. begun c w.now seat known len h; closed = λ three. absurd (omega arith) }
-marks_behind c w seat step.Want known len say h g =
+marks_behind c w seat step.Want limits known len say h g =
     let one = eqb-true (phase_of w.now.words) 1 h.phase in
-    record { guarded = λ early. guard_behind c w seat step.Want known len (inl one) say h (g.guarded (inl one)); closed = λ three. absurd (omega arith) }
-marks_behind c w seat step.Close known len say h g =
+    record { guarded = λ early. guard_behind c w seat step.Want limits known len (inl one) say h (g.guarded (inl one)); closed = λ three. absurd (omega arith) }
+marks_behind c w seat step.Close limits known len say h g =
     let two = eqb-true (phase_of w.now.words) 2 h.phase in
     record {
-      guarded = λ early. guard_behind c w seat step.Close known len (inr two) say h (g.guarded (inr two));
+      guarded = λ early. guard_behind c w seat step.Close limits known len (inr two) say h (g.guarded (inr two));
       closed = λ three. stays_closed c w.now.words (Behind c w.now seat step.Close).words (record { registers = refl; globals = refl; headers = λ p. refl; marks = refl; heap = λ n. inl refl })
           (closed c w.now seat known len h (g.guarded (inr two)).black);
     }
-marks_behind c w seat step.Release known len say h g =
+marks_behind c w seat step.Release limits known len say h g =
     let three = eqb-true (phase_of w.now.words) 3 h.phase in
     past c (Behind c w.now seat step.Release) 4 (omega arith) (inr (omega arith))
-marks_behind c w seat step.End known len say h g =
+marks_behind c w seat step.End limits known len say h g =
     let four = eqb-true (phase_of w.now.words) 4 h.phase in
     past c (Behind c w.now seat step.End) 0 (omega arith) (inl refl)
-marks_behind c w seat step.Over known len say h g =
+marks_behind c w seat step.Over limits known len say h g =
     let zero = over_phase c w.now seat h in
     past c (Behind c w.now seat step.Over) 5 (omega arith) (inr (omega arith))
-marks_behind c w seat x known len say h g = rest x h refl
+marks_behind c w seat x limits known len say h g = rest x h refl
   where
     rest : (x : Step) → Meets c w.now seat x → is_phase_step x ≡ false → MarksStand c (Behind c w.now seat x)
     rest x h stays =
@@ -196,7 +198,7 @@ marks_behind c w seat x known len say h g = rest x h refl
         record {
           guarded = λ early.
               let before : IsMarking w.now.words = subst (λ n. (n ≡ 1) ⊎ (n ≡ 2)) same early in
-              guard_behind c w seat x known len before say h (g.guarded before);
+              guard_behind c w seat x limits known len before say h (g.guarded before);
           closed = λ three.
               let before : phase_of w.now.words ≡ 3 = sym same ∙ three in
               stays_closed c w.now.words (Behind c w.now seat x).words (leaves_closed c w.now seat x known before h) (g.closed before);
