@@ -30,7 +30,7 @@ use Rattle.mk_core.specs.Order.{comes_next}
 use Rattle.mk_core.specs.Accesses.{caller_number, tally_word, register_met, reg_access, found}
 use Rattle.mk_core.specs.Effects.{progress}
 use Rattle.mk_core.specs.Frames.{OnlyGrow}
-use Rattle.mk_core.specs.ClosedMarks.{OwesDirty, IsGuarded, PointsWell, DirtyIsOwed}
+use Rattle.mk_core.specs.ClosedMarks.{OwesDirty, IsGuarded, DirtyIsOwed}
 use Rattle.mk_core.proofs.WordBits.{no_bit}
 use Rattle.mk_protocol.proofs.Standings.{standing_at, is_astray}
 use Rattle.mk_protocol.proofs.NextSteps.{at_its_stage}
@@ -41,7 +41,7 @@ use Rattle.mk_protocol.proofs.Known.{Known}
 use Rattle.mk_protocol.proofs.Growth.{grows_same, grows_more}
 use Rattle.mk_protocol.proofs.Colours.{Colours, colours_of, ColourStep, ClearsMarks, AddsMarks, MarksSeen, colour_step}
 use Rattle.mk_guard.specs.Guard.{IsMarking}
-use Rattle.mk_guard.proofs.Wells.{well_is, bare_word_well}
+use Rattle.mk_guard.proofs.Wells.{bare_guarded}
 
 -- the words that only a few kinds change
 pub record Table : Type 0 where
@@ -87,7 +87,8 @@ stored : (c : Config) (m : Moment) (k : ℕ) (x : Step) (n y : ℕ) (f : Flight)
     → (slice_index (Behind c m (Caller k) x).words.heap y ≡ slice_index m.words.heap y) ⊎ IsGuarded c (Behind c m (Caller k) x) y
 stored c m k x n y f lt heap flights at same = elim (cases_eq y (word_met (flight_of m (Caller k)))) [
   | inl e ↦
-      let is : flight_of (Behind c m (Caller k) x) (Caller k) ≡ f = ap (λ (fs : List Flight). slice_index_or fs k at_rest) flights ∙ get_or-set_same m.seats.flights k f at_rest lt in
+      let is : flight_of (Behind c m (Caller k) x) (Caller k) ≡ f
+      = ap (λ (fs : List Flight). slice_index_or fs k at_rest) flights ∙ get_or-set_same m.seats.flights k f at_rest lt in
       inr (DirtyIsOwed k (ap (λ (g : Flight). g.stage) is ∙ at, ap (λ (g : Flight). page_met g) is ∙ ap (λ i. i / 64) (same ∙ sym e)))
   | inr ne ↦ inl (ap (λ (ys : List ℕ). slice_index ys y) heap ∙ get_or-set_other m.words.heap (word_met (flight_of m (Caller k))) y n 0 ne)
 ]
@@ -100,13 +101,15 @@ heap_kind c m (Caller k) step.Write known h y =
     let lt = ltb-true k c.callers h.seat in
     let at = at_its_stage (flight_of m (Caller k)).stage (flight_of m (Caller k)).op step.Write refl h.order in
     let fine = subst (λ (s : Stage). is_astray (standing_at s (flight_of m (Caller k)).op) ≡ false) at (not_astray c m known.orderly k lt) in
-    stored c m k step.Write _ y (progress c m (flight_of m (Caller k)) (found c m (record { seat = Caller k; step = step.Write })) step.Write).flight (omega (arith, lt, known.orderly.flights)) refl refl
+    stored c m k step.Write _ y (progress c m (flight_of m (Caller k)) (found c m (record { seat = Caller k; step = step.Write })) step.Write).flight
+    (omega (arith, lt, known.orderly.flights)) refl refl
     (ap (λ (s : Stage). stage_behind s (steps_of (flight_of m (Caller k)).op)) at ∙ wrote (flight_of m (Caller k)).op fine) refl
 heap_kind c m (Caller k) step.Cas known h y =
     let lt = ltb-true k c.callers h.seat in
     let at = at_its_stage (flight_of m (Caller k)).stage (flight_of m (Caller k)).op step.Cas refl h.order in
     let fine = subst (λ (s : Stage). is_astray (standing_at s (flight_of m (Caller k)).op) ≡ false) at (not_astray c m known.orderly k lt) in
-    stored c m k step.Cas _ y (progress c m (flight_of m (Caller k)) (found c m (record { seat = Caller k; step = step.Cas })) step.Cas).flight (omega (arith, lt, known.orderly.flights)) refl refl
+    stored c m k step.Cas _ y (progress c m (flight_of m (Caller k)) (found c m (record { seat = Caller k; step = step.Cas })) step.Cas).flight
+    (omega (arith, lt, known.orderly.flights)) refl refl
     (ap (λ (s : Stage). stage_behind s (steps_of (flight_of m (Caller k)).op)) at ∙ swapped (flight_of m (Caller k)).op fine) refl
 heap_kind c m (Marker k) step.Write known h y = let kind = h.kind in cc
 heap_kind c m Host step.Write known h y = let kind = h.kind in cc
@@ -116,7 +119,7 @@ heap_kind c m seat (step.Wipe n) known h y = elim (cases_eq y n) [
   | inl e ↦ elim (cases_lt n (length m.words.heap)) [
     | inl lt ↦
         let bare = ap (λ i. slice_index (slice_set m.words.heap n 0) i) e ∙ get_or-set_same m.words.heap n 0 0 lt in
-        inr (PointsWell (well_is c (Behind c m seat (step.Wipe n)).words _ (bare_word_well c (Behind c m seat (step.Wipe n)).words (slice_index (slice_set m.words.heap n 0) y) bare)))
+        inr (bare_guarded c (Behind c m seat (step.Wipe n)) y bare)
     | inr past ↦ inl (ap (λ (ys : List ℕ). slice_index ys y) (set_past m.words.heap n 0 past))
   ]
   | inr ne ↦ inl (get_or-set_other m.words.heap n y 0 0 ne)
@@ -129,7 +132,8 @@ abbrev pub is_undirty : Step → Bool
 is_undirty (step.Undirty p) = true
 is_undirty _ = false
 
-pub dirty_kind : (c : Config) (m : Moment) (seat : Seat) (x : Step) → is_undirty x ≡ false → (p : ℕ) → slice_index m.words.dirty p ≡ 1 → slice_index (Behind c m seat x).words.dirty p ≡ 1
+pub dirty_kind : (c : Config) (m : Moment) (seat : Seat) (x : Step) → is_undirty x ≡ false → (p : ℕ) → slice_index m.words.dirty p ≡ 1
+    → slice_index (Behind c m seat x).words.dirty p ≡ 1
 dirty_kind c m seat step.Reg u p h = ap (λ (t : Table). slice_index t.dirty p) (reg_table c m seat) ∙ h
 dirty_kind c m seat (step.Tally n v) u p h = ap (λ (t : Table). slice_index t.dirty p) (tally_table m.words n v) ∙ h
 dirty_kind c m seat step.Dirty u p h = elim (cases_eq p (page_met (flight_of m seat))) [
@@ -167,7 +171,8 @@ owed_kind c m (Caller k) x len h j p owes = elim (cases_eq j k) [
       (paid x h (at_owed (flight_of m (Caller k)).op x (subst (λ (s : Stage). comes_next s (flight_of m (Caller k)).op x ≡ true) own h.order))))
 ]
   where
-    paid : (x : Step) → Meets c m (Caller k) x → is_dirty x ≡ true → slice_index (Behind c m (Caller k) x).words.dirty (page_met (flight_of m (Caller k))) ≡ 1
+    paid : (x : Step) → Meets c m (Caller k) x → is_dirty x ≡ true
+        → slice_index (Behind c m (Caller k) x).words.dirty (page_met (flight_of m (Caller k))) ≡ 1
     paid step.Dirty h is =
         let met = (and_parts (nat_le 65536 (flight_of m (Caller k)).q) (nat_lt (word_met (flight_of m (Caller k))) (64 * c.pages)) h.range).1 in
         let lt = ltb-true (word_met (flight_of m (Caller k))) (64 * c.pages) met in
@@ -180,7 +185,8 @@ abbrev pub is_head : Step → Bool
 is_head (step.Head p n) = true
 is_head _ = false
 
-pub headers_kind : (c : Config) (m : Moment) (seat : Seat) (x : Step) → is_head x ≡ false → (p : ℕ) → header_at (Behind c m seat x).words p ≡ header_at m.words p
+pub headers_kind : (c : Config) (m : Moment) (seat : Seat) (x : Step) → is_head x ≡ false → (p : ℕ)
+    → header_at (Behind c m seat x).words p ≡ header_at m.words p
 headers_kind c m seat step.Reg u p = ap (λ (t : Table). (slice_index_or t.pages p free_page).header) (reg_table c m seat)
 headers_kind c m seat (step.Tally n v) u p = ap (λ (t : Table). (slice_index_or t.pages p free_page).header) (tally_table m.words n v)
 headers_kind c m seat (step.Head q n) u p = cc
@@ -202,7 +208,8 @@ marks_grow c m seat y early (AddsMarks p bits e h) = grows_more m.words.marks p 
 marks_grow c m seat y early (MarksSeen p bits s e f) = grows_more m.words.marks p bits
 marks_grow c m seat y early _ = grows_same m.words.marks
 
-pub marks_kind : (c : Config) (m : Moment) (seat : Seat) (x : Step) → IsMarking m.words → Meets c m seat x → OnlyGrow m.words.marks (Behind c m seat x).words.marks
+pub marks_kind : (c : Config) (m : Moment) (seat : Seat) (x : Step) → IsMarking m.words → Meets c m seat x
+    → OnlyGrow m.words.marks (Behind c m seat x).words.marks
 marks_kind c m seat x early h = marks_grow c m seat (colours_of (Behind c m seat x)) early (colour_step c m seat x h)
 
 -- black words: bits are added by two kinds
@@ -211,7 +218,8 @@ is_blackening (step.Black p n) = true
 is_blackening step.Mblack = true
 is_blackening _ = false
 
-pub blacks_kind : (c : Config) (m : Moment) (seat : Seat) (x : Step) → is_blackening x ≡ false → OnlyGrow (Behind c m seat x).words.blacks m.words.blacks
+pub blacks_kind : (c : Config) (m : Moment) (seat : Seat) (x : Step) → is_blackening x ≡ false
+    → OnlyGrow (Behind c m seat x).words.blacks m.words.blacks
 blacks_kind c m seat step.Reg u = subst (λ (t : Table). OnlyGrow t.blacks m.words.blacks) (sym (reg_table c m seat)) (grows_same m.words.blacks)
 blacks_kind c m seat (step.Tally n v) u = subst (λ (t : Table). OnlyGrow t.blacks m.words.blacks) (sym (tally_table m.words n v)) (grows_same m.words.blacks)
 blacks_kind c m seat (step.Black p n) u = cc

@@ -36,7 +36,8 @@ is_scanned_cell c w a limits st leaf =
     ∙ ap (λ b. b || is_unmapped_header (header_in w (a.base / 64))) leaf ∙ ap (λ n. is_unmapped_header (header_of n)) made
     ∙ made_is_mapped (object_placed c a) 0 sized first
 
-closed_word : (c : Config) (w : Words) (a : PlacedAllocation) → IsWithinLimits c → StandsMapped c w a → CellsAreClosed c w → (storage_of c a).leaf ≡ false
+closed_word : (c : Config) (w : Words) (a : PlacedAllocation) → IsWithinLimits c → StandsMapped c w a → CellsAreClosed c w
+    → (storage_of c a).leaf ≡ false
     → is_marked_allocation c w a ≡ true → (n : ℕ) → IsWordOf (storage_of c a) n → word_points_well c.pages w n ≡ true
 closed_word c w a limits st closed leaf marked n inside =
     let has = has_headers c w a st in

@@ -78,7 +78,8 @@ closed_page w p h =
     let parts = and_parts (without (bit_and (slice_index w.marks p) (cell_bits w p)) (slice_index w.blacks p) == 0) (slice_index w.dirty p == 0) h in
     record { black = eqb-true (without (bit_and (slice_index w.marks p) (cell_bits w p)) (slice_index w.blacks p)) 0 parts.0; clean = eqb-true (slice_index w.dirty p) 0 parts.1 }
 
-black_bit : (w : Words) (p k : ℕ) → ClosedPage w p → k < cells_under (header_in w p) → has_bit (slice_index w.marks p) k ≡ true → has_bit (slice_index w.blacks p) k ≡ true
+black_bit : (w : Words) (p k : ℕ) → ClosedPage w p → k < cells_under (header_in w p) → has_bit (slice_index w.marks p) k ≡ true
+    → has_bit (slice_index w.blacks p) k ≡ true
 black_bit w p k h lt is =
     fewer_bits (bit_and (slice_index w.marks p) (cell_bits w p)) (slice_index w.blacks p) k
     (without_none (bit_and (slice_index w.marks p) (cell_bits w p)) (slice_index w.blacks p) h.black)
@@ -88,13 +89,15 @@ black_bit w p k h lt is =
     let both : min (bit_at (slice_index w.marks p) k) (bit_at (cell_bits w p) k) ≡ 1 = omega arith in
     both)))
 
-pub closed : (c : Config) (m : Moment) (seat : Seat) → Known c m → AreOfPages c.pages m.words → Meets c m seat step.Close → BlackIsGuarded c m → CellsAreClosed c m.words
+pub closed : (c : Config) (m : Moment) (seat : Seat) → Known c m → AreOfPages c.pages m.words → Meets c m seat step.Close → BlackIsGuarded c m
+    → CellsAreClosed c m.words
 closed c m seat known len h black =
     record {
       registers = λ i. list_all-at (points_well c.pages m.words) m.words.registers 0 roots.0 (null_points_well c m.words) i;
       globals = λ g. list_all-at (points_well c.pages m.words) m.words.globals 0 roots.1 (null_points_well c m.words) g;
       words = λ cell i lt is scanned li.
-          settled (first_word m.words cell + i) (black cell.page cell.index i lt (black_bit m.words cell.page cell.index (page cell.page (in_heap cell.page cell.index lt)) lt is) scanned li);
+          let there = page cell.page (in_heap cell.page cell.index lt) in
+          settled (first_word m.words cell + i) (black cell.page cell.index i lt (black_bit m.words cell.page cell.index there lt is) scanned li);
     }
   where
     parts : (all_below c.pages (has_closed_page m.words) ≡ true) × (roots_point_well c.pages m.words ≡ true)

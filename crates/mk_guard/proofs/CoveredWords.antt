@@ -15,7 +15,8 @@ use Rattle.mk_guard.specs.Kept.{LaterPagesAreKnown}
 own_head : (w : Words) (p : ℕ) (x : Option Header) → header_in w p ≡ x → head_page_under x p ≡ p → (n : ℕ) → n / 64 ≡ p → head_page w (n / 64) ≡ p
 own_head w p x is head n at = ap (λ q. head_page w q) at ∙ ap (λ (y : Option Header). head_page_under y p) is ∙ head
 
-pub covered_word : (w : Words) (p k i : ℕ) → LaterPagesAreKnown w → k < cells_under (header_in w p) → has_no_pointers (header_in w p) ≡ false → i < words_under (header_in w p)
+pub covered_word : (w : Words) (p k i : ℕ) → LaterPagesAreKnown w → k < cells_under (header_in w p) → has_no_pointers (header_in w p) ≡ false
+    → i < words_under (header_in w p)
     → slice_index w.heap (64 * p + k * words_under (header_in w p) + i) ≢ 0 → head_page w ((64 * p + k * words_under (header_in w p) + i) / 64) ≡ p
 covered_word w p k i later lk scanned li some = by (header_in w p) refl lk scanned li some
   where
@@ -36,7 +37,8 @@ covered_word w p k i later lk scanned li some = by (header_in w p) refl lk scann
               ]
         ]
 
-    by : (x : Option Header) → header_in w p ≡ x → k < cells_under x → has_no_pointers x ≡ false → i < words_under x → slice_index w.heap (64 * p + k * words_under x + i) ≢ 0
+    by : (x : Option Header) → header_in w p ≡ x → k < cells_under x → has_no_pointers x ≡ false → i < words_under x
+        → slice_index w.heap (64 * p + k * words_under x + i) ≢ 0
         → head_page w ((64 * p + k * words_under x + i) / 64) ≡ p
     by (Some (Block class)) is lk scanned li some =
         let ends = cell_ends k (class_words_of class) lk in

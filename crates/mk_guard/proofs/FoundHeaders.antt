@@ -40,6 +40,7 @@ use Rattle.mk_protocol.proofs.Known.{Known}
 use Rattle.mk_protocol.proofs.NewPlace.{new_holds}
 use Rattle.mk_guard.specs.Guard.{GoesOn, IsMarking}
 use Rattle.mk_guard.specs.Kept.{PlaceIsBare, RunHasObject, OthersSay}
+use Rattle.mk_guard.proofs.Phases.{either_phase}
 use Rattle.mk_guard.proofs.Headers.{HeadFinds, Carved, Unmapped}
 
 -- What an address on a page of a run points into: cell 0 of its first page.
@@ -50,7 +51,8 @@ run_cell distance page = if nat_le distance page then Some (record { page = page
 first_cell : (distance page : ℕ) → distance ≡ 0 → Some (record { page = page; index = 0 }) ≡ run_cell distance page
 first_cell distance page z =
     let here : page ≡ page - distance = omega arith in
-    ap (λ (p : ℕ). Some (record { page = p; index = 0 })) here ∙ sym (cond-true (nat_le distance page) (Some (record { page = page - distance; index = 0 })) None (le-leb distance page (omega arith)))
+    ap (λ (p : ℕ). Some (record { page = p; index = 0 })) here
+    ∙ sym (cond-true (nat_le distance page) (Some (record { page = page - distance; index = 0 })) None (le-leb distance page (omega arith)))
 
 run_cell_under : (o : Object) (distance page word : ℕ) (x : Option Header) → ShowsPart o distance x → is_small_object o ≡ false
     → option_and_then (λ h. cell_under h page word) x ≡ run_cell distance page
@@ -63,11 +65,13 @@ run_cell_under o distance page word x (OfLater mapped some l) large = refl
 run_cell_at : (pages header value distance : ℕ) (o : Object) → ShowsPart o distance (header_of header) → is_small_object o ≡ false
     → cell_at pages header value ≡ (if is_heap_address pages value then run_cell distance (page_at_address value) else None)
 run_cell_at pages header value distance o part large =
-    ap (λ (x : Option Cell). if is_heap_address pages value then x else None) (run_cell_under o distance (page_at_address value) (word_at_address value) (header_of header) part large)
+    ap (λ (x : Option Cell). if is_heap_address pages value then x else None)
+    (run_cell_under o distance (page_at_address value) (word_at_address value) (header_of header) part large)
 
 -- Unmapping shows the same.
 
-unmapped_goes : (pages before after distance : ℕ) (o : Object) → is_small_object o ≡ false → ShowsPart o distance (header_of before) → ShowsPart o distance (header_of after)
+unmapped_goes : (pages before after distance : ℕ) (o : Object) → is_small_object o ≡ false → ShowsPart o distance (header_of before)
+    → ShowsPart o distance (header_of after)
     → is_unmapped_header (header_of after) ≡ true → GoesOn pages before after
 unmapped_goes pages before after distance o large b a unmapped =
     record {
@@ -77,7 +81,8 @@ unmapped_goes pages before after distance o large b a unmapped =
       unscanned = λ some t. ap (λ u. is_leaf_header (header_of after) || u) unmapped ∙ or-true (is_leaf_header (header_of after));
     }
 
-unmaps_find : (c : Config) (w : Words) (freed : Option RunPages) (p n : ℕ) → ((run : RunPages) → freed ≡ Some run → RunHasObject w run) → Unmaps w freed p n → HeadFinds c.pages w p n
+unmaps_find : (c : Config) (w : Words) (freed : Option RunPages) (p n : ℕ) → ((run : RunPages) → freed ≡ Some run → RunHasObject w run)
+    → Unmaps w freed p n → HeadFinds c.pages w p n
 unmaps_find c w freed p n runs u =
     Unmapped (unmapped_goes c.pages (header_at w p) n distance o.object o.large before after unmapped)
     (λ v y on is. run_cell_at c.pages (header_at w p) v distance o.object before o.large ∙ sym (run_cell_at c.pages n v distance o.object after o.large) ∙ is)
@@ -99,7 +104,9 @@ unmaps_find c w freed p n runs u =
     here = let le = u.next.from in omega arith
 
     before : ShowsPart o.object (p - u.run.page) (header_of (header_at w p))
-    before = header_shows o.object (p - u.run.page) (header_at w p) o.sized within (subst (λ q. IsHeaderOf o.object (p - u.run.page) (header_at w q)) here (o.headers (p - u.run.page) near))
+    before =
+        header_shows o.object (p - u.run.page) (header_at w p) o.sized within
+        (subst (λ q. IsHeaderOf o.object (p - u.run.page) (header_at w q)) here (o.headers (p - u.run.page) near))
 
     is : n ≡ unmapped_header (pages_made o.object) (p - u.run.page)
     is = u.next.is ∙ ap (λ (k : ℕ). unmapped_header k (p - u.run.page)) (sym o.count)
@@ -125,7 +132,8 @@ made_bit o k lt = elim (cases_Bool (is_small_object o)) [
 ]
 
 -- The cell of a value on such a page is one of the first page's.
-made_cell : (pages : ℕ) (o : Object) (first distance value : ℕ) (x : Cell) → IsSized o → distance < pages_made o → page_at_address value ≡ first + distance
+made_cell : (pages : ℕ) (o : Object) (first distance value : ℕ) (x : Cell) → IsSized o → distance < pages_made o
+    → page_at_address value ≡ first + distance
     → cell_at pages (header_made o distance) value ≡ Some x → (x.page ≡ first) × (x.index < cells_made o)
 made_cell pages o first distance value x sized lt on is = (page, index)
   where
@@ -145,7 +153,8 @@ made_cell pages o first distance value x sized lt on is = (page, index)
     small_index small =
         let one = small_pages o small in
         let zero : distance ≡ 0 = omega arith in
-        let cells : cells_under (header_of (header_made o distance)) ≡ cells_made o = part_cells o (header_of (header_made o distance)) (subst (λ d. ShowsPart o d (header_of (header_made o distance))) zero part) in
+        let cells : cells_under (header_of (header_made o distance)) ≡ cells_made o
+        = part_cells o (header_of (header_made o distance)) (subst (λ d. ShowsPart o d (header_of (header_made o distance))) zero part) in
         let shown : cells_under (Some under.0) ≡ cells_made o = ap (λ (y : Option Header). cells_under y) (sym under.1) ∙ cells in
         let class = small_cells o small in
         let some = some_cells (class_made o) (class_known o sized small).0 in
@@ -172,7 +181,8 @@ made_cell pages o first distance value x sized lt on is = (page, index)
           omega arith
     ]
 
-first_marked : (w : Words) (o : Object) (place : Place) (k : ℕ) → is_phase w 1 ≡ true → is_marked_first w o place ≡ true → k < cells_made o → has_bit (slice_index w.marks place.page) k ≡ true
+first_marked : (w : Words) (o : Object) (place : Place) (k : ℕ) → is_phase w 1 ≡ true → is_marked_first w o place ≡ true → k < cells_made o
+    → has_bit (slice_index w.marks place.page) k ≡ true
 first_marked w o place k one first lt = elim (or_cases (not (is_phase w 1)) (without (bits_made o) (slice_index w.marks place.page) == 0) first) [
   | inl out ↦ absurd (true≢false (sym one ∙ not-true (is_phase w 1) out))
   | inr none ↦
@@ -198,7 +208,8 @@ word_within o k i sized lk li = elim (cases_Bool (is_small_object o)) [
       omega arith
 ]
 
-carves_find : (c : Config) (w : Words) (o : Object) (found : Option Place) (p n : ℕ) → IsSized o → is_phase w 1 ≡ true → ((place : Place) → found ≡ Some place → PlaceIsBare w o place)
+carves_find : (c : Config) (w : Words) (o : Object) (found : Option Place) (p n : ℕ) → IsSized o → is_phase w 1 ≡ true
+    → ((place : Place) → found ≡ Some place → PlaceIsBare w o place)
     → Carves w o found p n → HeadFinds c.pages w p n
 carves_find c w o found p n sized one bare k =
     Carved free
@@ -222,7 +233,8 @@ carves_find c w o found p n sized one bare k =
       | inr made ↦ absurd (k.next.not_yet (subst (λ q. header_at w q ≡ header_made o (p - k.place.page)) here made))
     ]
 
-    words : (j i : ℕ) → j < cells_under (header_of (header_made o (p - k.place.page))) → i < words_under (header_of (header_made o (p - k.place.page)))
+    words : (j i : ℕ) → j < cells_under (header_of (header_made o (p - k.place.page)))
+        → i < words_under (header_of (header_made o (p - k.place.page)))
         → slice_index w.heap (64 * p + j * words_under (header_of n) + i) ≡ 0
     words j i lj li = elim (cases_eq (p - k.place.page) 0) [
       | inr ne ↦
@@ -251,14 +263,16 @@ new_sized c f limits operands new = by f.op (undecided_new f new) operands
         subst (λ (x : Op). IsSized (object_made c x)) (sym at.op)
         (limits.types at.ty [] (ltb-true at.ty (length c.types) (subst (λ (x : Op). has_type c x ≡ true) at.op typed))).0
 
+-- While a cycle marks, a `head` comes before the stop is wanted.
 marking_phase : (n : ℕ) → ((n == 0) || (n == 1) || (n == 4)) ≡ true → (n ≡ 1) ⊎ (n ≡ 2) → n ≡ 1
 marking_phase n h (inl e) = e
-marking_phase n h (inr two) = absurd (elim (or_cases ((n == 0) || (n == 1)) (n == 4) h) [
-  | inl a ↦ elim (or_cases (n == 0) (n == 1) a) [ inl e ↦ let z = eqb-true n 0 e in omega arith | inr e ↦ let z = eqb-true n 1 e in omega arith ]
-  | inr e ↦ let z = eqb-true n 4 e in omega arith
-])
+marking_phase n h (inr two) = elim (or_cases ((n == 0) || (n == 1)) (n == 4) h) [
+  | inl a ↦ elim (either_phase n 0 1 a) [ inl e ↦ absurd (omega arith) | inr e ↦ absurd (omega arith) ]
+  | inr e ↦ let z = eqb-true n 4 e in absurd (omega arith)
+]
 
-pub head_finds : (c : Config) (w : World) (seat : Seat) (p n : ℕ) → IsWithinLimits c → Known c w.now → IsMarking w.now.words → OthersSay c w → Meets c w.now seat (step.Head p n) → HeadFinds c.pages w.now.words p n
+pub head_finds : (c : Config) (w : World) (seat : Seat) (p n : ℕ) → IsWithinLimits c → Known c w.now → IsMarking w.now.words → OthersSay c w
+    → Meets c w.now seat (step.Head p n) → HeadFinds c.pages w.now.words p n
 head_finds c w seat p n limits known early say h = by (head_step c w.now (flight_of w.now seat) p n h.holder)
   where
     one : phase_of w.now.words ≡ 1
@@ -272,6 +286,7 @@ head_finds c w seat p n limits known early say h = by (head_step c w.now (flight
 
     by : HeadStep c w.now (flight_of w.now seat) p n → HeadFinds c.pages w.now.words p n
     by (ItCarves four k) =
-        carves_find c w.now.words (object_made c (flight_of w.now seat).op) (place_now c w.now (flight_of w.now seat)) p n (new_has k.place k.there) (eq-eqb (phase_of w.now.words) 1 one) (say.place early seat) k
+        carves_find c w.now.words (object_made c (flight_of w.now seat).op) (place_now c w.now (flight_of w.now seat)) p n
+        (new_has k.place k.there) (eq-eqb (phase_of w.now.words) 1 one) (say.place early seat) k
     by (ItUnmaps four u) = unmaps_find c w.now.words w.now.seats.holding.freed p n (say.freed early) u
     by (ItEmpties four k) = let e = eqb-true (phase_of w.now.words) 4 four in absurd (omega arith)

@@ -16,11 +16,11 @@ use Rattle.mk_core.specs.Layout.{AreOfPages}
 use Rattle.mk_core.specs.Words.{Words, header_at, used_at}
 use Rattle.mk_core.specs.Cells.{header_in, cells_under, words_under, is_marked}
 use Rattle.mk_core.specs.Moments.{Moment}
-use Rattle.mk_core.specs.ClosedMarks.{IsGuarded, PointsWell}
+use Rattle.mk_core.specs.ClosedMarks.{IsGuarded}
 use Rattle.mk_protocol.proofs.Actors.{Meets}
 use Rattle.mk_protocol.proofs.Sorts.{Behind}
 use Rattle.mk_guard.specs.Guard.{GoesOn}
-use Rattle.mk_guard.proofs.Wells.{IsWell, well_is, bare_word_well}
+use Rattle.mk_guard.proofs.Wells.{IsWell, bare_guarded}
 use Rattle.mk_guard.proofs.KeptGuard.{NewCellsAreGuarded, goes_same}
 use Rattle.mk_guard.proofs.Changes.{is_head, headers_kind}
 
@@ -47,14 +47,21 @@ free_shows pages v y is = by (is_heap_address pages v) is
     by false is = none_some is
 
 from_free : (pages n : ℕ) → GoesOn pages 0 n
-from_free pages n = record { cell = λ v y is. absurd (free_shows pages v y is); count = λ some. absurd (some refl); words = λ some. absurd (some refl); unscanned = λ some. absurd (some refl) }
+from_free pages n =
+    record {
+      cell = λ v y is. absurd (free_shows pages v y is);
+      count = λ some. absurd (some refl);
+      words = λ some. absurd (some refl);
+      unscanned = λ some. absurd (some refl);
+    }
 
 pub record HeadKeeps (c : Config) (m n : Moment) : Type 0 where
   pub wells : (value : ℕ) → IsWell c m.words value → IsWell c n.words value
   pub headers : (p : ℕ) → GoesOn c.pages (header_at m.words p) (header_at n.words p)
   pub new : NewCellsAreGuarded c m n
 
-pub head_keeps : (c : Config) (m : Moment) (seat : Seat) (p n : ℕ) → AreOfPages c.pages m.words → Meets c m seat (step.Head p n) → HeadFinds c.pages m.words p n → HeadKeeps c m (Behind c m seat (step.Head p n))
+pub head_keeps : (c : Config) (m : Moment) (seat : Seat) (p n : ℕ) → AreOfPages c.pages m.words → Meets c m seat (step.Head p n)
+    → HeadFinds c.pages m.words p n → HeadKeeps c m (Behind c m seat (step.Head p n))
 head_keeps c m seat p n len h finds =
     record {
       wells = λ v is y at. elim (cases_eq (page_at_address v) p) [
@@ -67,7 +74,8 @@ head_keeps c m seat p n len h finds =
       ];
       new = λ q k i none lt li. elim (cases_eq q p) [
         | inl e ↦
-            made finds q k i e (subst (λ j. cells_under (header_in m.words j) ≡ 0) e none) (subst (λ a. k < cells_under (header_of a)) (here q e) lt) (subst (λ a. i < words_under (header_of a)) (here q e) li)
+            made finds q k i e (subst (λ j. cells_under (header_in m.words j) ≡ 0) e none)
+            (subst (λ a. k < cells_under (header_of a)) (here q e) lt) (subst (λ a. i < words_under (header_of a)) (here q e) li)
         | inr ne ↦ let bad : k < 0 = subst (λ a. k < a) (ap (λ a. cells_under (header_of a)) (other q ne) ∙ none) lt in absurd (omega arith)
       ];
     }
@@ -85,16 +93,18 @@ head_keeps c m seat p n len h finds =
     goes (Carved free marked bare) = subst (λ a. GoesOn c.pages a n) (sym free) (from_free c.pages n)
     goes (Unmapped on back still) = on
 
-    well : HeadFinds c.pages m.words p n → (v : ℕ) → page_at_address v ≡ p → IsWell c m.words v → (y : Cell) → cell_at c.pages n v ≡ Some y → is_marked m.words y ≡ true
+    well : HeadFinds c.pages m.words p n → (v : ℕ) → page_at_address v ≡ p → IsWell c m.words v → (y : Cell) → cell_at c.pages n v ≡ Some y
+        → is_marked m.words y ≡ true
     well (Carved free marked bare) v e is y at = marked v y e at
     well (Unmapped on back still) v e is y at = is y (subst (λ j. cell_at c.pages (header_at m.words j) v ≡ Some y) (sym e) (back v y e at))
 
-    made : HeadFinds c.pages m.words p n → (q k i : ℕ) → q ≡ p → cells_under (header_in m.words p) ≡ 0 → k < cells_under (header_of n) → i < words_under (header_of n)
+    made : HeadFinds c.pages m.words p n → (q k i : ℕ) → q ≡ p → cells_under (header_in m.words p) ≡ 0 → k < cells_under (header_of n)
+        → i < words_under (header_of n)
         → IsGuarded c (Behind c m seat (step.Head p n)) (64 * q + k * words_under (header_in (Behind c m seat (step.Head p n)).words q) + i)
     made (Carved free marked bare) q k i e none lt li =
         let first : 64 * q + k * words_under (header_in (Behind c m seat (step.Head p n)).words q) + i ≡ 64 * p + k * words_under (header_of n) + i
         = ap (λ a. 64 * q + k * words_under (header_of a) + i) (here q e) ∙ ap (λ j. 64 * j + k * words_under (header_of n) + i) e in
-        PointsWell (well_is c (Behind c m seat (step.Head p n)).words _ (bare_word_well c (Behind c m seat (step.Head p n)).words _ (ap (λ j. slice_index m.words.heap j) first ∙ bare k i lt li)))
+        bare_guarded c (Behind c m seat (step.Head p n)) _ (ap (λ j. slice_index m.words.heap j) first ∙ bare k i lt li)
     made (Unmapped on back still) q k i e none lt li = let z = still none in absurd (omega arith)
 
 -- no other kind makes cells

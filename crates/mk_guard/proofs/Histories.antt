@@ -27,7 +27,8 @@ events_keep_the_marks c es e limits on enabled say g =
 marks_at_first : (c : Config) → MarksStand c (first_moment c)
 marks_at_first c = record { guarded = λ early. absurd (elim early [ inl e ↦ omega arith | inr e ↦ omega arith ]); closed = λ three. absurd (omega arith) }
 
-marks_from : (c : Config) (w : World) (es : List Event) → IsWithinLimits c → AreOfPages c.pages w.now.words → Known c w.now → AreEnabledFrom c w es → OthersSayFrom c w es → MarksStand c w.now → MarksStand c (left_from c w es).now
+marks_from : (c : Config) (w : World) (es : List Event) → IsWithinLimits c → AreOfPages c.pages w.now.words → Known c w.now → AreEnabledFrom c w es
+    → OthersSayFrom c w es → MarksStand c w.now → MarksStand c (left_from c w es).now
 unfolding left_from AreEnabledFrom OthersSayFrom
 marks_from c w [] limits len known on say g = g
 marks_from c w (e ∷ es) limits len known on say g =

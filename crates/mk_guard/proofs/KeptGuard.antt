@@ -14,7 +14,7 @@ use Rattle.mk_core.specs.Moments.{Moment}
 use Rattle.mk_core.specs.Frames.{OnlyGrow}
 use Rattle.mk_core.specs.ClosedMarks.{OwesDirty, IsGuarded, PointsWell, PageIsDirty, DirtyIsOwed, BlackIsGuarded}
 use Rattle.mk_guard.specs.Guard.{GoesOn, cell_scanned, ScanStands, MarkerStands}
-use Rattle.mk_guard.proofs.Wells.{IsWell, well_is, is_well}
+use Rattle.mk_guard.proofs.Wells.{IsWell, is_well, well_guarded}
 
 pub goes_same : (pages a : ℕ) → GoesOn pages a a
 goes_same pages a = record { cell = λ v y h. h; count = λ h. refl; words = λ h. refl; unscanned = λ h t. t }
@@ -51,8 +51,7 @@ NewCellsAreGuarded c m n =
 
 pub guards : (c : Config) (m n : Moment) → Keeps c m n → (x : ℕ) → IsGuarded c m x → IsGuarded c n x
 guards c m n k x (PointsWell h) = elim (k.heap x) [
-  | inl e ↦ PointsWell (well_is c n.words (slice_index n.words.heap x)
-      (subst (λ v. IsWell c n.words v) (sym e) (k.wells (slice_index m.words.heap x) (is_well c m.words (slice_index m.words.heap x) h))))
+  | inl e ↦ well_guarded c n x (subst (λ v. IsWell c n.words v) (sym e) (k.wells (slice_index m.words.heap x) (is_well c m.words (slice_index m.words.heap x) h)))
   | inr g ↦ g
 ]
 guards c m n k x (PageIsDirty h) = PageIsDirty (k.dirty (x / 64) h)
@@ -72,10 +71,12 @@ not_true false h = refl
 not_true true h = absurd (h refl)
 
 -- what is scanned behind was scanned before
-pub scanned_before : (pages a b : ℕ) → GoesOn pages a b → cells_under (header_of a) ≢ 0 → has_no_pointers (header_of b) ≡ false → has_no_pointers (header_of a) ≡ false
+pub scanned_before : (pages a b : ℕ) → GoesOn pages a b → cells_under (header_of a) ≢ 0 → has_no_pointers (header_of b) ≡ false
+    → has_no_pointers (header_of a) ≡ false
 scanned_before pages a b g some f = not_true (has_no_pointers (header_of a)) (λ t. true≢false (sym (g.unscanned some t) ∙ f))
 
-pub first_goes : (pages : ℕ) (w v : Words) (cell : Cell) → GoesOn pages (header_at w cell.page) (header_at v cell.page) → cells_under (header_in w cell.page) ≢ 0
+pub first_goes : (pages : ℕ) (w v : Words) (cell : Cell) → GoesOn pages (header_at w cell.page) (header_at v cell.page)
+    → cells_under (header_in w cell.page) ≢ 0
     → first_word v cell ≡ first_word w cell
 first_goes pages w v cell g some = ap (λ n. 64 * cell.page + cell.index * n) (g.words some)
 

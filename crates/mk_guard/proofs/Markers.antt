@@ -1,5 +1,5 @@
 -- What the markers are in the middle of stands behind an event that keeps what is guarded.
-use Rattle.std.proofs.Common.{◌≡◌, ℕ, ◌<◌, Bool, true, false, refl, sym, ap, subst, arith}
+use Rattle.std.proofs.Common.{◌≡◌, ℕ, ◌<◌, Bool, true, false, List, refl, sym, ap, subst, arith}
 use Rattle.std.specs.Prelude.{Option, Some, None, is_none, is_some, slice_index, slice_set, bit_or, ◌&&◌, ◌==◌, if◌then◌else◌}
 use Rattle.std.proofs.lemmas.Bool.{and_parts}
 use Rattle.mk_geom.specs.declared.addresses.Cell.{Cell}
@@ -53,7 +53,8 @@ seen_cell c x own = by x.seen x.hand refl refl own
     by (Some q) None es eh own = cc
     by (Some q) (Some value) es eh own = at (q.page == page_at_address value) refl (cell_at c.pages q.header value) refl own
       where
-        at : (b : Bool) → (q.page == page_at_address value) ≡ b → (y : Option Cell) → cell_at c.pages q.header value ≡ y → is_some (if b then y else None) ≡ true → Seen c x
+        at : (b : Bool) → (q.page == page_at_address value) ≡ b → (y : Option Cell) → cell_at c.pages q.header value ≡ y
+            → is_some (if b then y else None) ≡ true → Seen c x
         at false e y is own = cc
         at true e None is own = cc
         at true e (Some y) is own =
@@ -68,9 +69,14 @@ seen_cell c x own = by x.seen x.hand refl refl own
               index = n.1;
             }
 
-looks : (c : Config) (m : Moment) (x : Word) (y : MarkerState) (f : ℕ) → ((p : ℕ) → x ≡ word.Head p → f ≡ header_at m.words p) → MarkerStands c m y → MarkerStands c m (behind_mlook c f x y)
+looks : (c : Config) (m : Moment) (x : Word) (y : MarkerState) (f : ℕ) → ((p : ℕ) → x ≡ word.Head p → f ≡ header_at m.words p) → MarkerStands c m y
+    → MarkerStands c m (behind_mlook c f x y)
 looks c m (word.Head p) y f is h = subst (λ n. MarkerStands c m (behind_mlook c n (word.Head p) y)) (sym (is p refl)) (look_stands c m p y h)
 looks c m _ y f is h = unseen_stands c m y h
+
+-- the marks with these bits more on a page
+abbrev marks_with : List ℕ → ℕ → ℕ → List ℕ
+marks_with marks page bits = slice_set marks page (bit_or (slice_index marks page) bits)
 
 -- a marker's own step
 own_marker : (c : Config) (m : Moment) (k : ℕ) (x : Step) → AreOfPages c.pages m.words → Meets c m (Marker k) x → Keeps c m (Behind c m (Marker k) x)
@@ -82,7 +88,8 @@ own_marker c m k step.Quit len h keeps before at = idle_stands c (Behind c m (Ma
 own_marker c m k (step.Mlook x) len h keeps before at =
     let own = (and_parts (is_attending (marker_of m k).presence) (is_markers_word x) h.marker).0 in
     marker_kept c m (Behind c m (Marker k) (step.Mlook x)) _ keeps
-    (looks c m x (marker_of m k) (found c m (record { seat = Marker k; step = step.Mlook x })) (λ p e. ap (λ (y : Word). found c m (record { seat = Marker k; step = step.Mlook y })) e) (before own))
+    (looks c m x (marker_of m k) (found c m (record { seat = Marker k; step = step.Mlook x }))
+    (λ p e. ap (λ (y : Word). found c m (record { seat = Marker k; step = step.Mlook y })) e) (before own))
 own_marker c m k (step.Claim p i) len h keeps before at =
     let a = and_parts (is_attending (marker_of m k).presence && is_none (marker_of m k).scan) (has_seen_cell (marker_of m k).seen p i) h.marker in
     marker_kept c m (Behind c m (Marker k) (step.Claim p i)) _ keeps (claim_stands c m (marker_of m k) p i a.1 (before at))
@@ -96,7 +103,7 @@ own_marker c m k step.Mmark len h keeps before at =
     let there : MarkerStands c n (marker_of m k) = marker_kept c m n (marker_of m k) keeps (before at) in
     mark_stands c n (marker_of m k) s.value s.hand
     (seen_well c n (marker_of m k) s.cell s.value s.hand s.is there
-    (subst (λ (y : Option Cell). has_bit (slice_index (slice_set m.words.marks (seen_page y) (bit_or (slice_index m.words.marks (seen_page y)) (seen_bit y))) s.cell.page) s.cell.index ≡ true) (sym s.is)
+    (subst (λ (y : Option Cell). has_bit (slice_index (marks_with m.words.marks (seen_page y) (seen_bit y)) s.cell.page) s.cell.index ≡ true) (sym s.is)
     (bits_added m.words.marks s.cell.page (bit_for s.cell.index) s.cell.index (let lt = s.page in omega (arith, len.marks, lt)) (bit_for_has s.cell.index s.index)))) there
 own_marker c m k step.Mblack len h keeps before at =
     marker_kept c m (Behind c m (Marker k) step.Mblack) _ keeps (unscanning_stands c m (marker_of m k) (before at))

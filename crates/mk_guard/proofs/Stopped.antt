@@ -22,7 +22,7 @@ use Rattle.mk_core.specs.declared.seats.Stage.{Stage}
 use Rattle.mk_core.specs.declared.seats.Stage.TheVariants as stage
 use Rattle.mk_core.specs.declared.seats.Flight.{Flight}
 use Rattle.mk_core.specs.Words.{Words, header_at, phase_of, accessed}
-use Rattle.mk_core.specs.Cells.{cells_under, words_under, has_no_pointers, is_marked, first_word, points_well, word_points_well}
+use Rattle.mk_core.specs.Cells.{cells_under, words_under, has_no_pointers, first_word, points_well, word_points_well}
 use Rattle.mk_core.specs.Moments.{Moment, flight_of, marker_of}
 use Rattle.mk_core.specs.Accesses.{register_met, reg_access}
 use Rattle.mk_protocol.proofs.Standings.{InCall}
@@ -36,6 +36,8 @@ use Rattle.mk_protocol.proofs.Protocols.{not_astray}
 use Rattle.mk_protocol.proofs.Known.{Known}
 use Rattle.mk_protocol.proofs.IdleMarkers.{work_attends}
 use Rattle.mk_guard.specs.Guard.{CellsAreClosed}
+use Rattle.mk_core.specs.Bits.{has_bit}
+use Rattle.mk_guard.proofs.Phases.{either_phase}
 use Rattle.mk_guard.proofs.Wells.{well_is, is_well, bare_word_well, wells_from}
 use Rattle.mk_guard.proofs.Changes.{Table, reg_table, tally_table, is_head, headers_kind}
 
@@ -56,14 +58,15 @@ stays_closed c w v same h =
           let first : first_word v cell ≡ first_word w cell = ap (λ a. 64 * cell.page + cell.index * words_under (header_of a)) (same.headers cell.page) in
           subst (λ n. word_points_well c.pages v (n + i) ≡ true) (sym first)
           (word (first_word w cell + i)
-          (h.words cell i (subst (λ a. cell.index < cells_under (header_of a)) (same.headers cell.page) lt) (subst (λ (ms : List ℕ). is_marked (record w { marks = ms }) cell ≡ true) same.marks is)
+          (h.words cell i (subst (λ a. cell.index < cells_under (header_of a)) (same.headers cell.page) lt)
+          (subst (λ (ms : List ℕ). has_bit (slice_index ms cell.page) cell.index ≡ true) same.marks is)
           (subst (λ a. has_no_pointers (header_of a) ≡ false) (same.headers cell.page) scanned) (subst (λ a. i < words_under (header_of a)) (same.headers cell.page) li)));
     }
   where
     over : (value : ℕ) → points_well c.pages w value ≡ true → points_well c.pages v value ≡ true
     over value is =
         well_is c v value
-        (wells_from c w v same.headers (λ p k bit. subst (λ (ms : List ℕ). is_marked (record w { marks = ms }) (record { page = p; index = k }) ≡ true) (sym same.marks) bit) value (is_well c w value is))
+        (wells_from c w v same.headers (λ p k bit. subst (λ (ms : List ℕ). has_bit (slice_index ms p) k ≡ true) (sym same.marks) bit) value (is_well c w value is))
 
     word : (n : ℕ) → word_points_well c.pages w n ≡ true → word_points_well c.pages v n ≡ true
     word n is = elim (same.heap n) [
@@ -73,7 +76,8 @@ stays_closed c w v same h =
 
 -- At this phase no caller is in a call outside the turn.
 
-no_call : (c : Config) (m : Moment) (k : ℕ) → Known c m → phase_of m.words ≡ 3 → k < c.callers → is_call_stage (flight_of m (Caller k)).stage ≡ true → ⊥
+no_call : (c : Config) (m : Moment) (k : ℕ) → Known c m → phase_of m.words ≡ 3 → k < c.callers → is_call_stage (flight_of m (Caller k)).stage ≡ true
+    → ⊥
 no_call c m k known three lt at =
     let stands = calls_stand (flight_of m (Caller k)).stage (flight_of m (Caller k)).op at (not_astray c m known.orderly k lt) in
     let s = shows_at c (view_of m) k InCall known.orderly lt stands in
@@ -92,7 +96,8 @@ of_callers step.Setg own = refl
 of_callers step.Dirty own = refl
 of_callers _ own = cc
 
-no_step : (c : Config) (m : Moment) (seat : Seat) (x : Step) → Known c m → phase_of m.words ≡ 3 → Meets c m seat x → has_stage_of_its_own x ≡ true → is_call_stage (stage_of x) ≡ true → ⊥
+no_step : (c : Config) (m : Moment) (seat : Seat) (x : Step) → Known c m → phase_of m.words ≡ 3 → Meets c m seat x → has_stage_of_its_own x ≡ true
+    → is_call_stage (stage_of x) ≡ true → ⊥
 no_step c m (Caller k) x known three h own at =
     no_call c m k known three (ltb-true k c.callers h.seat)
     (subst (λ (s : Stage). is_call_stage s ≡ true) (sym (at_its_stage (flight_of m (Caller k)).stage (flight_of m (Caller k)).op x own h.order)) at)
@@ -100,7 +105,8 @@ no_step c m (Marker k) x known three h own at = true≢false (sym (ap (λ (g : G
 no_step c m Host x known three h own at = true≢false (sym (ap (λ (g : Group). is_open_to Host g) (sym (of_callers x own)) ∙ h.kind))
 
 -- `reg` only loads
-load_alone : (w : Words) (k r : ℕ) (f : Flight) (s : Stage) → is_reg_stage s ≡ true → is_call_stage s ≡ false → (accessed w (Named (word.Reg k r)) (reg_access f s)).registers ≡ w.registers
+load_alone : (w : Words) (k r : ℕ) (f : Flight) (s : Stage) → is_reg_stage s ≡ true → is_call_stage s ≡ false
+    → (accessed w (Named (word.Reg k r)) (reg_access f s)).registers ≡ w.registers
 load_alone w k r f stage.LoadP reg out = refl
 load_alone w k r f stage.LoadQ reg out = cc
 load_alone w k r f stage.LoadR reg out = cc
@@ -108,7 +114,8 @@ load_alone w k r f stage.Store reg out = cc
 load_alone w k r f stage.Put reg out = cc
 load_alone w k r f _ reg out = cc
 
-reg_still : (c : Config) (m : Moment) (seat : Seat) → Known c m → phase_of m.words ≡ 3 → Meets c m seat step.Reg → (Behind c m seat step.Reg).words.registers ≡ m.words.registers
+reg_still : (c : Config) (m : Moment) (seat : Seat) → Known c m → phase_of m.words ≡ 3 → Meets c m seat step.Reg
+    → (Behind c m seat step.Reg).words.registers ≡ m.words.registers
 reg_still c m (Caller k) known three h = elim (cases_Bool (is_call_stage (flight_of m (Caller k)).stage)) [
   | inl at ↦ absurd (no_call c m k known three (ltb-true k c.callers h.seat) at)
   | inr out ↦
@@ -122,13 +129,15 @@ tally_registers : (w : Words) (n : Tally) (v : ℕ) → (accessed w (Named (tall
 tally_registers w tally.Held v = refl
 tally_registers w _ v = refl
 
-registers_still : (c : Config) (m : Moment) (seat : Seat) (x : Step) → Known c m → phase_of m.words ≡ 3 → Meets c m seat x → (Behind c m seat x).words.registers ≡ m.words.registers
+registers_still : (c : Config) (m : Moment) (seat : Seat) (x : Step) → Known c m → phase_of m.words ≡ 3 → Meets c m seat x
+    → (Behind c m seat x).words.registers ≡ m.words.registers
 registers_still c m seat step.Reg known three h = reg_still c m seat known three h
 registers_still c m seat (step.Tally n v) known three h = tally_registers m.words n v
-registers_still c m seat step.Grant known three h = absurd (elim (or_cases (phase_of m.words == 0) (phase_of m.words == 1) h.phase) [ inl e ↦ let z = eqb-true (phase_of m.words) 0 e in omega arith | inr e ↦ let z = eqb-true (phase_of m.words) 1 e in omega arith ])
+registers_still c m seat step.Grant known three h = elim (either_phase (phase_of m.words) 0 1 h.phase) [ inl e ↦ absurd (omega arith) | inr e ↦ absurd (omega arith) ]
 registers_still c m seat _ known three h = refl
 
-globals_still : (c : Config) (m : Moment) (seat : Seat) (x : Step) → Known c m → phase_of m.words ≡ 3 → Meets c m seat x → (Behind c m seat x).words.globals ≡ m.words.globals
+globals_still : (c : Config) (m : Moment) (seat : Seat) (x : Step) → Known c m → phase_of m.words ≡ 3 → Meets c m seat x
+    → (Behind c m seat x).words.globals ≡ m.words.globals
 globals_still c m seat step.Reg known three h = ap (λ (t : Table). t.globals) (reg_table c m seat)
 globals_still c m seat (step.Tally n v) known three h = ap (λ (t : Table). t.globals) (tally_table m.words n v)
 globals_still c m seat step.Setg known three h = absurd (no_step c m seat step.Setg known three h refl refl)
@@ -156,29 +165,32 @@ no_mark c m (Marker k) known three h =
 no_mark c m (Caller k) known three h = true≢false (sym h.kind)
 no_mark c m Host known three h = true≢false (sym h.kind)
 
-marks_still : (c : Config) (m : Moment) (seat : Seat) (x : Step) → Known c m → phase_of m.words ≡ 3 → Meets c m seat x → (Behind c m seat x).words.marks ≡ m.words.marks
+marks_still : (c : Config) (m : Moment) (seat : Seat) (x : Step) → Known c m → phase_of m.words ≡ 3 → Meets c m seat x
+    → (Behind c m seat x).words.marks ≡ m.words.marks
 marks_still c m seat step.Reg known three h = ap (λ (t : Table). t.marks) (reg_table c m seat)
 marks_still c m seat (step.Tally n v) known three h = ap (λ (t : Table). t.marks) (tally_table m.words n v)
 marks_still c m seat (step.Clear p) known three h = let z = eqb-true (phase_of m.words) 0 h.phase in absurd (omega arith)
-marks_still c m seat (step.Mark p v) known three h = absurd (elim (or_cases (phase_of m.words == 1) (phase_of m.words == 2) h.phase) [ inl e ↦ let z = eqb-true (phase_of m.words) 1 e in omega arith | inr e ↦ let z = eqb-true (phase_of m.words) 2 e in omega arith ])
+marks_still c m seat (step.Mark p v) known three h = elim (either_phase (phase_of m.words) 1 2 h.phase) [ inl e ↦ absurd (omega arith) | inr e ↦ absurd (omega arith) ]
 marks_still c m seat step.Mmark known three h = absurd (no_mark c m seat known three h)
 marks_still c m seat _ known three h = refl
 
 -- no header is stored
 no_head : (n : ℕ) → n ≡ 3 → ((n == 0) || (n == 1) || (n == 4)) ≡ true → ⊥
 no_head n three h = elim (or_cases ((n == 0) || (n == 1)) (n == 4) h) [
-  | inl a ↦ elim (or_cases (n == 0) (n == 1) a) [ inl e ↦ let z = eqb-true n 0 e in absurd (omega arith) | inr e ↦ let z = eqb-true n 1 e in absurd (omega arith) ]
+  | inl a ↦ elim (either_phase n 0 1 a) [ inl e ↦ absurd (omega arith) | inr e ↦ absurd (omega arith) ]
   | inr e ↦ let z = eqb-true n 4 e in absurd (omega arith)
 ]
 
-headers_still : (c : Config) (m : Moment) (seat : Seat) (x : Step) → phase_of m.words ≡ 3 → Meets c m seat x → (p : ℕ) → header_at (Behind c m seat x).words p ≡ header_at m.words p
+headers_still : (c : Config) (m : Moment) (seat : Seat) (x : Step) → phase_of m.words ≡ 3 → Meets c m seat x → (p : ℕ)
+    → header_at (Behind c m seat x).words p ≡ header_at m.words p
 headers_still c m seat (step.Head q n) three h p = absurd (no_head (phase_of m.words) three h.phase)
 headers_still c m seat x three h p = rest x h refl
   where
     rest : (x : Step) → Meets c m seat x → is_head x ≡ false → header_at (Behind c m seat x).words p ≡ header_at m.words p
     rest x h none = headers_kind c m seat x none p
 
-pub leaves_closed : (c : Config) (m : Moment) (seat : Seat) (x : Step) → Known c m → phase_of m.words ≡ 3 → Meets c m seat x → LeavesClosed m.words (Behind c m seat x).words
+pub leaves_closed : (c : Config) (m : Moment) (seat : Seat) (x : Step) → Known c m → phase_of m.words ≡ 3 → Meets c m seat x
+    → LeavesClosed m.words (Behind c m seat x).words
 leaves_closed c m seat x known three h =
     record {
       registers = registers_still c m seat x known three h;
