@@ -1,6 +1,7 @@
 -- A `head` while a cycle marks, from what it finds: headers go on, and what points well goes on doing so.
 use Rattle.std.proofs.Common.{◌≡◌, ◌≢◌, ℕ, ◌+◌, ◌*◌, ◌<◌, Bool, true, false, refl, sym, ◌∙◌, ap, subst, inl, inr, arith}
 use Rattle.std.specs.Prelude.{Some, None, slice_index, slice_index_or, slice_set, if◌then◌else◌}
+use Rattle.std.proofs.lemmas.Option.{none-some}
 use Rattle.std.proofs.lemmas.Bool.{cases_eq, true≢false, ltb-true}
 use Rattle.std.proofs.lemmas.List.{get_or-set_same, get_or-set_other}
 use Rattle.mk_geom.specs.declared.addresses.Cell.{Cell}
@@ -36,15 +37,12 @@ pub data HeadFinds (pages : ℕ) (w : Words) (p header : ℕ) : Type 0 where
       → (cells_under (header_in w p) ≡ 0 → cells_under (header_of header) ≡ 0)
       → HeadFinds pages w p header
 
-none_some : {A : Type 0} {x : A} → None ≡ Some x → ⊥
-none_some e = true≢false (let y : true ≡ false = cc in y)
-
 free_shows : (pages v : ℕ) (y : Cell) → cell_at pages 0 v ≡ Some y → ⊥
 free_shows pages v y is = by (is_heap_address pages v) is
   where
     by : (b : Bool) → (if b then None else None) ≡ Some y → ⊥
-    by true is = none_some is
-    by false is = none_some is
+    by true is = none-some _ is
+    by false is = none-some _ is
 
 from_free : (pages n : ℕ) → GoesOn pages 0 n
 from_free pages n =

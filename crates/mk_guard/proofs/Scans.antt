@@ -1,6 +1,7 @@
 -- What a marker's own step makes of its scan, its hand and the header that it has seen, in the words as they are.
 use Rattle.std.proofs.Common.{◌≡◌, ◌≢◌, ◌⊎◌, ℕ, ◌+◌, ◌*◌, ◌<◌, ◌≤◌, Bool, true, false, refl, sym, ◌∙◌, ap, subst, inl, inr, arith}
 use Rattle.std.specs.Prelude.{Option, Some, None, slice_index, nat_lt, ◌==◌, not, if◌then◌else◌}
+use Rattle.std.proofs.lemmas.Option.{none-some, same_Some}
 use Rattle.std.proofs.lemmas.Bool.{cases_eq, cases_lt, true≢false, eqb-true, and_parts, ltb-true, lt-ltb}
 use Rattle.mk_geom.specs.declared.addresses.Cell.{Cell}
 use Rattle.mk_geom.specs.Headers.{header_of}
@@ -21,19 +22,13 @@ use Rattle.mk_guard.specs.Guard.{GoesOn, EndsItsCell, ScanStands, MarkerStands}
 use Rattle.mk_guard.proofs.Wells.{IsWell, well_guarded}
 use Rattle.mk_guard.proofs.KeptGuard.{goes_same}
 
-some_is : {A : Type 0} {x y : A} → Some x ≡ Some y → x ≡ y
-some_is e = cc
-
-none_some : {A : Type 0} {x : A} → None ≡ Some x → ⊥
-none_some e = true≢false (let y : true ≡ false = cc in y)
-
 -- outside the heap a value points into nothing
 outside_well : (c : Config) (w : Words) (v : ℕ) → is_heap_address c.pages v ≡ false → IsWell c w v
 outside_well c w v out y is = absurd (by (is_heap_address c.pages v) _ out is)
   where
     by : (b : Bool) (x : Option Cell) → b ≡ false → (if b then x else None) ≡ Some y → ⊥
     by true x e is = true≢false e
-    by false x e is = none_some is
+    by false x e is = none-some _ is
 
 -- the same scan, with another hand
 other_hand : (c : Config) (m : Moment) (hand new : Option ℕ) (x : Scan) → ScanStands c m hand x
@@ -53,15 +48,15 @@ other_hand c m hand new x h over =
 look_passes : (c : Config) (m : Moment) (p : ℕ) (hand : Option ℕ) (n : ℕ) → IsGuarded c m n ⊎ (hand ≡ Some (slice_index m.words.heap n))
     → IsGuarded c m n ⊎ (hand_behind_look c p (header_at m.words p) hand ≡ Some (slice_index m.words.heap n))
 look_passes c m p hand n (inl g) = inl g
-look_passes c m p None n (inr e) = absurd (none_some e)
+look_passes c m p None n (inr e) = absurd (none-some _ e)
 look_passes c m p (Some value) n (inr e) = by (p == page_at_address value) (cell_at c.pages (header_at m.words p) value) refl refl
   where
     by : (b : Bool) (x : Option Cell) → (p == page_at_address value) ≡ b → cell_at c.pages (header_at m.words p) value ≡ x
         → IsGuarded c m n ⊎ (hand_behind_look c p (header_at m.words p) (Some value) ≡ Some (slice_index m.words.heap n))
     by true None at none =
         let there = ap (λ q. cell_at c.pages (header_at m.words q) value) (eqb-true p (page_at_address value) at) in
-        let nothing : IsWell c m.words value = λ y is. absurd (none_some (sym none ∙ there ∙ is)) in
-        inl (well_guarded c m n (subst (λ v. IsWell c m.words v) (some_is e) nothing))
+        let nothing : IsWell c m.words value = λ y is. absurd (none-some _ (sym none ∙ there ∙ is)) in
+        inl (well_guarded c m n (subst (λ v. IsWell c m.words v) (same_Some _ _ e) nothing))
     by false x at is = inr (let k : hand_behind_look c p (header_at m.words p) (Some value) ≡ Some value = rw at in k ∙ e)
     by true (Some y) at is = inr (let k : hand_behind_look c p (header_at m.words p) (Some value) ≡ Some value = rw (at, is) in k ∙ e)
 
@@ -70,17 +65,17 @@ pub look_stands : (c : Config) (m : Moment) (p : ℕ) (x : Marker) → MarkerSta
 look_stands c m p x h =
     record {
       scan = λ s is. other_hand c m x.hand (hand_behind_look c p (header_at m.words p) x.hand) s (h.scan s is) (look_passes c m p x.hand);
-      seen = λ s is. subst (λ (z : SeenHeader). GoesOn c.pages z.header (header_at m.words z.page)) (some_is is) (goes_same c.pages (header_at m.words p));
+      seen = λ s is. subst (λ (z : SeenHeader). GoesOn c.pages z.header (header_at m.words z.page)) (same_Some _ _ is) (goes_same c.pages (header_at m.words p));
     }
 
 pub unseen_stands : (c : Config) (m : Moment) (x : Marker) → MarkerStands c m x → MarkerStands c m (record x { seen = None })
-unseen_stands c m x h = record { scan = h.scan; seen = λ s is. absurd (none_some is) }
+unseen_stands c m x h = record { scan = h.scan; seen = λ s is. absurd (none-some _ is) }
 
 pub unscanning_stands : (c : Config) (m : Moment) (x : Marker) → MarkerStands c m x → MarkerStands c m (record x { scan = None })
-unscanning_stands c m x h = record { scan = λ s is. absurd (none_some is); seen = h.seen }
+unscanning_stands c m x h = record { scan = λ s is. absurd (none-some _ is); seen = h.seen }
 
 pub idle_stands : (c : Config) (m : Moment) (at : Presence) → MarkerStands c m (record { presence = at; scan = None; hand = None; seen = None })
-idle_stands c m at = record { scan = λ s is. absurd (none_some is); seen = λ s is. absurd (none_some is) }
+idle_stands c m at = record { scan = λ s is. absurd (none-some _ is); seen = λ s is. absurd (none-some _ is) }
 
 -- `claim`: the header that was seen goes on
 begun_stands : (c : Config) (m : Moment) (hand : Option ℕ) (p k header : ℕ) → k < cells_under (header_of header)
@@ -120,10 +115,10 @@ claim_stands c m x p k own h = record { scan = λ s is. by x.seen own h.seen s i
       where
         marked : (b : Bool) → has_bit (slice_index m.words.marks p) k ≡ b → (if b then Some (scan_begun p k seen.header) else None) ≡ Some s
             → ScanStands c m x.hand s
-        marked false e is = absurd (none_some is)
+        marked false e is = absurd (none-some _ is)
         marked true e is =
             let parts = and_parts (seen.page == p) (nat_lt k (cells_under (header_of seen.header))) own in
-            subst (λ (z : Scan). ScanStands c m x.hand z) (some_is is)
+            subst (λ (z : Scan). ScanStands c m x.hand z) (same_Some _ _ is)
             (begun_stands c m x.hand p k seen.header (ltb-true k (cells_under (header_of seen.header)) parts.1) e
             (subst (λ q. GoesOn c.pages seen.header (header_at m.words q)) (eqb-true seen.page p parts.0) (goes seen refl)))
 
@@ -140,7 +135,7 @@ load_stands c m x next more none at h = record { scan = λ s is. by x.scan more 
 
     old : (n : ℕ) → IsGuarded c m n ⊎ (x.hand ≡ Some (slice_index m.words.heap n)) → IsGuarded c m n
     old n (inl g) = g
-    old n (inr e) = absurd (none_some (sym none ∙ e))
+    old n (inr e) = absurd (none-some _ (sym none ∙ e))
 
     onward : (z : Scan) → ScanStands c m x.hand z → z.next < z.end → z.next ≡ next
         → ScanStands c m (open_hand c (slice_index m.words.heap next)) (record z { next = z.next + 1 })
@@ -162,9 +157,9 @@ load_stands c m x next more none at h = record { scan = λ s is. by x.scan more 
     by : (scan : Option Scan) → has_next_word scan ≡ true → ((s : Scan) → scan ≡ Some s → s.next ≡ next)
         → ((s : Scan) → scan ≡ Some s → ScanStands c m x.hand s)
         → (s : Scan) → scan_onward scan ≡ Some s → ScanStands c m (open_hand c (slice_index m.words.heap next)) s
-    by None more at st s is = absurd (none_some is)
+    by None more at st s is = absurd (none-some _ is)
     by (Some z) more at st s is =
-        subst (λ (u : Scan). ScanStands c m (open_hand c (slice_index m.words.heap next)) u) (some_is is)
+        subst (λ (u : Scan). ScanStands c m (open_hand c (slice_index m.words.heap next)) u) (same_Some _ _ is)
         (onward z (st z refl) (ltb-true z.next z.end more) (at z refl))
 
 -- `mmark`: what the hand points into is marked, so the hand is closed
@@ -175,7 +170,7 @@ mark_stands c m x value is well h =
   where
     by : (n : ℕ) → IsGuarded c m n ⊎ (x.hand ≡ Some (slice_index m.words.heap n)) → IsGuarded c m n
     by n (inl g) = g
-    by n (inr e) = well_guarded c m n (subst (λ v. IsWell c m.words v) (some_is (sym is ∙ e)) well)
+    by n (inr e) = well_guarded c m n (subst (λ v. IsWell c m.words v) (same_Some _ _ (sym is ∙ e)) well)
 
 -- the cell that was seen is the one of now
 pub seen_well : (c : Config) (m : Moment) (x : Marker) (cell : Cell) (value : ℕ) → x.hand ≡ Some value → cell_seen c x.seen x.hand ≡ Some cell
@@ -184,18 +179,18 @@ seen_well c m x cell value is at h marked = by x.seen (subst (λ (u : Option ℕ
   where
     by : (seen : Option SeenHeader) → cell_seen c seen (Some value) ≡ Some cell
         → ((q : SeenHeader) → seen ≡ Some q → GoesOn c.pages q.header (header_at m.words q.page)) → IsWell c m.words value
-    by None at goes = absurd (none_some at)
+    by None at goes = absurd (none-some _ at)
     by (Some seen) at goes = here (seen.page == page_at_address value) refl at
       where
         here : (b : Bool) → (seen.page == page_at_address value) ≡ b → (if b then cell_at c.pages seen.header value else None) ≡ Some cell
             → IsWell c m.words value
-        here false e at = absurd (none_some at)
+        here false e at = absurd (none-some _ at)
         here true e at =
             let now = (goes seen refl).cell value cell at in
             let page = eqb-true seen.page (page_at_address value) e in
             let there : cell_at c.pages (header_at m.words (page_at_address value)) value ≡ Some cell
             = subst (λ q. cell_at c.pages (header_at m.words q) value ≡ Some cell) page now in
-            λ y is. subst (λ (z : Cell). is_marked m.words z ≡ true) (some_is (sym there ∙ is)) marked
+            λ y is. subst (λ (z : Cell). is_marked m.words z ≡ true) (same_Some _ _ (sym there ∙ is)) marked
 
 -- `mblack`: the scan is at its end, and no hand is open
 pub scanned_guarded : (c : Config) (m : Moment) (x : Scan) → ScanStands c m None x → is_scanned (Some x) ≡ true
@@ -216,4 +211,4 @@ scanned_guarded c m x st done f i lt = elim st.end [
 
     by : (n : ℕ) → IsGuarded c m n ⊎ (None ≡ Some (slice_index m.words.heap n)) → IsGuarded c m n
     by n (inl g) = g
-    by n (inr e) = absurd (none_some e)
+    by n (inr e) = absurd (none-some _ e)
