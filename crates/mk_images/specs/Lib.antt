@@ -1,0 +1,4 @@
+pub mod Images
+pub mod SafeSets
+pub mod OthersSay
+pub mod Mirrors
