@@ -16,3 +16,8 @@ pub mod CallSorts
 pub mod FreeMoves
 pub mod ReleaseMoves
 pub mod GrantMoves
+pub mod TurnMoves
+pub mod EventSorts
+pub mod OneEvent
+pub mod Histories
+pub mod FirstWorlds

@@ -2,3 +2,4 @@ pub mod Images
 pub mod SafeSets
 pub mod OthersSay
 pub mod Mirrors
+pub mod Laws
