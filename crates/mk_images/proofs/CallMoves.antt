@@ -28,7 +28,7 @@ use Rattle.mk_images.proofs.Moves.{Move, Decides, Owes, Shares, Writes}
 use Rattle.mk_images.proofs.Ready.{Ready, image_test, bit_is, LeadsBy, either_leads, one_right}
 use Rattle.mk_images.proofs.Refusals.{refuses, goes_bare, decides_nothing}
 use Rattle.mk_never.proofs.Soundness.{suited_is_sound}
-use Rattle.mk_images.proofs.Reached.{PagesShow, reaches, unmapped_target, mapped_met, suits, sound_more, of_number}
+use Rattle.mk_images.proofs.Reached.{PagesShow, Reaches, reaches, unmapped_target, mapped_met, suits, sound_more, of_number}
 use Rattle.mk_images.proofs.RegMoves.{flight, flies_on}
 
 module _ (listed : List ℕ) (safe : ℕ → Bool) (s : Scene) (n : NeverState) (k : ℕ) (h : Ready listed safe s n) (there : k < length s.flights) (long : 8 * k + 7 < length n.registers) where
@@ -137,24 +137,31 @@ module _ (listed : List ℕ) (safe : ℕ → Bool) (s : Scene) (n : NeverState) 
       subst (λ (ys : List ℕ). Move safe s n (record s { heap = ys; flights = slice_set s.flights k (flight stage.Dirty o q p r l) }) n) (sym (ap (slice_set s.heap w) ex ∙ set-get_or s.heap w 0))
       (goes_bare safe s n k (flight stage.Dirty o q p r l) at.was refl)
 
+  -- A compare and exchange reaches a word, and compares its value to that of its caller's register p.
+  pub cas_compares : (q' i p' r' q p r l x : ℕ) → CarriesOwn (bases_of s.allocations) n k (flight stage.Cas (op.CasPtr q' i p' r') q p r l) → ProbedOwn n k (flight stage.Cas (op.CasPtr q' i p' r') q p r l)
+      → x ≡ slice_index s.heap ((q - 65536) / 8 + i) → IsAdmitted listed n k (op.CasPtr q' i p' r')
+      → (to : Reaches safe s n (register_at n k q') q i IsPointer) × ((x == p) ≡ is_same (word_at n to.number to.place) (register_at n k p'))
+  cas_compares q' i p' r' q p r l x car pro e ad =
+      let to = reaches listed safe s n h (register_at n k q') q i IsPointer (car.q refl) (car.some_q refl) (own_sound q') (own_safe q') (pro refl) ad.access in
+      let word = word_at n to.number to.place in
+      let value : x ≡ image_of (bases_of s.allocations) word = e ∙ ap (slice_index s.heap) to.word ∙ h.images.heap to.number to.place to.unreleased to.mapped to.inside in
+      let sound = suited_is_sound n word _ to.kind (suits listed safe s n h to.number to.place to.exists to.inside) in
+      (to, ap (λ y. y == p) value ∙ ap (λ y. image_of (bases_of s.allocations) word == y) (car.p refl)
+      ∙ image_test listed safe s n h word (register_at n k p') sound (own_sound p') (h.set.closed to.number to.place to.of_set to.mapped) (own_safe p'))
+
   pub cas_leads : (o : Op) (q p r l x : ℕ) → flight_among s.flights k ≡ flight stage.Cas o q p r l → is_astray (standing_at stage.Cas o) ≡ false
       → CarriesOwn (bases_of s.allocations) n k (flight stage.Cas o q p r l) → ProbedOwn n k (flight stage.Cas o q p r l) → x ≡ slice_index s.heap ((q - 65536) / 8 + i_of o) → IsAdmitted listed n k o
       → LeadsBy safe s n k o (record s { heap = slice_set s.heap ((q - 65536) / 8 + i_of o) (if x == p then r else x) }) (progress_cas (flight stage.Cas o q p r l) x)
   cas_leads (op.CasPtr q' i p' r') q p r l x is a car pro e ad =
-      let to = reaches listed safe s n h (register_at n k q') q i IsPointer (car.q refl) (car.some_q refl) (own_sound q') (own_safe q') (pro refl) ad.access in
+      let compared = cas_compares q' i p' r' q p r l x car pro e ad in
+      let to = compared.0 in
       let f = flight stage.Dirty (op.CasPtr q' i p' r') q p r l in
-      let word = word_at n to.number to.place in
-      let value : x ≡ image_of (bases_of s.allocations) word = e ∙ ap (slice_index s.heap) to.word ∙ h.images.heap to.number to.place to.unreleased to.mapped to.inside in
-      let sound = suited_is_sound n word _ to.kind (suits listed safe s n h to.number to.place to.exists to.inside) in
-      let tests : (x == p) ≡ is_same word (register_at n k p') =
-      ap (λ y. y == p) value ∙ ap (λ y. image_of (bases_of s.allocations) word == y) (car.p refl)
-      ∙ image_test listed safe s n h word (register_at n k p') sound (own_sound p') (h.set.closed to.number to.place to.of_set to.mapped) (own_safe p') in
       let at : ℕ → ℕ → NeverState = λ a w. if is_same (word_at n a w) (register_at n k p') then with_word n a w (register_at n k r') else n in (
         subst (λ t. Move safe s n (record s { heap = slice_set s.heap ((q - 65536) / 8 + i) (if x == p then r else x); flights = slice_set s.flights k f }) (left_at t n at)) (sym to.target)
-            (subst (λ b. Move safe s n (record s { heap = slice_set s.heap ((q - 65536) / 8 + i) (if x == p then r else x); flights = slice_set s.flights k f }) (if b then with_word n to.number to.place (register_at n k r') else n)) tests
+            (subst (λ b. Move safe s n (record s { heap = slice_set s.heap ((q - 65536) / 8 + i) (if x == p then r else x); flights = slice_set s.flights k f }) (if b then with_word n to.number to.place (register_at n k r') else n)) compared.1
             (cas_by (x == p) (op.CasPtr q' i p' r') q p r l r' to.number to.place ((q - 65536) / 8 + i) x to.word e to.unreleased to.mapped to.inside (car.r refl) (decides f stage.Cas (op.CasPtr q' i p' r') q p r l is refl))),
         λ more. one_right (bases_of s.allocations ++ more) (answer.Num (one_if (x == p))) n k (op.CasPtr q' i p' r')
-            (ap (λ b. answer.Num (one_if b)) tests ∙ ap answer.Num (bit_is (is_same word (register_at n k p')))
+            (ap (λ b. answer.Num (one_if b)) compared.1 ∙ ap answer.Num (bit_is (is_same (word_at n to.number to.place) (register_at n k p')))
             ∙ ap (λ t. answer_of (bases_of s.allocations ++ more) (reply_at t (λ a w. Number (bit (is_same (word_at n a w) (register_at n k p')))))) (sym to.target)),
       )
   cas_leads (op.New d ty full) q p r l x is a car pro e ad = cc

@@ -57,7 +57,7 @@ flag_is (op.New d ty full) a h = cc
 flag_is _ a h = refl
 
 -- a call outside the turn
-call_outside : (o : Op) (s : Stage) → is_call_stage s ≡ true → is_astray (standing_at s o) ≡ false → is_under_turn o ≡ false
+pub call_outside : (o : Op) (s : Stage) → is_call_stage s ≡ true → is_astray (standing_at s o) ≡ false → is_under_turn o ≡ false
 call_outside (op.GetNum q i) stage.Idle h a = cc
 call_outside (op.SetNum q i m) stage.Idle h a = cc
 call_outside (op.GetPtr d q i) stage.Idle h a = cc
@@ -74,7 +74,7 @@ call_outside (op.New d ty full) stage.Idle h a = cc
 call_outside (op.Free p) stage.Idle h a = cc
 call_outside _ _ h a = cc
 
-admitted_call : (listed : List ℕ) (n : NeverState) (k : ℕ) (o : Op) (a : Answer) → is_under_turn o ≡ false → AreAdmitted listed n (asked (entry_of k o (Some a))) → IsAdmitted listed n k o
+pub admitted_call : (listed : List ℕ) (n : NeverState) (k : ℕ) (o : Op) (a : Answer) → is_under_turn o ≡ false → AreAdmitted listed n (asked (entry_of k o (Some a))) → IsAdmitted listed n k o
 admitted_call listed n k o a out ad = subst (λ (x : Op). IsAdmitted listed n k x) (flag_is o a out) ad.0
 
 read_admitted : (listed : List ℕ) (n : NeverState) (k : ℕ) (f : Flight) (o : Op) (x : ℕ) → is_under_turn o ≡ false → AreAdmitted listed n (asked (entry_of k o (progress_read f o x).answer)) → IsAdmitted listed n k o

@@ -21,3 +21,4 @@ pub mod EventSorts
 pub mod OneEvent
 pub mod Histories
 pub mod FirstWorlds
+pub mod Exchanges
