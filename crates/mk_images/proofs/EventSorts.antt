@@ -183,9 +183,9 @@ module _ (c : Config) (w : World) (n : NeverState) (known : KnownWorld c w) (mir
       begins c w n known mirrors safe ready k f.op o _ (ap is_put (at_take f.stage f.op o h.order).0)
   caller_goes k (step.Take None) h ad = absurd (at_no_take (flight_of w.now (Caller k)).stage (flight_of w.now (Caller k)).op h.order)
   caller_goes k step.Give h ad = let f = flight_of w.now (Caller k) in bare_on c w n known mirrors safe ready k f.op at_rest (turn_plain f.stage (of_turn f.stage f.op step.Give refl refl h.order)) refl
-  caller_goes k (step.Look x) h ad = look_by c w n known mirrors others safe ready st k (ltb-true k c.callers h.seat) (flight_of w.now (Caller k)) x refl ad
+  caller_goes k (step.Look x) h ad = look_by c w n known mirrors others safe ready st k (ltb-true k c.callers h.seat) (flight_of w.now (Caller k)) x refl
   caller_goes k (step.Quar p v) h ad =
-      quar_by c w n known mirrors others safe ready st k (ltb-true k c.callers h.seat) (flight_of w.now (Caller k)) p v (cell_freed c.pages w.now.words (flight_of w.now (Caller k)) p v) refl refl (quiet_at k p v h) ad
+      quar_by c w n known mirrors others safe ready st k (ltb-true k c.callers h.seat) (flight_of w.now (Caller k)) p v (cell_freed c.pages w.now.words (flight_of w.now (Caller k)) p v) refl refl (quiet_at k p v h)
   caller_goes k step.Grant h ad =
       let f = flight_of w.now (Caller k) in
       let lt = ltb-true k c.callers h.seat in

@@ -8,7 +8,6 @@ use Rattle.mk_never.specs.declared.operations.Reply.TheVariants as reply
 use Rattle.mk_never.specs.declared.values.Value.{Value}
 use Rattle.mk_never.specs.declared.values.Value.TheVariants.{Null, Num, Ptr}
 use Rattle.mk_never.specs.NeverHeap.{NeverState, Allocation as NeverAllocation, no_allocation, allocation_at, with_freed as never_freed, free_reply, after_free}
-use Rattle.mk_never.specs.Admitted.{IsBase}
 use Rattle.mk_never.specs.Typed.{IsSound}
 use Rattle.mk_geom.specs.declared.addresses.Cell.{Cell}
 use Rattle.mk_core.specs.declared.config.Config.{Config}
@@ -48,30 +47,28 @@ is_released_in w (Some cell) = is_released w cell
 is_released_in w None = false
 
 module _ (c : Config) (w : World) (n : NeverState) (known : KnownWorld c w) (mirrors : Mirrors c w n) (safe : ℕ → Bool) (ready : Ready c.globals safe (scene_of w) n) (st : Stands c w.now.words w.allocations) where
-  -- the cell that a base points into
-  pub base_cell : (a t o p : ℕ) → IsSound n (Ptr a t o) → IsSafe safe (Ptr a t o) → o ≡ 0 → p ≡ image_of (bases_of w.allocations) (Ptr a t o) → pointed_cell c.pages w.now.words.pages p ≡ Some (cell_of_allocation c (placed_at w.allocations a))
-  base_cell a t o p sound is zero_o e =
+  -- the cell that a value points into
+  pub pointer_cell : (a t o p : ℕ) → IsSound n (Ptr a t o) → IsSafe safe (Ptr a t o) → p ≡ image_of (bases_of w.allocations) (Ptr a t o)
+      → pointed_cell c.pages w.now.words.pages p ≡ Some (cell_of_allocation c (placed_at w.allocations a))
+  pointer_cell a t o p sound is e =
       let u = ready.set.unreleased a is in
-      let lt = exists_placed w.allocations a u in
-      let some = pointed_word c.globals safe (scene_of w) n ready a t o sound in
-      let fits = words_fit c w n known mirrors a lt in
-      let b = base_at w.allocations a in
-      let at : p ≡ address_of ((placed_at w.allocations a).base + 0) = omega arith in
-      ap (pointed_cell c.pages w.now.words.pages) at ∙ st.cell a 0 u (omega arith)
+      let inside = pointed_word c.globals safe (scene_of w) n ready a t o sound in
+      let fits = words_fit c w n known mirrors a (exists_placed w.allocations a u) in
+      ap (pointed_cell c.pages w.now.words.pages) (e ∙ ap (λ b. address_of (b + o)) (base_at w.allocations a)) ∙ st.cell a o u (omega arith)
 
   -- an allocation with the same first word is the same
   same_first : (a b : ℕ) → (placed_at w.allocations a).released ≡ false → (placed_at w.allocations b).released ≡ false → (placed_at w.allocations b).base ≡ (placed_at w.allocations a).base → b ≡ a
   same_first a b ua ub e = elim (cases_eq b a) [ inl x ↦ x | inr ne ↦ absurd (st.apart b a ub ua ne e) ]
 
-  pub free_by : (others : OthersSay c w) (k : ℕ) (o : Op) (f : Flight) (p : ℕ) (cell : Cell) (v : Value) → Decides (scene_of w) n k f → IsSound n v → IsSafe safe v → IsBase v → p ≡ image_of (bases_of w.allocations) v → p ≢ 0
+  pub free_by : (others : OthersSay c w) (k : ℕ) (o : Op) (f : Flight) (p : ℕ) (cell : Cell) (v : Value) → Decides (scene_of w) n k f → IsSound n v → IsSafe safe v → p ≡ image_of (bases_of w.allocations) v → p ≢ 0
       → pointed_cell c.pages w.now.words.pages p ≡ Some cell → is_freed w.now.words cell ≡ false → (is_run_cell w.now.words (Some cell) ≡ true → (j : ℕ) → j ≢ k → is_past_probe (flight_among w.now.seats.flights j).stage ≡ false)
       → Move safe (scene_of w) n (record (scene_of w) { flights = slice_set w.now.seats.flights k f; allocations = map (freed_where_it_stands w.now.words (Some cell)) w.allocations }) (after_free n v) × (free_reply n v ≡ reply.Done)
-  free_by others k o f p cell Null at sound is base e ne points not_freed quiet = absurd (ne e)
-  free_by others k o f p cell (Num m) at sound is base e ne points not_freed quiet = absurd sound
-  free_by others k o f p cell (Ptr a t x) at sound is base e ne points not_freed quiet =
+  free_by others k o f p cell Null at sound is e ne points not_freed quiet = absurd (ne e)
+  free_by others k o f p cell (Num m) at sound is e ne points not_freed quiet = absurd sound
+  free_by others k o f p cell (Ptr a t x) at sound is e ne points not_freed quiet =
       let u = ready.set.unreleased a is in
       let lt = exists_placed w.allocations a u in
-      let here = base_cell a t x p sound is base e in
+      let here = pointer_cell a t x p sound is e in
       let cells : Some cell ≡ Some (cell_of_allocation c (placed_at w.allocations a)) = sym points ∙ here in
       let first : first_word w.now.words cell ≡ (placed_at w.allocations a).base = ap (first_in w.now.words) cells ∙ st.first a u in
       let leaves = freed_leaves w.now.words (Some cell) in
@@ -100,19 +97,19 @@ module _ (c : Config) (w : World) (n : NeverState) (known : KnownWorld c w) (mir
         | inr h ↦ h
       ]
 
-  pub double_by : (others : OthersSay c w) (k : ℕ) (f : Flight) (p : ℕ) (cell : Cell) (v : Value) → is_put (flight_among w.now.seats.flights k).stage ≡ false → is_bare f.stage ≡ true → IsSound n v → IsSafe safe v → IsBase v
+  pub double_by : (others : OthersSay c w) (k : ℕ) (f : Flight) (p : ℕ) (cell : Cell) (v : Value) → is_put (flight_among w.now.seats.flights k).stage ≡ false → is_bare f.stage ≡ true → IsSound n v → IsSafe safe v
       → p ≡ image_of (bases_of w.allocations) v → p ≢ 0 → pointed_cell c.pages w.now.words.pages p ≡ Some cell → is_freed w.now.words cell ≡ true
       → Move safe (scene_of w) n (record (scene_of w) { flights = slice_set w.now.seats.flights k f }) (after_free n v) × (free_reply n v ≡ reply.Double)
-  double_by others k f p cell Null was bare sound is base e ne points is_free = absurd (ne e)
-  double_by others k f p cell (Num m) was bare sound is base e ne points is_free = absurd sound
-  double_by others k f p cell (Ptr a t x) was bare sound is base e ne points is_free =
+  double_by others k f p cell Null was bare sound is e ne points is_free = absurd (ne e)
+  double_by others k f p cell (Num m) was bare sound is e ne points is_free = absurd sound
+  double_by others k f p cell (Ptr a t x) was bare sound is e ne points is_free =
       let u = ready.set.unreleased a is in
       let lt = exists_placed w.allocations a u in
-      let here = base_cell a t x p sound is base e in
+      let here = pointer_cell a t x p sound is e in
       let cells : Some cell ≡ Some (cell_of_allocation c (placed_at w.allocations a)) = sym points ∙ here in
       let first : first_word w.now.words cell ≡ (placed_at w.allocations a).base = ap (first_in w.now.words) cells ∙ st.first a u in
       let its : (placed_at w.allocations a).freed ≡ true = elim (others.freed cell is_free) [
-        | inl at ↦ its_own a at.number u at.unreleased at.freed (at.base ∙ first)
+        | inl at ↦ its_own a at.number u at.unreleased at.freed (sym (st.first at.number at.unreleased) ∙ ap (first_word w.now.words) at.cell ∙ first)
         | inr released ↦ absurd (false≢true (sym (others.kept a u) ∙ ap (is_released_in w.now.words) (sym cells) ∙ released))
       ] in
       let never : (allocation_at n a).freed ≡ true = sym (mirrors.twins.freed a lt) ∙ its in (

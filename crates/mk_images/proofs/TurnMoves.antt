@@ -133,49 +133,44 @@ module _ (c : Config) (w : World) (n : NeverState) (known : KnownWorld c w) (mir
 
   freed_by : (s : Stage) (o : Op) (q p r l : ℕ) (cell : Cell) → flight_among w.now.seats.flights k ≡ flight s o q p r l → is_undecided_free (flight s o q p r l) ≡ true → pointed_cell c.pages w.now.words.pages p ≡ Some cell → is_freed w.now.words cell ≡ false
       → (is_run_cell w.now.words (Some cell) ≡ true → (j : ℕ) → j ≢ k → is_past_probe (flight_among w.now.seats.flights j).stage ≡ false) → CarriesOwn (bases_of w.allocations) n k (flight s o q p r l)
-      → AreAdmitted c.globals n (asked (entry_of k o (Some answer.Done)))
       → Leads safe (scene_of w) n k o (record (scene_of w) { flights = slice_set w.now.seats.flights k (flight stage.Give o q p r l); allocations = map (freed_where_it_stands w.now.words (Some cell)) w.allocations }) (Some answer.Done)
-  freed_by stage.Turn (op.Free p') q p r l cell is undecided points fresh quiet car ad =
-      let admitted : IsAdmitted c.globals n k (op.Free p') = ad.0 in
+  freed_by stage.Turn (op.Free p') q p r l cell is undecided points fresh quiet car =
       let f = flight stage.Give (op.Free p') q p r l in
       let free = free_by c w n known mirrors safe ready st others k (op.Free p') f p cell (register_at n k p')
       (record { there = there_is c w n known mirrors safe ready k lt; registers = own_registers c w n known mirrors safe ready k lt; was = ap (λ (g : Flight). is_put g.stage) is; bare = refl })
-      (mirrors.typed.registers (8 * k + p')) (ready.set.registers (8 * k + p')) admitted.store (car.p refl) (car.some_p refl) points fresh quiet in
+      (mirrors.typed.registers (8 * k + p')) (ready.set.registers (8 * k + p')) (car.p refl) (car.some_p refl) points fresh quiet in
       (free.0, λ more. one_right (bases_of (map (freed_where_it_stands w.now.words (Some cell)) w.allocations) ++ more) answer.Done n k (op.Free p') (ap (answer_of (bases_of (map (freed_where_it_stands w.now.words (Some cell)) w.allocations) ++ more)) (sym free.1)))
-  freed_by _ _ q p r l cell is undecided points fresh quiet car ad = absurd (false≢true undecided)
+  freed_by _ _ q p r l cell is undecided points fresh quiet car = absurd (false≢true undecided)
 
   twice_by : (s : Stage) (o : Op) (q p r l : ℕ) (cell : Cell) → flight_among w.now.seats.flights k ≡ flight s o q p r l → is_undecided_free (flight s o q p r l) ≡ true → pointed_cell c.pages w.now.words.pages p ≡ Some cell → is_freed w.now.words cell ≡ true
-      → CarriesOwn (bases_of w.allocations) n k (flight s o q p r l) → AreAdmitted c.globals n (asked (entry_of k o (Some answer.Double)))
+      → CarriesOwn (bases_of w.allocations) n k (flight s o q p r l)
       → Leads safe (scene_of w) n k o (record (scene_of w) { flights = slice_set w.now.seats.flights k (flight stage.Give o q p r l) }) (Some answer.Double)
-  twice_by stage.Turn (op.Free p') q p r l cell is undecided points is_free car ad =
-      let admitted : IsAdmitted c.globals n k (op.Free p') = ad.0 in
+  twice_by stage.Turn (op.Free p') q p r l cell is undecided points is_free car =
       let f = flight stage.Give (op.Free p') q p r l in
       let free = double_by c w n known mirrors safe ready st others k f p cell (register_at n k p') (ap (λ (g : Flight). is_put g.stage) is) refl
-      (mirrors.typed.registers (8 * k + p')) (ready.set.registers (8 * k + p')) admitted.store (car.p refl) (car.some_p refl) points is_free in
+      (mirrors.typed.registers (8 * k + p')) (ready.set.registers (8 * k + p')) (car.p refl) (car.some_p refl) points is_free in
       (free.0, λ more. one_right (bases_of w.allocations ++ more) answer.Double n k (op.Free p') (ap (answer_of (bases_of w.allocations ++ more)) (sym free.1)))
-  twice_by _ _ q p r l cell is undecided points is_free car ad = absurd (false≢true undecided)
+  twice_by _ _ q p r l cell is undecided points is_free car = absurd (false≢true undecided)
 
   -- `quar`
   pub quar_by : (f : Flight) (p v : ℕ) (x : Option Cell) → flight_among w.now.seats.flights k ≡ f → cell_freed c.pages w.now.words f p v ≡ x
       → (is_run_cell w.now.words (target c.pages w.now.words f) ≡ true → (j : ℕ) → j ≢ k → is_past_probe (flight_among w.now.seats.flights j).stage ≡ false)
-      → AreAdmitted c.globals n (asked (entry_of k f.op (progress_freed f x).answer))
       → Leads safe (scene_of w) n k f.op (record (scene_of w) { flights = slice_set w.now.seats.flights k (progress_freed f x).flight; allocations = map (freed_where_it_stands w.now.words x) w.allocations }) (progress_freed f x).answer
-  quar_by f p v None is e quiet ad =
+  quar_by f p v None is e quiet =
       subst (λ (xs : List PlacedAllocation). Leads safe (scene_of w) n k f.op (record (scene_of w) { flights = slice_set w.now.seats.flights k f; allocations = xs }) None) (sym (none_freed w.now.words w.allocations))
       (subst (λ (g : Flight). Leads safe (scene_of w) n k g.op (record (scene_of w) { flights = slice_set w.now.seats.flights k g }) None) is (stays c w n known mirrors safe ready k (flight_among w.now.seats.flights k).op))
-  quar_by f p v (Some cell) is e quiet ad =
+  quar_by f p v (Some cell) is e quiet =
       let freed = freed_cell c.pages w.now.words f p v cell e in
       freed_by f.stage f.op f.q f.p f.r f.loaded cell is freed.free freed.pointed freed.unfreed (λ r. quiet (ap (is_run_cell w.now.words) freed.at ∙ r))
-      (subst (λ (g : Flight). CarriesOwn (bases_of w.allocations) n k g) is (ready.images.carried k)) ad
+      (subst (λ (g : Flight). CarriesOwn (bases_of w.allocations) n k g) is (ready.images.carried k))
 
   -- a look
-  pub look_by : (f : Flight) (x : Word) → flight_among w.now.seats.flights k ≡ f → AreAdmitted c.globals n (asked (entry_of k f.op (progress_look c w.now.words f x).answer))
+  pub look_by : (f : Flight) (x : Word) → flight_among w.now.seats.flights k ≡ f
       → Leads safe (scene_of w) n k f.op (record (scene_of w) { flights = slice_set w.now.seats.flights k (progress_look c w.now.words f x).flight }) (progress_look c w.now.words f x).answer
-  look_by f x is ad =
+  look_by f x is =
       either_leads safe (scene_of w) n k f.op (scene_of w) (sees_double w.now.words (target c.pages w.now.words f) x) (decided f answer.Double) (still f)
       (λ sees.
       let t = sees_freed w.now.words (target c.pages w.now.words f) x sees in
       let points = target_is c.pages w.now.words f t.cell t.is in
-      twice_by f.stage f.op f.q f.p f.r f.loaded t.cell is points.free points.pointed t.freed (subst (λ (g : Flight). CarriesOwn (bases_of w.allocations) n k g) is (ready.images.carried k))
-      (subst (λ b. AreAdmitted c.globals n (asked (entry_of k f.op (if b then decided f answer.Double else still f).answer))) sees ad))
+      twice_by f.stage f.op f.q f.p f.r f.loaded t.cell is points.free points.pointed t.freed (subst (λ (g : Flight). CarriesOwn (bases_of w.allocations) n k g) is (ready.images.carried k)))
       (λ sees. subst (λ (g : Flight). Leads safe (scene_of w) n k g.op (record (scene_of w) { flights = slice_set w.now.seats.flights k g }) None) is (stays c w n known mirrors safe ready k (flight_among w.now.seats.flights k).op))

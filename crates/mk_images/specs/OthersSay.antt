@@ -10,7 +10,7 @@ use Rattle.mk_core.specs.declared.seats.Object.{Object}
 use Rattle.mk_core.specs.declared.seats.Placing.TheVariants.{Used}
 use Rattle.mk_core.specs.declared.seats.RunPages.{RunPages}
 use Rattle.mk_core.specs.Words.{Words, header_at, phase_of}
-use Rattle.mk_core.specs.Cells.{first_word, pointed_cell, is_freed, is_released, is_in_run}
+use Rattle.mk_core.specs.Cells.{pointed_cell, is_freed, is_released, is_in_run}
 use Rattle.mk_core.specs.Moments.{flight_of}
 use Rattle.mk_core.specs.NewPlaces.{object_made, pages_made, header_made, unmapped_header, base_made, place_stands, is_run_gone, is_undecided_new, is_small_object}
 use Rattle.mk_core.specs.ObjectHeaders.{cells_made}
@@ -48,12 +48,12 @@ pub record IsFreedRun (c : Config) (w : World) (run : RunPages) : Type 0 where
   pub freed : (placed_at w.allocations number).freed ≡ true
   pub is : run ≡ run_of_allocation c (placed_at w.allocations number)
 
--- A freed allocation that isn't released begins at the cell.
-pub record IsCellOfFreed (w : World) (cell : Cell) : Type 0 where
+-- The cell is that of a freed allocation that isn't released.
+pub record IsCellOfFreed (c : Config) (w : World) (x : Cell) : Type 0 where
   pub number : ℕ
   pub unreleased : (placed_at w.allocations number).released ≡ false
   pub freed : (placed_at w.allocations number).freed ≡ true
-  pub base : (placed_at w.allocations number).base ≡ first_word w.now.words cell
+  pub cell : cell_of_allocation c (placed_at w.allocations number) ≡ x
 
 -- The word is one of a mapped allocation, of a released cell, or of the run that a Free unmaps.
 pub data MayHoldWords (c : Config) (w : World) (n : ℕ) : Type 0 where
@@ -78,7 +78,7 @@ pub record OthersSay (c : Config) (w : World) : Type 0 where
   -- A freed bit stands for a freed allocation, but in released cells, which are no unreleased allocation's.
   pub shown : (i : ℕ) → (placed_at w.allocations i).released ≡ false → (placed_at w.allocations i).freed ≡ true
       → is_freed w.now.words (cell_of_allocation c (placed_at w.allocations i)) ≡ true
-  pub freed : (cell : Cell) → is_freed w.now.words cell ≡ true → IsCellOfFreed w cell ⊎ (is_released w.now.words cell ≡ true)
+  pub freed : (cell : Cell) → is_freed w.now.words cell ≡ true → IsCellOfFreed c w cell ⊎ (is_released w.now.words cell ≡ true)
   pub kept : (i : ℕ) → (placed_at w.allocations i).released ≡ false → is_released w.now.words (cell_of_allocation c (placed_at w.allocations i)) ≡ false
   -- All other words of the heap are 0.
   pub zero_words : (n : ℕ) → slice_index w.now.words.heap n ≢ 0 → MayHoldWords c w n
