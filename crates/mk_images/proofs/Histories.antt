@@ -29,13 +29,14 @@ use Rattle.mk_images.specs.Mirrors.{Mirrors}
 use Rattle.mk_images.specs.Laws.{OthersSayAlong, HistoriesRefineNever, HistoriesMirrorNever, ReachedIsUnreleased}
 use Rattle.mk_images.proofs.KnownWorlds.{KnownWorld, known_world}
 use Rattle.mk_images.proofs.Pairs.{bare_carries}
-use Rattle.mk_images.proofs.OneEvent.{never_after, Follows, one_event}
+use Rattle.mk_images.proofs.OneEvent.{Follows, one_event}
+use Rattle.mk_images.proofs.Bases.{IsLonger}
+use Rattle.mk_images.proofs.FreedRuns.{never_after}
 
 -- what events leave and decide, from a world on
 record FollowsAll (c : Config) (w : World) (n : NeverState) (es : List Event) : Type 0 where
   pub mirrors : Mirrors c (left_from c w es) (after_calls n (asked (calls_from c w es)))
-  pub more : List ℕ
-  pub bases : bases_of (left_from c w es).allocations ≡ bases_of w.allocations ++ more
+  pub bases : IsLonger (bases_of w.allocations) (bases_of (left_from c w es).allocations)
   pub right : answered (calls_from c w es) ≡ answers_of (bases_of (left_from c w es).allocations) (replies_of n (asked (calls_from c w es)))
 
 abbrev call_of : Decided → Call
@@ -55,7 +56,7 @@ joined_right bs n xs ys hx hy =
 follows_from : (c : Config) (whole done es : List Event) (w : World) (n : NeverState) → IsWithinLimits c → w ≡ left c done → AreEnabled c done → AreEnabledFrom c w es
     → done ++ es ≡ whole → OthersSayAlong c whole → Mirrors c w n → AreAdmitted c.globals n (asked (calls_from c w es)) → FollowsAll c w n es
 unfolding left_from AreEnabledFrom calls_from
-follows_from c whole done [] w n limits is was on e others mirrors ad = record { mirrors = mirrors; more = []; bases = sym (append-nil _); right = refl }
+follows_from c whole done [] w n limits is was on e others mirrors ad = record { mirrors = mirrors; bases = record { more = []; is = sym (append-nil _) }; right = refl }
 follows_from c whole done (x ∷ es) w n limits is was on e others mirrors ad =
     let xs = call_decided c w.now x in
     let v = world_behind c w x in
@@ -72,10 +73,12 @@ follows_from c whole done (x ∷ es) w n limits is was on e others mirrors ad =
     let after : after_calls n (asked (xs ++ ys)) ≡ after_calls (never_after c w n x) (asked ys) = ap (after_calls n) split ∙ after_append n (asked xs) (asked ys) in
     record {
       mirrors = subst (λ (m : NeverState). Mirrors c (left_from c v es) m) (sym after) rest.mirrors;
-      more = one.more ++ rest.more;
-      bases = rest.bases ∙ ap (λ zs. zs ++ rest.more) one.bases ∙ append_assoc (bases_of w.allocations) one.more rest.more;
+      bases = record {
+        more = one.bases.more ++ rest.bases.more;
+        is = rest.bases.is ∙ ap (λ zs. zs ++ rest.bases.more) one.bases.is ∙ append_assoc (bases_of w.allocations) one.bases.more rest.bases.more;
+      };
       right = joined_right (bases_of (left_from c v es).allocations) n xs ys
-          (subst (λ (bs : List ℕ). answered xs ≡ answers_of bs (replies_of n (asked xs))) (sym rest.bases) (one.right rest.more)) rest.right;
+          (subst (λ (bs : List ℕ). answered xs ≡ answers_of bs (replies_of n (asked xs))) (sym rest.bases.is) (one.right rest.bases.more)) rest.right;
     }
 
 -- the first world
@@ -106,6 +109,7 @@ first_mirrors c =
         carried = λ j. subst (λ (f : Flight). CarriesOwn [] (never_first c) j f) (sym (at_first c.callers j at_rest)) (bare_carries [] at_rest _ _ _ refl);
         probed = λ j. subst (λ (f : Flight). ProbedOwn (never_first c) j f) (sym (at_first c.callers j at_rest)) (λ past. cc);
       };
+      freed_run = λ run e. cc;
       safe = first_safe c;
     }
 

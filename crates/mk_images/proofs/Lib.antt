@@ -22,3 +22,6 @@ pub mod OneEvent
 pub mod Histories
 pub mod FirstWorlds
 pub mod Exchanges
+pub mod Bases
+pub mod Freeing
+pub mod FreedRuns

@@ -18,42 +18,19 @@ use Rattle.mk_images.specs.Images.{Scene, scene_of}
 use Rattle.mk_images.specs.OthersSay.{OthersSay}
 use Rattle.mk_images.specs.Mirrors.{Mirrors}
 use Rattle.mk_images.proofs.KnownWorlds.{KnownWorld}
-use Rattle.mk_images.proofs.Moves.{Move, Rests, Flies, Owes, Pays, Stores, Shares, Writes, Wipes, Grants, Frees, Renews, Releases}
+use Rattle.mk_images.proofs.Bases.{IsLonger, bases_grow}
+use Rattle.mk_images.proofs.FreedRuns.{never_after, freed_run_stays}
 use Rattle.mk_images.proofs.Kept.{images_kept}
 use Rattle.mk_images.proofs.SafeKept.{safe_kept, twins_kept}
 use Rattle.mk_images.proofs.Stands.{stands_of}
 use Rattle.mk_images.proofs.Before.{ready_of}
 use Rattle.mk_images.proofs.EventSorts.{goes}
 
--- the heap that never reuses storage, behind an event
-abbrev pub never_after : Config → World → NeverState → Event → NeverState
-never_after c w n e = after_calls n (asked (call_decided c w.now e))
-
 -- what an event leaves, and that what it decides is right, where more is granted later too
 pub record Follows (c : Config) (w : World) (n : NeverState) (e : Event) : Type 0 where
   pub mirrors : Mirrors c (world_behind c w e) (never_after c w n e)
-  pub more : List ℕ
-  pub bases : bases_of (world_behind c w e).allocations ≡ bases_of w.allocations ++ more
+  pub bases : IsLonger (bases_of w.allocations) (bases_of (world_behind c w e).allocations)
   pub right : (later : List ℕ) → answered (call_decided c w.now e) ≡ answers_of (bases_of (world_behind c w e).allocations ++ later) (replies_of n (asked (call_decided c w.now e)))
-
--- Bases are added behind the others, and stay.
-record Grows (xs ys : List ℕ) : Type 0 where
-  pub more : List ℕ
-  pub is : ys ≡ xs ++ more
-
-bases_grow : (safe : ℕ → Bool) (s t : Scene) (n m : NeverState) → Move safe s n t m → Grows (bases_of s.allocations) (bases_of t.allocations)
-bases_grow safe s t n m (Grants k d base ty f at long ld z) = record { more = base ∷ []; is = map-append (λ (x : PlacedAllocation). x.base) s.allocations _ }
-bases_grow safe s t n m (Frees k a f xs at places released there others is quiet) = record { more = []; is = places.bases ∙ sym (append-nil _) }
-bases_grow safe s t n m (Renews xs places released freed) = record { more = []; is = places.bases ∙ sym (append-nil _) }
-bases_grow safe s t n m (Releases xs places released freed kept cut) = record { more = []; is = places.bases ∙ sym (append-nil _) }
-bases_grow safe s t n m Rests = record { more = []; is = sym (append-nil _) }
-bases_grow safe s t n m (Flies k f e c p) = record { more = []; is = sym (append-nil _) }
-bases_grow safe s t n m (Owes k f v a b c d e g i) = record { more = []; is = sym (append-nil _) }
-bases_grow safe s t n m (Pays k f a b c d e) = record { more = []; is = sym (append-nil _) }
-bases_grow safe s t n m (Stores k d x f v a b c e g) = record { more = []; is = sym (append-nil _) }
-bases_grow safe s t n m (Shares k g x f v a b c d e) = record { more = []; is = sym (append-nil _) }
-bases_grow safe s t n m (Writes k a i x f v at u mm li inside is sv) = record { more = []; is = sym (append-nil _) }
-bases_grow safe s t n m (Wipes x out) = record { more = []; is = sym (append-nil _) }
 
 pub one_event : (c : Config) (w : World) (n : NeverState) (e : Event) → KnownWorld c w → OthersSay c w → Mirrors c w n → IsEnabled c w.now e
     → AreAdmitted c.globals n (asked (call_decided c w.now e)) → Follows c w n e
@@ -72,9 +49,9 @@ one_event c w n e known others mirrors on ad =
         typed = calls_keep c.globals n (asked (call_decided c w.now e)) mirrors.typed ad;
         twins = twins_kept safe.0 (scene_of w) (scene_of (world_behind c w e)) n (never_after c w n e) mirrors.twins leads.0;
         images = images_kept c.globals safe.0 (scene_of w) (scene_of (world_behind c w e)) n (never_after c w n e) mirrors.images ready.small mirrors.typed mirrors.twins.count ready.apart leads.0;
+        freed_run = freed_run_stays c w n e known others mirrors (enabled_meets c w.now e on) grows ad;
         safe = safe_kept safe.0 (scene_of w) (scene_of (world_behind c w e)) n (never_after c w n e) safe.1 mirrors.twins.count leads.0;
       };
-      more = grows.more;
-      bases = grows.is;
+      bases = grows;
       right = leads.1;
     }

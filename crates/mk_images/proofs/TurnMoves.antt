@@ -44,9 +44,8 @@ use Rattle.mk_core.proofs.PlacesNow.{target_is, freed_cell}
 use Rattle.mk_core.proofs.ChangedAllocations.{none_freed}
 use Rattle.mk_core.proofs.StandingAllocations.{storage_holds}
 use Rattle.mk_core.proofs.GrantedAllocations.{granted_type}
-use Rattle.mk_protocol.specs.Protocol.{is_decided_free_at, is_decided_free}
+use Rattle.mk_images.proofs.Freeing.{new_frees_none}
 use Rattle.mk_protocol.proofs.Views.{view_of, flight_in, HoldsTurn}
-use Rattle.mk_protocol.proofs.Orderly.{holders_flight}
 use Rattle.mk_protocol.proofs.Operands.{operands_of}
 use Rattle.mk_images.specs.OthersSay.{IsPlaceOfNone}
 use Rattle.mk_images.proofs.Kept.{fresh_one}
@@ -75,19 +74,8 @@ sees_freed w (Some cell) _ h = cc
 sees_freed w None (word.Quar p) h = cc
 sees_freed w None _ h = cc
 
-new_frees_none : (s : Stage) (o : Op) → is_new_at s o ≡ true → is_decided_free_at s o ≡ true → ⊥
-new_frees_none stage.Give (op.Free p) new free = cc
-new_frees_none _ _ new free = cc
-
 module _ (c : Config) (w : World) (n : NeverState) (known : KnownWorld c w) (mirrors : Mirrors c w n) (others : OthersSay c w) (safe : ℕ → Bool) (ready : Ready c.globals safe (scene_of w) n) (st : Stands c w.now.words w.allocations)
     (k : ℕ) (lt : k < c.callers) where
-  -- While a New is undecided no run is freed.
-  no_run : HoldsTurn c (view_of w.now) (Caller k) → is_undecided_new (flight_of w.now (Caller k)) ≡ true → (run : RunPages) → w.now.seats.holding.freed ≢ Some run
-  no_run hold new run e =
-      let f = flight_of w.now (Caller k) in
-      let freed : is_decided_free (flight_in (view_of w.now) (w.now.words.turn - 1)) ≡ true = known.orderly.served.freed (ap (λ (x : Option RunPages). is_some x) e) in
-      new_frees_none f.stage f.op new (subst (λ (g : Flight). is_decided_free g ≡ true) (holders_flight c (view_of w.now) (Caller k) known.orderly hold) freed)
-
   pub grant_by : (s : Stage) (o : Op) (q p r l : ℕ) (placing : Placing) → flight_of w.now (Caller k) ≡ flight s o q p r l → comes_next s o step.Grant ≡ true → is_used_once placing ≡ true
       → w.now.seats.holding.placing ≡ placing → HoldsTurn c (view_of w.now) (Caller k) → phase_of w.now.words ≢ 4 → has_operands c o ≡ true
       → Leads safe (scene_of w) n k o (record {
@@ -109,7 +97,7 @@ module _ (c : Config) (w : World) (n : NeverState) (known : KnownWorld c w) (mir
       let inside = fills.inside in
       let pages = known.limits.pages.1 in
       let word : address_of (base_made o place) ≡ address_of (base_made o place) % 2 ^ 64 = omega arith in
-      let zero_there = place_is_zero c w n known mirrors others st a place (no_run hold new) phase refl taken fills in (
+      let zero_there = place_is_zero c w n known mirrors others st a place (λ run. new_frees_none c w.now k run known.orderly hold new) phase refl taken fills in (
         subst (λ x. Move safe (scene_of w) n (record {
           registers = slice_set w.now.words.registers (8 * k + d) x;
           globals = w.now.words.globals;
