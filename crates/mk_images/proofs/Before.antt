@@ -1,9 +1,8 @@
 -- What a step of a caller needs, from the groups.
 use Rattle.std.proofs.Common.{[], ◌≡◌, ◌≢◌, ℕ, ◌+◌, ◌/◌, ◌<◌, ◌≤◌, Bool, true, false, List, length, sym, ap, subst, ◌∙◌, inl, inr, arith}
 use Rattle.std.specs.Prelude.{nat_lt, ◌&&◌, Option, Some, None}
-use Rattle.std.proofs.lemmas.Bool.{cases_Bool, and_parts, ltb-true}
+use Rattle.std.proofs.lemmas.Bool.{cases_Bool}
 use Rattle.mk_never.specs.declared.types.Kind.{Kind}
-use Rattle.mk_never.specs.declared.operations.Op.{Op}
 use Rattle.mk_never.specs.Types.{kinds_of, is_large}
 use Rattle.mk_never.specs.NeverHeap.{NeverState, allocation_at, words_of, is_unmapped}
 use Rattle.mk_never.specs.Typed.{IsTypedAllocation}

@@ -145,9 +145,11 @@ module _ (listed : List ℕ) (safe : ℕ → Bool) (s : Scene) (n : NeverState) 
       let to = reaches listed safe s n h (register_at n k q') q i IsPointer (car.q refl) (car.some_q refl) (own_sound q') (own_safe q') (pro refl) ad.access in
       let word = word_at n to.number to.place in
       let value : x ≡ image_of (bases_of s.allocations) word = e ∙ ap (slice_index s.heap) to.word ∙ h.images.heap to.number to.place to.unreleased to.mapped to.inside in
-      let sound = suited_is_sound n word _ to.kind (suits listed safe s n h to.number to.place to.exists to.inside) in
-      (to, ap (λ y. y == p) value ∙ ap (λ y. image_of (bases_of s.allocations) word == y) (car.p refl)
-      ∙ image_test listed safe s n h word (register_at n k p') sound (own_sound p') (h.set.closed to.number to.place to.of_set to.mapped) (own_safe p'))
+      let sound = suited_is_sound n word _ to.kind (suits listed safe s n h to.number to.place to.exists to.inside) in (
+        to,
+        ap (λ y. y == p) value ∙ ap (λ y. image_of (bases_of s.allocations) word == y) (car.p refl)
+            ∙ image_test listed safe s n h word (register_at n k p') sound (own_sound p') (h.set.closed to.number to.place to.of_set to.mapped) (own_safe p'),
+      )
 
   pub cas_leads : (o : Op) (q p r l x : ℕ) → flight_among s.flights k ≡ flight stage.Cas o q p r l → is_astray (standing_at stage.Cas o) ≡ false
       → CarriesOwn (bases_of s.allocations) n k (flight stage.Cas o q p r l) → ProbedOwn n k (flight stage.Cas o q p r l) → x ≡ slice_index s.heap ((q - 65536) / 8 + i_of o) → IsAdmitted listed n k o

@@ -25,7 +25,6 @@ use Rattle.mk_core.specs.Effects.{progress_probe, begins_where_free, answer_deci
 use Rattle.mk_core.specs.History.{World, world_behind, bases_of, call_decided}
 use Rattle.mk_core.specs.Decided.{flagged, entry_of, asked}
 use Rattle.mk_core.specs.Enabled.{MeetsAll}
-use Rattle.mk_protocol.proofs.Views.{view_of}
 use Rattle.mk_protocol.proofs.Standings.{standing_at, standing, is_astray}
 use Rattle.mk_protocol.proofs.Stages.{is_call_stage}
 use Rattle.mk_protocol.proofs.NextSteps.{at_its_stage, at_reg, at_enter}

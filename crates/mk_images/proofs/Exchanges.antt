@@ -1,7 +1,7 @@
 -- A compare and exchange compares values: of two values that a program can get to, the images are equal only where they are.
-use Rattle.std.proofs.Common.{◌≡◌, ◌↔◌, ℕ, ◌+◌, ◌-◌, ◌/◌, Bool, true, false, List, [], ◌∷◌, ◌++◌, refl, sym, ap, subst, ◌∙◌, append_assoc}
+use Rattle.std.proofs.Common.{◌≡◌, ◌↔◌, ℕ, Bool, true, false, List, ◌∷◌, ◌++◌, refl, sym, ap, subst, ◌∙◌}
 use Rattle.std.specs.Prelude.{slice_index, ◌==◌, Some}
-use Rattle.std.proofs.lemmas.Bool.{cases_Bool, ltb-true}
+use Rattle.std.proofs.lemmas.Bool.{ltb-true}
 use Rattle.mk_never.specs.declared.operations.Op.{Op}
 use Rattle.mk_never.specs.declared.operations.Op.TheVariants as op
 use Rattle.mk_never.specs.declared.values.Value.{Value}
@@ -12,7 +12,6 @@ use Rattle.mk_never.specs.NeverHeap.{NeverState, register_at, word_at, target_of
 use Rattle.mk_never.specs.Admitted.{AreAdmitted, IsAdmitted}
 use Rattle.mk_never.proofs.Sameness.{equal_from_same, same_from_equal}
 use Rattle.mk_core.specs.declared.config.Config.{Config}
-use Rattle.mk_core.specs.declared.events.Answer.{Answer}
 use Rattle.mk_core.specs.declared.events.Answer.TheVariants as answer
 use Rattle.mk_core.specs.declared.events.Event.{Event}
 use Rattle.mk_core.specs.declared.events.Seat.TheVariants.{Caller}
@@ -24,7 +23,6 @@ use Rattle.mk_core.specs.Decided.{asked}
 use Rattle.mk_core.specs.Moments.{flight_of}
 use Rattle.mk_core.specs.Enabled.{MeetsAll}
 use Rattle.mk_core.specs.Effects.{answer_decided}
-use Rattle.mk_core.specs.Exchanges.{ComparesValues}
 use Rattle.mk_core.specs.History.{World, left, never_behind, call_decided, calls_from, bases_of, IsHistory, AreEnabledFrom}
 use Rattle.mk_core.proofs.Conditions.{enabled_meets}
 use Rattle.mk_core.proofs.HistoryParts.{enabled_in_parts, admitted_in_parts, earlier_part_is_history}
@@ -39,7 +37,7 @@ use Rattle.mk_images.proofs.Before.{ready_of}
 use Rattle.mk_images.proofs.RegMoves.{flight}
 use Rattle.mk_images.proofs.CallMoves.{cas_compares}
 use Rattle.mk_images.proofs.CallSorts.{admitted_call, there_is, own_registers}
-use Rattle.mk_images.proofs.Histories.{histories_mirror}
+use Rattle.mk_images.proofs.Histories.{say_along, histories_mirror}
 
 abbrev word_of_target : NeverState → Target → Value
 word_of_target n (WordOf number place) = word_at n number place
@@ -75,10 +73,6 @@ compares_values c w n k q i p r number place known others mirrors h is ad target
     (ap (λ (g : Flight). slice_index w.now.words.heap (word_met g)) lit) admitted in
     let word : word_at n compared.0.number compared.0.place ≡ word_at n number place = ap (word_of_target n) (sym compared.0.target ∙ target) in
     told (x == f.p) (word_at n number place) (register_at n k p) (compared.1 ∙ ap (λ (v : Value). is_same v (register_at n k p)) word)
-
--- The premises hold along each front.
-pub say_along : (c : Config) (front rest : List Event) → OthersSayAlong c (front ++ rest) → OthersSayAlong c front
-say_along c front rest others xs ys e = others xs (ys ++ rest) (sym (append_assoc xs ys rest) ∙ ap (λ (zs : List Event). zs ++ rest) e)
 
 pub histories_compare : HistoriesCompareValues
 unfolding AreEnabledFrom calls_from

@@ -1,6 +1,6 @@
 -- What a Free frees, and the answer Double.
-use Rattle.std.proofs.Common.{◌≡◌, ◌≢◌, ℕ, ◌+◌, ◌%◌, Bool, true, false, List, map, sym, ap, subst, ◌∙◌, inl, inr, arith}
-use Rattle.std.specs.Prelude.{slice_index, slice_set, ◌==◌, ◌&&◌, not, nat_lt, if◌then◌else◌, Option, Some, None}
+use Rattle.std.proofs.Common.{◌≡◌, ◌≢◌, ℕ, ◌+◌, Bool, true, false, List, map, sym, ap, subst, ◌∙◌, inl, inr, arith}
+use Rattle.std.specs.Prelude.{slice_set, ◌==◌, not, nat_lt, if◌then◌else◌, Option, Some, None}
 use Rattle.std.proofs.lemmas.Bool.{false≢true, cases_Bool, cases_eq, and_parts, and_from, eqb-true, eq-eqb, not-true}
 use Rattle.std.proofs.lemmas.List.{set-get_or}
 use Rattle.mk_never.specs.declared.operations.Op.{Op}
@@ -15,7 +15,7 @@ use Rattle.mk_core.specs.declared.seats.Flight.{Flight}
 use Rattle.mk_geom.specs.Addresses.{address_of}
 use Rattle.mk_core.specs.Image.{image_of}
 use Rattle.mk_core.specs.Words.{Words}
-use Rattle.mk_core.specs.Cells.{pointed_cell, first_word, is_freed, is_marked, is_released}
+use Rattle.mk_core.specs.Cells.{pointed_cell, first_word, is_freed, is_released}
 use Rattle.mk_core.specs.Allocations.{PlacedAllocation, stands_in, freed_where_it_stands, placed_at}
 use Rattle.mk_core.specs.History.{World, bases_of}
 use Rattle.mk_core.specs.Ranges.{is_run_cell}

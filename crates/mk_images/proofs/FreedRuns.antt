@@ -1,5 +1,5 @@
 -- The run that a Free unmaps is what its register points to.
-use Rattle.std.proofs.Common.{◌≡◌, ◌≢◌, ◌⊎◌, ℕ, ◌+◌, ◌-◌, ◌*◌, ◌/◌, ◌%◌, ◌<◌, Bool, true, false, length, refl, sym, ap, subst, ◌∙◌, inl, inr, arith}
+use Rattle.std.proofs.Common.{◌≡◌, ◌≢◌, ◌⊎◌, ℕ, ◌+◌, ◌*◌, ◌/◌, ◌%◌, ◌<◌, Bool, true, false, length, refl, sym, ap, subst, ◌∙◌, inl, inr, arith}
 use Rattle.std.specs.Prelude.{slice_index, slice_index_or, slice_set, ◌&&◌, not, if◌then◌else◌, Option, Some, None}
 use Rattle.std.proofs.lemmas.Bool.{cases_Bool, cases_eq, cases_lt, ltb-true, false≢true}
 use Rattle.std.proofs.lemmas.List.{get_or-set_same, get_or-set_other, get_or_append_left, length-map, get_or_past}
@@ -55,7 +55,7 @@ use Rattle.mk_protocol.proofs.Standings.{Standing, Resting, InCall, UnderTurn, s
 use Rattle.mk_protocol.proofs.Views.{View, view_of, flight_in, HoldsTurn}
 use Rattle.mk_protocol.proofs.Moves.{Move as ProtocolMove, Stays, Enters, GoesOn, Leaves, Takes, Gives, Works, Holds, Opens, Phases, Attends, Quits, Scans}
 use Rattle.mk_protocol.proofs.Orderly.{turn_of}
-use Rattle.mk_protocol.proofs.Actors.{Meets, AsHolder}
+use Rattle.mk_protocol.proofs.Actors.{Meets}
 use Rattle.mk_protocol.proofs.Protocols.{not_astray, actor_of}
 use Rattle.mk_protocol.proofs.Stages.{turns_stand}
 use Rattle.mk_protocol.proofs.NextSteps.{of_turn}

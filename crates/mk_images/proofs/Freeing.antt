@@ -1,5 +1,5 @@
 -- Only a Free that is decided unmaps a run, and that call holds the turn.
-use Rattle.std.proofs.Common.{◌≡◌, ◌≢◌, ℕ, ◌-◌, ◌<◌, true, refl, ap, subst}
+use Rattle.std.proofs.Common.{◌≡◌, ◌≢◌, ℕ, ◌-◌, true, refl, ap, subst}
 use Rattle.std.specs.Prelude.{Option, Some, is_some}
 use Rattle.mk_never.specs.declared.operations.Op.{Op}
 use Rattle.mk_never.specs.declared.operations.Op.TheVariants as op

@@ -1,6 +1,6 @@
 -- The words of the place of a New are 0 when it is granted, and a wiped word is in no mapped allocation.
-use Rattle.std.proofs.Common.{◌≡◌, ◌≢◌, ℕ, ◌+◌, ◌-◌, ◌*◌, ◌/◌, ◌%◌, ◌<◌, ◌≤◌, Bool, true, false, length, refl, sym, ap, subst, ◌∙◌, inl, inr, arith}
-use Rattle.std.specs.Prelude.{slice_index, nat_le, nat_lt, ◌&&◌, ◌||◌, not, Option, Some, None}
+use Rattle.std.proofs.Common.{◌≡◌, ◌≢◌, ℕ, ◌+◌, ◌-◌, ◌*◌, ◌/◌, ◌<◌, ◌≤◌, Bool, true, false, length, refl, sym, ap, ◌∙◌, inl, inr, arith}
+use Rattle.std.specs.Prelude.{slice_index, nat_le, nat_lt, ◌&&◌, not, Option, Some, None}
 use Rattle.std.proofs.lemmas.Bool.{cases_eq, and_parts, leb-true, eqb-true, or_cases, ltb-true, false≢true, true≢false}
 use Rattle.mk_never.specs.NeverHeap.{NeverState, allocation_at, words_of, is_unmapped}
 use Rattle.mk_geom.specs.declared.addresses.Cell.{Cell}
@@ -8,13 +8,12 @@ use Rattle.mk_geom.specs.declared.pages.Place.{Place}
 use Rattle.mk_geom.specs.Addresses.{address_of}
 use Rattle.mk_geom.specs.Headers.{header_of}
 use Rattle.mk_core.specs.declared.config.Config.{Config}
-use Rattle.mk_core.specs.declared.events.Seat.TheVariants.{Caller}
 use Rattle.mk_core.specs.declared.seats.RunPages.{RunPages}
 use Rattle.mk_core.specs.Words.{Words, header_at, phase_of}
 use Rattle.mk_core.specs.Bounded.{is_some_and}
 use Rattle.mk_core.specs.Cells.{pointed_cell, first_word, header_in, is_released, is_left_unmarked, is_in_run, is_unmapped_header}
-use Rattle.mk_core.specs.Moments.{flight_of, is_phase}
-use Rattle.mk_core.specs.NewPlaces.{pages_made, base_made, stands, unmapped_header, is_run_unmapped, is_undecided_new}
+use Rattle.mk_core.specs.Moments.{is_phase}
+use Rattle.mk_core.specs.NewPlaces.{pages_made, base_made, stands, unmapped_header, is_run_unmapped}
 use Rattle.mk_core.specs.Allocations.{PlacedAllocation, placed_at, storage_words, cell_of_allocation}
 use Rattle.mk_core.specs.StandingAllocations.{object_placed}
 use Rattle.mk_core.specs.TurnConditions.{may_wipe, is_in_gone_run}
@@ -22,12 +21,11 @@ use Rattle.mk_core.specs.History.{World}
 use Rattle.mk_core.proofs.AllBelow.{all_below-at}
 use Rattle.mk_core.proofs.Sizes.{large_count}
 use Rattle.mk_core.proofs.ObjectHeaders.{unmapped_is_unmapped}
-use Rattle.mk_core.proofs.StandingAllocations.{typed_size, storage_holds, cells_begin}
+use Rattle.mk_core.proofs.StandingAllocations.{typed_size, cells_begin}
 use Rattle.mk_core.proofs.GrantedAllocations.{placed_stands, placed_headers}
 use Rattle.mk_core.proofs.PointedAllocations.{word_points}
-use Rattle.mk_protocol.specs.Protocol.{is_decided_free}
 use Rattle.mk_images.specs.Mirrors.{Mirrors}
-use Rattle.mk_images.specs.OthersSay.{run_of_allocation, IsPlaceOfNone, IsFreedRun, MayHoldWords, OfMapped, OfReleased, OfFreedRun, OthersSay}
+use Rattle.mk_images.specs.OthersSay.{IsPlaceOfNone, MayHoldWords, OfMapped, OfReleased, OfFreedRun, OthersSay}
 use Rattle.mk_images.proofs.KnownWorlds.{KnownWorld}
 use Rattle.mk_images.proofs.Kept.{exists_placed}
 use Rattle.mk_images.proofs.Stands.{is_gone, Stands}

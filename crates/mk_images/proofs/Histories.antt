@@ -1,10 +1,10 @@
 -- All histories: the answers are the images of the replies, and what is reached isn't released.
-use Rattle.std.proofs.Common.{◌≡◌, ℕ, ◌*◌, ◌/◌, ◌%◌, ◌<◌, Bool, true, false, List, [], ◌∷◌, ◌++◌, replicate, refl, sym, ap, subst, ◌∙◌, append-nil, append_assoc, arith}
+use Rattle.std.proofs.Common.{◌≡◌, ℕ, ◌*◌, ◌/◌, ◌%◌, Bool, true, false, List, [], ◌∷◌, ◌++◌, replicate, refl, sym, ap, subst, ◌∙◌, append-nil, append_assoc, arith}
 use Rattle.std.specs.Prelude.{slice_index, slice_index_or}
 use Rattle.std.proofs.lemmas.List.{map-append, length-replicate}
 use Rattle.mk_never.specs.declared.values.Value.{Value}
 use Rattle.mk_never.specs.declared.values.Value.TheVariants.{Null, Num, Ptr}
-use Rattle.mk_never.specs.NeverHeap.{NeverState, Call, start_of, after_calls, replies_of}
+use Rattle.mk_never.specs.NeverHeap.{NeverState, Call, after_calls, replies_of}
 use Rattle.mk_never.specs.Admitted.{AreAdmitted}
 use Rattle.mk_never.specs.Reach.{LeadsTo}
 use Rattle.mk_never.proofs.TypedCalls.{start_is_typed}
@@ -23,13 +23,14 @@ use Rattle.mk_core.specs.History.{World, first_world, world_behind, left_from, l
 use Rattle.mk_core.proofs.Histories.{left_more, enabled_more}
 use Rattle.mk_protocol.proofs.Protocols.{at_first}
 use Rattle.mk_images.specs.Images.{shown, CarriesOwn, ProbedOwn}
-use Rattle.mk_images.specs.SafeSets.{IsSafe, IsSafeSet, HasSafeSet}
+use Rattle.mk_images.specs.SafeSets.{IsSafe, HasSafeSet}
 use Rattle.mk_images.specs.OthersSay.{OthersSay}
 use Rattle.mk_images.specs.Mirrors.{Mirrors}
-use Rattle.mk_images.specs.Laws.{OthersSayAlong, HistoriesRefineNever, HistoriesMirrorNever, ReachedIsUnreleased}
+use Rattle.mk_images.specs.Laws.{OthersSayAlong, HistoriesRefineNever, HistoriesMirrorNever, ReachedIsUnreleased, HistoriesTellOthers}
 use Rattle.mk_images.proofs.KnownWorlds.{KnownWorld, known_world}
 use Rattle.mk_images.proofs.Pairs.{bare_carries}
 use Rattle.mk_images.proofs.OneEvent.{Follows, one_event}
+use Rattle.mk_images.proofs.Saying.{images_say}
 use Rattle.mk_images.proofs.Bases.{IsLonger}
 use Rattle.mk_images.proofs.FreedRuns.{never_after}
 
@@ -122,6 +123,18 @@ histories_refine c es h others = (all_follow c es h others).right
 
 pub histories_mirror : HistoriesMirrorNever
 histories_mirror c es h others = (all_follow c es h others).mirrors
+
+-- The premises hold along each front.
+pub say_along : (c : Config) (front rest : List Event) → OthersSayAlong c (front ++ rest) → OthersSayAlong c front
+say_along c front rest others xs ys e = others xs (ys ++ rest) (sym (append_assoc xs ys rest) ∙ ap (λ (zs : List Event). zs ++ rest) e)
+
+-- A list is the last of its own fronts.
+others_behind : (c : Config) (es : List Event) → OthersSayAlong c es → OthersSay c (left c es)
+others_behind c es others = others es [] (append-nil es)
+
+pub histories_tell : HistoriesTellOthers
+histories_tell c es h others =
+    images_say c (left c es) (never_behind c es) (known_world c es h.within_limits h.enabled) (others_behind c es others) (histories_mirror c es h others)
 
 -- What is reached is in a safe set.
 safe_leads : (safe : ℕ → Bool) (v : Value) (number : ℕ) → IsSafe safe v → LeadsTo v number → safe number ≡ true

@@ -25,3 +25,4 @@ pub mod Exchanges
 pub mod Bases
 pub mod Freeing
 pub mod FreedRuns
+pub mod Saying

@@ -1,7 +1,6 @@
 -- One event: the world mirrors the heap that never reuses storage behind it, and the answer that it decides is right.
-use Rattle.std.proofs.Common.{◌≡◌, ℕ, Bool, List, [], ◌∷◌, ◌++◌, sym, ◌∙◌, append-nil}
-use Rattle.std.proofs.lemmas.List.{map-append}
-use Rattle.mk_never.specs.NeverHeap.{NeverState, after_calls, replies_of}
+use Rattle.std.proofs.Common.{◌≡◌, ℕ, List, ◌++◌, ◌∙◌}
+use Rattle.mk_never.specs.NeverHeap.{NeverState, replies_of}
 use Rattle.mk_never.specs.Admitted.{AreAdmitted}
 use Rattle.mk_never.specs.Laws.{Continues}
 use Rattle.mk_never.proofs.Later.{calls_stay}
@@ -11,10 +10,9 @@ use Rattle.mk_core.specs.declared.events.Event.{Event}
 use Rattle.mk_core.specs.Image.{answers_of}
 use Rattle.mk_core.specs.Decided.{asked, answered}
 use Rattle.mk_core.specs.Enabled.{IsEnabled}
-use Rattle.mk_core.specs.Allocations.{PlacedAllocation}
 use Rattle.mk_core.specs.History.{World, world_behind, call_decided, bases_of}
 use Rattle.mk_core.proofs.Conditions.{enabled_meets}
-use Rattle.mk_images.specs.Images.{Scene, scene_of}
+use Rattle.mk_images.specs.Images.{scene_of}
 use Rattle.mk_images.specs.OthersSay.{OthersSay}
 use Rattle.mk_images.specs.Mirrors.{Mirrors}
 use Rattle.mk_images.proofs.KnownWorlds.{KnownWorld}

@@ -1,5 +1,5 @@
 -- A release cuts the safe set to the marked allocations.
-use Rattle.std.proofs.Common.{◌≡◌, ℕ, zero, suc, ◌+◌, ◌/◌, ◌%◌, ◌<◌, Bool, true, false, List, [], ◌∷◌, length, map, get_or, refl, sym, ap, subst, ◌∙◌, inl, inr, arith}
+use Rattle.std.proofs.Common.{◌≡◌, ℕ, ◌+◌, ◌/◌, ◌%◌, ◌<◌, Bool, true, false, List, length, map, refl, sym, ap, subst, ◌∙◌, inl, inr, arith}
 use Rattle.std.specs.Prelude.{slice_index, slice_index_or, ◌&&◌, ◌||◌, not, Option, Some}
 use Rattle.std.proofs.lemmas.Bool.{cases_Bool, cases_lt, and_parts, and_from}
 use Rattle.std.proofs.lemmas.List.{get_or_past}
@@ -32,8 +32,8 @@ use Rattle.mk_core.specs.ClosedMarks.{is_marked_allocation, is_scanned_allocatio
 use Rattle.mk_images.proofs.Moves.{Move, Releases}
 use Rattle.mk_images.proofs.Pairs.{shows_plain}
 use Rattle.mk_images.proofs.Kept.{base_at, exists_placed}
-use Rattle.mk_images.proofs.Ready.{Ready, pointed_word, image_zero}
-use Rattle.mk_images.proofs.Before.{type_is, words_fit, words_are, unmapped_is}
+use Rattle.mk_images.proofs.Ready.{Ready, pointed_word}
+use Rattle.mk_images.proofs.Before.{type_is, words_fit, unmapped_is}
 use Rattle.mk_core.proofs.ChangedAllocations.{changed_at, released_leaves}
 use Rattle.mk_images.proofs.KeptPlaces.{same_places}
 

@@ -1,5 +1,5 @@
 -- What stands where, as lookups show it.
-use Rattle.std.proofs.Common.{◌≡◌, ◌≢◌, ℕ, ◌+◌, ◌-◌, ◌*◌, ◌/◌, ◌%◌, ◌<◌, ◌≤◌, Bool, true, false, List, [], sym, ap, subst, ◌∙◌, inl, inr, arith}
+use Rattle.std.proofs.Common.{◌≡◌, ◌≢◌, ℕ, ◌+◌, ◌*◌, ◌/◌, ◌<◌, ◌≤◌, Bool, true, false, List, sym, ap, subst, ◌∙◌, inl, inr, arith}
 use Rattle.std.specs.Prelude.{◌&&◌, ◌==◌, not, Option, Some, None}
 use Rattle.std.proofs.lemmas.Bool.{cases_Bool, and_parts, and_from, eqb-true, eq-eqb, not-true, true≢false}
 use Rattle.mk_never.specs.Types.{kinds_of, is_large}
@@ -11,7 +11,7 @@ use Rattle.mk_core.specs.Config.{IsWithinLimits}
 use Rattle.mk_core.specs.Words.{Words, header_at}
 use Rattle.mk_core.specs.Cells.{pointed_cell, first_word, header_in, heads_run, is_unmapped_header, words_are_zero}
 use Rattle.mk_core.specs.NewPlaces.{is_small_object, pages_made, stands, unmapped_header, is_run_unmapped, is_run_gone}
-use Rattle.mk_core.specs.ObjectHeaders.{IsSized, words_made}
+use Rattle.mk_core.specs.ObjectHeaders.{IsSized}
 use Rattle.mk_core.specs.Allocations.{PlacedAllocation, placed_at, is_mapped, storage_words, cell_of_allocation}
 use Rattle.mk_core.specs.StandingAllocations.{object_placed, BeginsAtCell}
 use Rattle.mk_core.specs.History.{World}

@@ -1,14 +1,13 @@
 -- Each step that the turn's holder takes leads to what the images allow.
-use Rattle.std.proofs.Common.{◌-◌, ◌≡◌, ◌≢◌, ℕ, ◌+◌, ◌*◌, ◌%◌, ◌^◌, ◌<◌, Bool, true, false, List, [], ◌∷◌, ◌++◌, length, map, refl, sym, ap, subst, ◌∙◌, arith}
-use Rattle.std.specs.Prelude.{slice_set, ◌&&◌, ◌==◌, not, if◌then◌else◌, Option, Some, None, is_some}
-use Rattle.std.proofs.lemmas.Bool.{and_parts, not-true, ltb-true, false≢true}
+use Rattle.std.proofs.Common.{◌≡◌, ◌≢◌, ℕ, ◌+◌, ◌*◌, ◌%◌, ◌^◌, ◌<◌, Bool, true, false, List, [], ◌∷◌, ◌++◌, length, map, refl, sym, ap, subst, ◌∙◌, arith}
+use Rattle.std.specs.Prelude.{slice_set, ◌==◌, Option, Some, None}
+use Rattle.std.proofs.lemmas.Bool.{and_parts, false≢true}
 use Rattle.mk_never.specs.declared.types.Kind.{Kind}
 use Rattle.mk_never.specs.declared.operations.Op.{Op}
 use Rattle.mk_never.specs.declared.operations.Op.TheVariants as op
 use Rattle.mk_never.specs.declared.values.Value.TheVariants.{Ptr}
 use Rattle.mk_never.specs.Types.{kinds_of}
 use Rattle.mk_never.specs.NeverHeap.{NeverState, register_at, with_register, with_new}
-use Rattle.mk_never.specs.Admitted.{AreAdmitted, IsAdmitted}
 use Rattle.mk_geom.specs.declared.addresses.Cell.{Cell}
 use Rattle.mk_core.specs.declared.config.Config.{Config}
 use Rattle.mk_core.specs.declared.events.Answer.TheVariants as answer
@@ -25,27 +24,24 @@ use Rattle.mk_core.specs.Image.{answer_of}
 use Rattle.mk_core.specs.Words.{Words}
 use Rattle.mk_core.specs.Cells.{pointed_cell, is_freed}
 use Rattle.mk_core.specs.Calls.{d_of, has_operands, still}
-use Rattle.mk_core.specs.Moments.{is_phase}
 use Rattle.mk_core.specs.NewPlaces.{object_made, base_made, target, is_undecided_free}
-use Rattle.mk_core.specs.TurnConditions.{is_used_once, frees, cell_freed}
+use Rattle.mk_core.specs.TurnConditions.{is_used_once, cell_freed}
 use Rattle.mk_core.specs.Order.{comes_next}
 use Rattle.mk_core.specs.Ranges.{is_run_cell}
 use Rattle.mk_core.specs.Accesses.{granted_base}
 use Rattle.mk_core.specs.Allocations.{PlacedAllocation, type_made, freed_where_it_stands}
 use Rattle.mk_core.specs.Effects.{decided, progress_freed, progress_look, sees_double}
 use Rattle.mk_core.specs.History.{World, bases_of}
-use Rattle.mk_core.specs.Decided.{entry_of, asked}
-use Rattle.mk_core.specs.declared.seats.RunPages.{RunPages}
 use Rattle.mk_core.specs.declared.events.Seat.TheVariants.{Caller}
 use Rattle.mk_core.specs.Moments.{flight_of}
 use Rattle.mk_core.specs.Words.{phase_of}
-use Rattle.mk_core.specs.NewPlaces.{is_new_at, is_undecided_new}
+use Rattle.mk_core.specs.NewPlaces.{is_undecided_new}
 use Rattle.mk_core.proofs.PlacesNow.{target_is, freed_cell}
 use Rattle.mk_core.proofs.ChangedAllocations.{none_freed}
 use Rattle.mk_core.proofs.StandingAllocations.{storage_holds}
 use Rattle.mk_core.proofs.GrantedAllocations.{granted_type}
 use Rattle.mk_images.proofs.Freeing.{new_frees_none}
-use Rattle.mk_protocol.proofs.Views.{view_of, flight_in, HoldsTurn}
+use Rattle.mk_protocol.proofs.Views.{view_of, HoldsTurn}
 use Rattle.mk_protocol.proofs.Operands.{operands_of}
 use Rattle.mk_images.specs.OthersSay.{IsPlaceOfNone}
 use Rattle.mk_images.proofs.Kept.{fresh_one}

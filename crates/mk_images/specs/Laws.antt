@@ -1,19 +1,14 @@
 -- What holds of all histories, where the rest of the invariant holds behind each front of them.
-use Rattle.std.specs.Prelude.{◌≡◌, ℕ, ◌+◌, ◌*◌, ◌<◌, false, List, ◌++◌, Some}
-use Rattle.mk_never.specs.declared.values.Value.TheVariants.{Ptr}
-use Rattle.mk_never.specs.NeverHeap.{NeverState, register_at}
+use Rattle.std.specs.Prelude.{◌≡◌, ℕ, false, List, ◌++◌}
 use Rattle.mk_never.specs.Reach.{IsReached}
 use Rattle.mk_core.specs.declared.config.Config.{Config}
 use Rattle.mk_core.specs.declared.events.Event.{Event}
-use Rattle.mk_core.specs.declared.events.Seat.TheVariants.{Caller}
-use Rattle.mk_core.specs.declared.seats.RunPages.{RunPages}
-use Rattle.mk_core.specs.Calls.{p_of}
-use Rattle.mk_core.specs.Moments.{flight_of}
 use Rattle.mk_core.specs.Allocations.{placed_at}
 use Rattle.mk_core.specs.History.{left, never_behind, IsHistory, RefinesNever}
 use Rattle.mk_core.specs.Exchanges.{ExchangesCompareValues}
 use Rattle.mk_images.specs.OthersSay.{OthersSay}
 use Rattle.mk_images.specs.Mirrors.{Mirrors}
+use Rattle.mk_images.specs.ImagesSay.{ImagesSay}
 
 -- The layout, the quarantine, the zero words and the marks are as they should be behind each front.
 abbrev pub OthersSayAlong : Config → List Event → Type 0
@@ -36,3 +31,7 @@ ReachedIsUnreleased =
 -- A compare and exchange compares values, not addresses that were used before.
 abbrev pub HistoriesCompareValues : Type 0
 HistoriesCompareValues = (c : Config) (es : List Event) → IsHistory c es → OthersSayAlong c es → ExchangesCompareValues c es
+
+-- What the images tell the other groups is so.
+abbrev pub HistoriesTellOthers : Type 0
+HistoriesTellOthers = (c : Config) (es : List Event) → IsHistory c es → OthersSayAlong c es → ImagesSay c (left c es) (never_behind c es)

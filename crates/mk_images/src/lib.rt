@@ -2,7 +2,7 @@
 //! they should be: facts alone, with no code.
 #![tactic(auto)]
 
-ghost use Rattle.mk_images.specs.Laws.{HistoriesRefineNever, HistoriesMirrorNever, ReachedIsUnreleased, HistoriesCompareValues};
+ghost use Rattle.mk_images.specs.Laws.{HistoriesRefineNever, HistoriesMirrorNever, ReachedIsUnreleased, HistoriesCompareValues, HistoriesTellOthers};
 
 /// All answers are the images of the replies.
 pub fn answers_are_images()
@@ -22,4 +22,9 @@ pub fn what_is_reached_stays()
 /// A compare and exchange compares values: storage that is used again isn't taken for what stood there before.
 pub fn exchanges_compare_values()
     ensures { HistoriesCompareValues }
+{}
+
+/// What the images tell the other groups: what Frees point to, which run is marked, and where callers store.
+pub fn images_tell_the_others()
+    ensures { HistoriesTellOthers }
 {}
