@@ -39,7 +39,8 @@ module _ (c : Config) (w : World) (n : NeverState) (known : KnownWorld c w) (mir
   words_are a lt =
       let count = mirrors.twins.count in
       let typed : IsTypedAllocation n (allocation_at n a) = mirrors.typed.allocations a (omega arith) in
-      typed.size ∙ ap (λ (types : List (List Kind)). length (kinds_of types (allocation_at n a).ty)) mirrors.types ∙ ap (λ ty. length (kinds_of c.types ty)) (sym (mirrors.twins.ty a lt))
+      typed.size ∙ ap (λ (types : List (List Kind)). length (kinds_of types (allocation_at n a).ty)) mirrors.types
+      ∙ ap (λ ty. length (kinds_of c.types ty)) (sym (mirrors.twins.ty a lt))
 
   pub type_is : (a : ℕ) → a < length w.allocations → (placed_at w.allocations a).ty < length c.types
   type_is a lt =
@@ -56,7 +57,8 @@ module _ (c : Config) (w : World) (n : NeverState) (known : KnownWorld c w) (mir
   unmapped_is a lt = ap (λ b. b && is_large (words_of n a)) (sym (mirrors.twins.freed a lt)) ∙ ap (λ l. (placed_at w.allocations a).freed && nat_lt 32 l) (words_are a lt)
 
   pub storages_apart : Stands c w.now.words w.allocations → (a b i j : ℕ) → (placed_at w.allocations a).released ≡ false → (placed_at w.allocations b).released ≡ false
-      → i < storage_words c (placed_at w.allocations a) → j < storage_words c (placed_at w.allocations b) → a ≢ b → (placed_at w.allocations a).base + i ≢ (placed_at w.allocations b).base + j
+      → i < storage_words c (placed_at w.allocations a) → j < storage_words c (placed_at w.allocations b) → a ≢ b
+      → (placed_at w.allocations a).base + i ≢ (placed_at w.allocations b).base + j
   storages_apart st a b i j ua ub li lj ne e =
       let cells : Some (cell_of_allocation c (placed_at w.allocations a)) ≡ Some (cell_of_allocation c (placed_at w.allocations b)) =
       sym (st.cell a i ua li) ∙ ap (λ x. pointed_cell c.pages w.now.words.pages (address_of x)) e ∙ st.cell b j ub lj in

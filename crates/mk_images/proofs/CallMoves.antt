@@ -38,8 +38,10 @@ module _ (listed : List ℕ) (safe : ℕ → Bool) (s : Scene) (n : NeverState) 
   own_safe : (r : ℕ) → IsSafe safe (register_at n k r)
   own_safe r = h.set.registers (8 * k + r)
 
-  pub probe_leads : (header : ℕ → ℕ) → PagesShow header s n → (o : Op) (q p r l x : ℕ) → flight_among s.flights k ≡ flight stage.Probe o q p r l → d_of o < 8 → is_astray (standing_at stage.Probe o) ≡ false
-      → CarriesOwn (bases_of s.allocations) n k (flight stage.Probe o q p r l) → x ≡ header (((q - 65536) / 8 + i_of o) / 64) → (is_unmapped_header (header_of x) ≡ true → IsAdmitted listed n k o)
+  pub probe_leads : (header : ℕ → ℕ) → PagesShow header s n → (o : Op) (q p r l x : ℕ) → flight_among s.flights k ≡ flight stage.Probe o q p r l → d_of o < 8
+      → is_astray (standing_at stage.Probe o) ≡ false
+      → CarriesOwn (bases_of s.allocations) n k (flight stage.Probe o q p r l) → x ≡ header (((q - 65536) / 8 + i_of o) / 64)
+      → (is_unmapped_header (header_of x) ≡ true → IsAdmitted listed n k o)
       → LeadsBy safe s n k o s (progress_probe (flight stage.Probe o q p r l) x)
   probe_leads header show (op.GetNum q' i) q p r l x is ld a car e ad =
       let was = ap (λ (f : Flight). is_put f.stage) is in
@@ -80,7 +82,8 @@ module _ (listed : List ℕ) (safe : ℕ → Bool) (s : Scene) (n : NeverState) 
   probe_leads header show _ q p r l x is ld a car e ad = cc
 
   pub read_leads : (o : Op) (q p r l x : ℕ) → flight_among s.flights k ≡ flight stage.Read o q p r l → d_of o < 8 → is_astray (standing_at stage.Read o) ≡ false
-      → CarriesOwn (bases_of s.allocations) n k (flight stage.Read o q p r l) → ProbedOwn n k (flight stage.Read o q p r l) → x ≡ slice_index s.heap ((q - 65536) / 8 + i_of o) → IsAdmitted listed n k o
+      → CarriesOwn (bases_of s.allocations) n k (flight stage.Read o q p r l) → ProbedOwn n k (flight stage.Read o q p r l) → x ≡ slice_index s.heap ((q - 65536) / 8 + i_of o)
+      → IsAdmitted listed n k o
       → LeadsBy safe s n k o s (progress_read (flight stage.Read o q p r l) o x)
   read_leads (op.GetNum q' i) q p r l x is ld a car pro e ad =
       let to = reaches listed safe s n h (register_at n k q') q i IsNumber (car.q refl) (car.some_q refl) (own_sound q') (own_safe q') (pro refl) ad.access in
@@ -127,7 +130,8 @@ module _ (listed : List ℕ) (safe : ℕ → Bool) (s : Scene) (n : NeverState) 
   write_leads (op.New d ty full) q p r l is a car pro ad = cc
   write_leads _ q p r l is a car pro ad = cc
 
-  cas_by : (b : Bool) (o : Op) (q p r l r' a i w x : ℕ) → w ≡ (placed_at s.allocations a).base + i → x ≡ slice_index s.heap w → (placed_at s.allocations a).released ≡ false → is_unmapped (allocation_at n a) ≡ false
+  cas_by : (b : Bool) (o : Op) (q p r l r' a i w x : ℕ) → w ≡ (placed_at s.allocations a).base + i → x ≡ slice_index s.heap w → (placed_at s.allocations a).released ≡ false
+      → is_unmapped (allocation_at n a) ≡ false
       → i < length (words_of n a) → r ≡ image_of (bases_of s.allocations) (register_at n k r') → Decides s n k (flight stage.Dirty o q p r l)
       → Move safe s n (record s { heap = slice_set s.heap w (if b then r else x); flights = slice_set s.flights k (flight stage.Dirty o q p r l) }) (if b then with_word n a i (register_at n k r') else n)
   cas_by true o q p r l r' a i w x ew ex u m inside er at =
@@ -138,7 +142,8 @@ module _ (listed : List ℕ) (safe : ℕ → Bool) (s : Scene) (n : NeverState) 
       (goes_bare safe s n k (flight stage.Dirty o q p r l) at.was refl)
 
   -- A compare and exchange reaches a word, and compares its value to that of its caller's register p.
-  pub cas_compares : (q' i p' r' q p r l x : ℕ) → CarriesOwn (bases_of s.allocations) n k (flight stage.Cas (op.CasPtr q' i p' r') q p r l) → ProbedOwn n k (flight stage.Cas (op.CasPtr q' i p' r') q p r l)
+  pub cas_compares : (q' i p' r' q p r l x : ℕ) → CarriesOwn (bases_of s.allocations) n k (flight stage.Cas (op.CasPtr q' i p' r') q p r l)
+      → ProbedOwn n k (flight stage.Cas (op.CasPtr q' i p' r') q p r l)
       → x ≡ slice_index s.heap ((q - 65536) / 8 + i) → IsAdmitted listed n k (op.CasPtr q' i p' r')
       → (to : Reaches safe s n (register_at n k q') q i IsPointer) × ((x == p) ≡ is_same (word_at n to.number to.place) (register_at n k p'))
   cas_compares q' i p' r' q p r l x car pro e ad =
@@ -152,7 +157,8 @@ module _ (listed : List ℕ) (safe : ℕ → Bool) (s : Scene) (n : NeverState) 
       )
 
   pub cas_leads : (o : Op) (q p r l x : ℕ) → flight_among s.flights k ≡ flight stage.Cas o q p r l → is_astray (standing_at stage.Cas o) ≡ false
-      → CarriesOwn (bases_of s.allocations) n k (flight stage.Cas o q p r l) → ProbedOwn n k (flight stage.Cas o q p r l) → x ≡ slice_index s.heap ((q - 65536) / 8 + i_of o) → IsAdmitted listed n k o
+      → CarriesOwn (bases_of s.allocations) n k (flight stage.Cas o q p r l) → ProbedOwn n k (flight stage.Cas o q p r l) → x ≡ slice_index s.heap ((q - 65536) / 8 + i_of o)
+      → IsAdmitted listed n k o
       → LeadsBy safe s n k o (record s { heap = slice_set s.heap ((q - 65536) / 8 + i_of o) (if x == p then r else x) }) (progress_cas (flight stage.Cas o q p r l) x)
   cas_leads (op.CasPtr q' i p' r') q p r l x is a car pro e ad =
       let compared = cas_compares q' i p' r' q p r l x car pro e ad in
@@ -169,7 +175,8 @@ module _ (listed : List ℕ) (safe : ℕ → Bool) (s : Scene) (n : NeverState) 
   cas_leads (op.New d ty full) q p r l x is a car pro e ad = cc
   cas_leads _ q p r l x is a car pro e ad = cc
 
-  pub getg_leads : (o : Op) (q p r l x : ℕ) → flight_among s.flights k ≡ flight stage.Getg o q p r l → d_of o < 8 → is_astray (standing_at stage.Getg o) ≡ false → x ≡ slice_index s.globals (g_of o)
+  pub getg_leads : (o : Op) (q p r l x : ℕ) → flight_among s.flights k ≡ flight stage.Getg o q p r l → d_of o < 8 → is_astray (standing_at stage.Getg o) ≡ false
+      → x ≡ slice_index s.globals (g_of o)
       → LeadsBy safe s n k o s (progress_getg (flight stage.Getg o q p r l) x)
   getg_leads (op.GetGlobal d g) q p r l x is ld a e =
       let value : x ≡ image_of (bases_of s.allocations) (global_at n g) = e ∙ h.images.globals g in (
@@ -179,7 +186,8 @@ module _ (listed : List ℕ) (safe : ℕ → Bool) (s : Scene) (n : NeverState) 
   getg_leads (op.New d ty full) q p r l x is ld a e = cc
   getg_leads _ q p r l x is ld a e = cc
 
-  pub setg_leads : (o : Op) (q p r l : ℕ) → flight_among s.flights k ≡ flight stage.Setg o q p r l → is_astray (standing_at stage.Setg o) ≡ false → CarriesOwn (bases_of s.allocations) n k (flight stage.Setg o q p r l)
+  pub setg_leads : (o : Op) (q p r l : ℕ) → flight_among s.flights k ≡ flight stage.Setg o q p r l → is_astray (standing_at stage.Setg o) ≡ false
+      → CarriesOwn (bases_of s.allocations) n k (flight stage.Setg o q p r l)
       → g_of o < length s.globals → g_of o < length n.globals
       → LeadsBy safe s n k o (record s { globals = slice_set s.globals (g_of o) p }) (onward (flight stage.Setg o q p r l) (Some answer.Done))
   setg_leads (op.SetGlobal g p') q p r l is a car lg ln = (

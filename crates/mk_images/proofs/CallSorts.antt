@@ -73,10 +73,12 @@ call_outside (op.New d ty full) stage.Idle h a = cc
 call_outside (op.Free p) stage.Idle h a = cc
 call_outside _ _ h a = cc
 
-pub admitted_call : (listed : List ℕ) (n : NeverState) (k : ℕ) (o : Op) (a : Answer) → is_under_turn o ≡ false → AreAdmitted listed n (asked (entry_of k o (Some a))) → IsAdmitted listed n k o
+pub admitted_call : (listed : List ℕ) (n : NeverState) (k : ℕ) (o : Op) (a : Answer) → is_under_turn o ≡ false → AreAdmitted listed n (asked (entry_of k o (Some a)))
+    → IsAdmitted listed n k o
 admitted_call listed n k o a out ad = subst (λ (x : Op). IsAdmitted listed n k x) (flag_is o a out) ad.0
 
-read_admitted : (listed : List ℕ) (n : NeverState) (k : ℕ) (f : Flight) (o : Op) (x : ℕ) → is_under_turn o ≡ false → AreAdmitted listed n (asked (entry_of k o (progress_read f o x).answer)) → IsAdmitted listed n k o
+read_admitted : (listed : List ℕ) (n : NeverState) (k : ℕ) (f : Flight) (o : Op) (x : ℕ) → is_under_turn o ≡ false
+    → AreAdmitted listed n (asked (entry_of k o (progress_read f o x).answer)) → IsAdmitted listed n k o
 read_admitted listed n k f (op.GetPtr d q i) x out ad = ad.0
 read_admitted listed n k f o x out ad = admitted_call listed n k o (answer.Num x) out (by o ad)
   where
@@ -88,7 +90,8 @@ pub literal : (f : Flight) (st : Stage) → f.stage ≡ st → f ≡ flight st f
 literal f st e = ap (λ x. flight x f.op f.q f.p f.r f.loaded) e
 
 -- the words behind `reg`
-reg_registers : (w : Words) (k : ℕ) (f : Flight) (st : Stage) → (accessed w (Named (word.Reg k (register_met f st))) (reg_access f st)).registers ≡ registers_behind w.registers k f st
+reg_registers : (w : Words) (k : ℕ) (f : Flight) (st : Stage)
+    → (accessed w (Named (word.Reg k (register_met f st))) (reg_access f st)).registers ≡ registers_behind w.registers k f st
 reg_registers w k f stage.Store = refl
 reg_registers w k f stage.Put = refl
 reg_registers w k f _ = refl
@@ -133,7 +136,8 @@ module _ (c : Config) (w : World) (n : NeverState) (known : KnownWorld c w) (mir
   own_astray k lt = not_astray c w.now known.orderly k lt
 
   -- a call that begins, or doesn't
-  pub begins : (k : ℕ) (o next : Op) (x : ℕ) → is_put (flight_of w.now (Caller k)).stage ≡ false → LeadsBy safe (scene_of w) n k o (scene_of w) (begins_where_free (flight_of w.now (Caller k)) next x)
+  pub begins : (k : ℕ) (o next : Op) (x : ℕ) → is_put (flight_of w.now (Caller k)).stage ≡ false
+      → LeadsBy safe (scene_of w) n k o (scene_of w) (begins_where_free (flight_of w.now (Caller k)) next x)
   begins k o next x was =
       either_leads safe (scene_of w) n k o (scene_of w) (x == 0) (record { flight = begun next; answer = None }) (still (flight_of w.now (Caller k)))
       (λ z. flies_on safe (scene_of w) n k o (begun next) was (begun_not_put next) (begun_carries _ next n k) (λ past. let y : false ≡ true = sym (begun_unprobed next) ∙ past in cc))
@@ -143,7 +147,8 @@ module _ (c : Config) (w : World) (n : NeverState) (known : KnownWorld c w) (mir
   pub stays : (k : ℕ) (o : Op) → Leads safe (scene_of w) n k o (record (scene_of w) { flights = slice_set w.now.seats.flights k (flight_of w.now (Caller k)) }) None
   stays k o = (Flies k (flight_of w.now (Caller k)) (λ r x. refl) (ready.images.carried k) (ready.images.probed k), λ more. refl)
 
-  pub bare_on : (k : ℕ) (o : Op) (f : Flight) → is_put (flight_of w.now (Caller k)).stage ≡ false → is_bare f.stage ≡ true → Leads safe (scene_of w) n k o (record (scene_of w) { flights = slice_set w.now.seats.flights k f }) None
+  pub bare_on : (k : ℕ) (o : Op) (f : Flight) → is_put (flight_of w.now (Caller k)).stage ≡ false → is_bare f.stage ≡ true
+      → Leads safe (scene_of w) n k o (record (scene_of w) { flights = slice_set w.now.seats.flights k f }) None
   bare_on k o f was bare = (goes_bare safe (scene_of w) n k f was bare, λ more. refl)
 
   stage_put : (k : ℕ) (st : Stage) → (flight_of w.now (Caller k)).stage ≡ st → is_put st ≡ false → is_put (flight_of w.now (Caller k)).stage ≡ false

@@ -88,7 +88,8 @@ turn_plain _ h = refl
 idle_plain : (s : Stage) → s ≡ stage.Idle → is_put s ≡ false
 idle_plain s e = ap is_put e
 
-tally_scene : (w : World) (t : Tally) (v : ℕ) → scene_of w ≡ record { registers = (accessed w.now.words (Named (tally_word t)) (Store v)).registers; globals = (accessed w.now.words (Named (tally_word t)) (Store v)).globals; heap = (accessed w.now.words (Named (tally_word t)) (Store v)).heap; flights = w.now.seats.flights; allocations = w.allocations }
+tally_scene : (w : World) (t : Tally) (v : ℕ)
+    → scene_of w ≡ record { registers = (accessed w.now.words (Named (tally_word t)) (Store v)).registers; globals = (accessed w.now.words (Named (tally_word t)) (Store v)).globals; heap = (accessed w.now.words (Named (tally_word t)) (Store v)).heap; flights = w.now.seats.flights; allocations = w.allocations }
 tally_scene w tally.Held v = refl
 tally_scene w _ v = refl
 
@@ -151,7 +152,8 @@ module _ (c : Config) (w : World) (n : NeverState) (known : KnownWorld c w) (mir
         absurd (omega arith)
   ]
 
-  quiet_at : (k p v : ℕ) → MeetsOf c w (Caller k) (step.Quar p v) → is_run_cell w.now.words (target c.pages w.now.words (flight_of w.now (Caller k))) ≡ true → (j : ℕ) → j ≢ k → is_past_probe (flight_among w.now.seats.flights j).stage ≡ false
+  quiet_at : (k p v : ℕ) → MeetsOf c w (Caller k) (step.Quar p v) → is_run_cell w.now.words (target c.pages w.now.words (flight_of w.now (Caller k))) ≡ true → (j : ℕ) → j ≢ k
+      → is_past_probe (flight_among w.now.seats.flights j).stage ≡ false
   quiet_at k p v h run j ne =
       let held : others_are_held c.callers w.now.words (Caller k) ≡ true = either_held (is_run_cell w.now.words (target c.pages w.now.words (flight_of w.now (Caller k)))) (others_are_held c.callers w.now.words (Caller k)) run h.gates in
       ap is_past_probe (others_idle c (view_of w.now) k known.orderly (others_held c w.now (Caller k) held) j ne)

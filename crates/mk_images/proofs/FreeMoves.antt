@@ -57,11 +57,14 @@ module _ (c : Config) (w : World) (n : NeverState) (known : KnownWorld c w) (mir
       ap (pointed_cell c.pages w.now.words.pages) (e ∙ ap (λ b. address_of (b + o)) (base_at w.allocations a)) ∙ st.cell a o u (omega arith)
 
   -- an allocation with the same first word is the same
-  same_first : (a b : ℕ) → (placed_at w.allocations a).released ≡ false → (placed_at w.allocations b).released ≡ false → (placed_at w.allocations b).base ≡ (placed_at w.allocations a).base → b ≡ a
+  same_first : (a b : ℕ) → (placed_at w.allocations a).released ≡ false → (placed_at w.allocations b).released ≡ false
+      → (placed_at w.allocations b).base ≡ (placed_at w.allocations a).base → b ≡ a
   same_first a b ua ub e = elim (cases_eq b a) [ inl x ↦ x | inr ne ↦ absurd (st.apart b a ub ua ne e) ]
 
-  pub free_by : (others : OthersSay c w) (k : ℕ) (o : Op) (f : Flight) (p : ℕ) (cell : Cell) (v : Value) → Decides (scene_of w) n k f → IsSound n v → IsSafe safe v → p ≡ image_of (bases_of w.allocations) v → p ≢ 0
-      → pointed_cell c.pages w.now.words.pages p ≡ Some cell → is_freed w.now.words cell ≡ false → (is_run_cell w.now.words (Some cell) ≡ true → (j : ℕ) → j ≢ k → is_past_probe (flight_among w.now.seats.flights j).stage ≡ false)
+  pub free_by : (others : OthersSay c w) (k : ℕ) (o : Op) (f : Flight) (p : ℕ) (cell : Cell) (v : Value) → Decides (scene_of w) n k f → IsSound n v → IsSafe safe v
+      → p ≡ image_of (bases_of w.allocations) v → p ≢ 0
+      → pointed_cell c.pages w.now.words.pages p ≡ Some cell → is_freed w.now.words cell ≡ false
+      → (is_run_cell w.now.words (Some cell) ≡ true → (j : ℕ) → j ≢ k → is_past_probe (flight_among w.now.seats.flights j).stage ≡ false)
       → Move safe (scene_of w) n (record (scene_of w) { flights = slice_set w.now.seats.flights k f; allocations = map (freed_where_it_stands w.now.words (Some cell)) w.allocations }) (after_free n v) × (free_reply n v ≡ reply.Done)
   free_by others k o f p cell Null at sound is e ne points not_freed quiet = absurd (ne e)
   free_by others k o f p cell (Num m) at sound is e ne points not_freed quiet = absurd sound
@@ -89,7 +92,8 @@ module _ (c : Config) (w : World) (n : NeverState) (known : KnownWorld c w) (mir
         ap (λ b. if b then reply.Double else reply.Done) (sym (mirrors.twins.freed a lt) ∙ its),
       )
     where
-      apart_from : (b a : ℕ) (cell : Cell) → (placed_at w.allocations a).released ≡ false → first_word w.now.words cell ≡ (placed_at w.allocations a).base → b ≢ a → stands_in w.now.words cell (placed_at w.allocations b) ≡ false
+      apart_from : (b a : ℕ) (cell : Cell) → (placed_at w.allocations a).released ≡ false → first_word w.now.words cell ≡ (placed_at w.allocations a).base → b ≢ a
+          → stands_in w.now.words cell (placed_at w.allocations b) ≡ false
       apart_from b a cell ua first ne = elim (cases_Bool (stands_in w.now.words cell (placed_at w.allocations b))) [
         | inl h ↦
             let parts = and_parts (not (placed_at w.allocations b).released) ((placed_at w.allocations b).base == first_word w.now.words cell) h in
@@ -97,7 +101,8 @@ module _ (c : Config) (w : World) (n : NeverState) (known : KnownWorld c w) (mir
         | inr h ↦ h
       ]
 
-  pub double_by : (others : OthersSay c w) (k : ℕ) (f : Flight) (p : ℕ) (cell : Cell) (v : Value) → is_put (flight_among w.now.seats.flights k).stage ≡ false → is_bare f.stage ≡ true → IsSound n v → IsSafe safe v
+  pub double_by : (others : OthersSay c w) (k : ℕ) (f : Flight) (p : ℕ) (cell : Cell) (v : Value) → is_put (flight_among w.now.seats.flights k).stage ≡ false
+      → is_bare f.stage ≡ true → IsSound n v → IsSafe safe v
       → p ≡ image_of (bases_of w.allocations) v → p ≢ 0 → pointed_cell c.pages w.now.words.pages p ≡ Some cell → is_freed w.now.words cell ≡ true
       → Move safe (scene_of w) n (record (scene_of w) { flights = slice_set w.now.seats.flights k f }) (after_free n v) × (free_reply n v ≡ reply.Double)
   double_by others k f p cell Null was bare sound is e ne points is_free = absurd (ne e)
@@ -117,7 +122,8 @@ module _ (c : Config) (w : World) (n : NeverState) (known : KnownWorld c w) (mir
         ap (λ b. if b then reply.Double else reply.Done) never,
       )
     where
-      its_own : (a b : ℕ) → (placed_at w.allocations a).released ≡ false → (placed_at w.allocations b).released ≡ false → (placed_at w.allocations b).freed ≡ true → (placed_at w.allocations b).base ≡ (placed_at w.allocations a).base → (placed_at w.allocations a).freed ≡ true
+      its_own : (a b : ℕ) → (placed_at w.allocations a).released ≡ false → (placed_at w.allocations b).released ≡ false → (placed_at w.allocations b).freed ≡ true
+          → (placed_at w.allocations b).base ≡ (placed_at w.allocations a).base → (placed_at w.allocations a).freed ≡ true
       its_own a b ua ub fb e = ap (λ i. (placed_at w.allocations i).freed) (sym (same_first a b ua ub e)) ∙ fb
 
       same_never : (a : ℕ) → (allocation_at n a).freed ≡ true → never_freed n a ≡ n

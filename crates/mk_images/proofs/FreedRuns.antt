@@ -226,7 +226,8 @@ module _ (c : Config) (w : World) (n : NeverState) (known : KnownWorld c w) (oth
       }
 
   -- the target of a Free that is a run
-  run_target : (k r : ℕ) (v : Value) (p : ℕ) (cell : Cell) (run : RunPages) → register_at n k r ≡ v → IsSound n v → IsSafe mirrors.safe.0 v → p ≡ image_of (bases_of w.allocations) v → p ≢ 0
+  run_target : (k r : ℕ) (v : Value) (p : ℕ) (cell : Cell) (run : RunPages) → register_at n k r ≡ v → IsSound n v → IsSafe mirrors.safe.0 v
+      → p ≡ image_of (bases_of w.allocations) v → p ≢ 0
       → pointed_cell c.pages w.now.words.pages p ≡ Some cell → run_of_cell w.now.words (Some cell) ≡ Some run → PointsAtRun w n k r run
   run_target k r Null p cell run is sound s e ne points heads = absurd (ne e)
   run_target k r (Num m) p cell run is sound s e ne points heads = absurd sound
@@ -243,7 +244,8 @@ module _ (c : Config) (w : World) (n : NeverState) (known : KnownWorld c w) (oth
       ] in
       record { number = a; ty = t; offset = o; is = is; base = omega (arith, its.0) }
 
-  new_by : (k : ℕ) (s : Stage) (o : Op) (q p r l : ℕ) (cell : Cell) (run : RunPages) → is_undecided_free (flight s o q p r l) ≡ true → pointed_cell c.pages w.now.words.pages p ≡ Some cell
+  new_by : (k : ℕ) (s : Stage) (o : Op) (q p r l : ℕ) (cell : Cell) (run : RunPages) → is_undecided_free (flight s o q p r l) ≡ true
+      → pointed_cell c.pages w.now.words.pages p ≡ Some cell
       → run_of_cell w.now.words (Some cell) ≡ Some run → CarriesOwn (bases_of w.allocations) n k (flight s o q p r l)
       → PointsAtRun w n k (p_of o) run × (register_at (after_calls n (asked (entry_of k o (Some answer.Done)))) k (p_of o) ≡ register_at n k (p_of o))
   new_by k stage.Turn (op.Free p') q p r l cell run undecided points heads car = (
@@ -265,7 +267,8 @@ module _ (c : Config) (w : World) (n : NeverState) (known : KnownWorld c w) (oth
   GrowsBehind seat x = IsLonger (bases_of w.allocations) (bases_of (world_behind c w (event_of seat x)).allocations)
 
   -- the holder's own step, where the run was freed before
-  own_old : (k : ℕ) (x : Step) (run : RunPages) → Meets c w.now (Caller k) x → GrowsBehind (Caller k) x → w.now.seats.holding.freed ≡ Some run → gives x ≡ false → OwnsBehind (Caller k) x run k
+  own_old : (k : ℕ) (x : Step) (run : RunPages) → Meets c w.now (Caller k) x → GrowsBehind (Caller k) x → w.now.seats.holding.freed ≡ Some run → gives x ≡ false
+      → OwnsBehind (Caller k) x run k
   own_old k x run h grows old g free =
       let e = event_of (Caller k) x in
       let lt = ltb-true k c.callers h.seat in
@@ -298,7 +301,8 @@ module _ (c : Config) (w : World) (n : NeverState) (known : KnownWorld c w) (oth
       (mirrors.freed_run run old k (subst (λ (y : Flight). is_decided_free y ≡ true) same free)))
 
   -- a run that is freed by this step
-  own_new : (k p v : ℕ) (run : RunPages) (y : Option Cell) → k < c.callers → GrowsBehind (Caller k) (step.Quar p v) → cell_freed c.pages w.now.words (flight_of w.now (Caller k)) p v ≡ y
+  own_new : (k p v : ℕ) (run : RunPages) (y : Option Cell) → k < c.callers → GrowsBehind (Caller k) (step.Quar p v)
+      → cell_freed c.pages w.now.words (flight_of w.now (Caller k)) p v ≡ y
       → run_of_cell w.now.words y ≡ Some run → OwnsBehind (Caller k) (step.Quar p v) run k
   own_new k p v run None lt grows e heads free = cc
   own_new k p v run (Some cell) lt grows e heads free =

@@ -94,7 +94,8 @@ module _ (c : Config) (w : World) (n : NeverState) (known : KnownWorld c w) (mir
         | inr g ↦ absurd (true≢false (sym (gone_word w.now.seats.holding.freed refl g) ∙ mapped))
       ]
     where
-      gone_word : (freed : Option RunPages) → w.now.seats.holding.freed ≡ freed → is_in_gone_run w.now.words freed x ≡ true → is_unmapped_header (header_in w.now.words (x / 64)) ≡ true
+      gone_word : (freed : Option RunPages) → w.now.seats.holding.freed ≡ freed → is_in_gone_run w.now.words freed x ≡ true
+          → is_unmapped_header (header_in w.now.words (x / 64)) ≡ true
       gone_word None is g = cc
       gone_word (Some run) is g =
           let at = others.freed_run run is in

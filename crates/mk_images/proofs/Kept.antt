@@ -52,14 +52,16 @@ registers_from cs fs k f ys vs there own others i = elim (cases_eq (i / 8) k) [
 ]
 
 -- a caller's own register
-own_shown : (s : Scene) (n : NeverState) → AreImages s n → (k r : ℕ) → r < 8 → shown (flight_among s.flights k) r (slice_index s.registers (8 * k + r)) ≡ image_of (bases_of s.allocations) (register_at n k r)
+own_shown : (s : Scene) (n : NeverState) → AreImages s n → (k r : ℕ) → r < 8
+    → shown (flight_among s.flights k) r (slice_index s.registers (8 * k + r)) ≡ image_of (bases_of s.allocations) (register_at n k r)
 own_shown s n h k r lt =
     let a : (8 * k + r) / 8 ≡ k = omega arith in
     let b : (8 * k + r) % 8 ≡ r = omega arith in
     subst (λ (j : ℕ). shown (flight_among s.flights j) r (slice_index s.registers (8 * k + r)) ≡ image_of (bases_of s.allocations) (register_at n k r)) a
     (subst (λ (j : ℕ). shown (flight_among s.flights ((8 * k + r) / 8)) j (slice_index s.registers (8 * k + r)) ≡ image_of (bases_of s.allocations) (register_at n k r)) b (h.registers (8 * k + r)))
 
-pub own_plain : (s : Scene) (n : NeverState) → AreImages s n → (k r : ℕ) → r < 8 → is_put (flight_among s.flights k).stage ≡ false → slice_index s.registers (8 * k + r) ≡ image_of (bases_of s.allocations) (register_at n k r)
+pub own_plain : (s : Scene) (n : NeverState) → AreImages s n → (k r : ℕ) → r < 8 → is_put (flight_among s.flights k).stage ≡ false
+    → slice_index s.registers (8 * k + r) ≡ image_of (bases_of s.allocations) (register_at n k r)
 own_plain s n h k r lt was = sym (shows_plain (flight_among s.flights k) r (slice_index s.registers (8 * k + r)) was) ∙ own_shown s n h k r lt
 
 -- what the others carry
@@ -105,7 +107,8 @@ module _ (s : Scene) (n : NeverState) (h : AreImages s n) (small : AreSmall s.fl
         probed = λ j. set_by (λ (x : Flight). ProbedOwn n j x) s.flights k j f at_rest (λ e. subst (λ i. ProbedOwn n i f) (sym e) probed) (h.probed j);
       }
 
-  owes_one : (k : ℕ) (f : Flight) (v : Value) → k < length s.flights → 8 * k + 7 < length n.registers → is_put (flight_among s.flights k).stage ≡ false → f.stage ≡ stage.Put → d_of f.op < 8
+  owes_one : (k : ℕ) (f : Flight) (v : Value) → k < length s.flights → 8 * k + 7 < length n.registers → is_put (flight_among s.flights k).stage ≡ false → f.stage ≡ stage.Put
+      → d_of f.op < 8
       → f.loaded ≡ image_of (bases_of s.allocations) v → AreImages (record s { flights = slice_set s.flights k f }) (with_register n k (d_of f.op) v)
   owes_one k f v there long was put ld is =
       record {
@@ -123,7 +126,8 @@ module _ (s : Scene) (n : NeverState) (h : AreImages s n) (small : AreSmall s.fl
         probed = others_probed s.flights k f n (with_register n k (d_of f.op) v) there small (put_past f.stage put) (λ j r ne lr. other_register n k (d_of f.op) j r v ld lr ne) (λ j ne past v' i m. met_same n (with_register n k (d_of f.op) v) v' i (λ a. refl) (λ a u. u) m) h.probed;
       }
 
-  pays : (k : ℕ) (f : Flight) → k < length s.flights → 8 * k + 7 < length s.registers → (flight_among s.flights k).stage ≡ stage.Put → d_of (flight_among s.flights k).op < 8 → is_bare f.stage ≡ true
+  pays : (k : ℕ) (f : Flight) → k < length s.flights → 8 * k + 7 < length s.registers → (flight_among s.flights k).stage ≡ stage.Put → d_of (flight_among s.flights k).op < 8
+      → is_bare f.stage ≡ true
       → AreImages (record s { flights = slice_set s.flights k f; registers = slice_set s.registers (8 * k + d_of (flight_among s.flights k).op) (flight_among s.flights k).loaded }) n
   pays k f there long put ld bare =
       let old = flight_among s.flights k in
@@ -159,7 +163,8 @@ module _ (s : Scene) (n : NeverState) (h : AreImages s n) (small : AreSmall s.fl
       }
 
   -- the registers of all, where the flight goes on with nothing owed
-  plain_registers : (k : ℕ) (f : Flight) → Decides s n k f → (i : ℕ) → shown (flight_among (slice_set s.flights k f) (i / 8)) (i % 8) (slice_index s.registers i) ≡ image_of (bases_of s.allocations) (slice_index_or n.registers i Null)
+  plain_registers : (k : ℕ) (f : Flight) → Decides s n k f → (i : ℕ)
+      → shown (flight_among (slice_set s.flights k f) (i / 8)) (i % 8) (slice_index s.registers i) ≡ image_of (bases_of s.allocations) (slice_index_or n.registers i Null)
   plain_registers k f at = registers_from _ s.flights k f s.registers n.registers at.there (λ r lr. shows_plain f _ _ (bare_owes_nothing f.stage at.bare) ∙ own_plain s n h k r lr at.was) (λ i ne. h.registers i)
 
   shares : (k g x : ℕ) (f : Flight) (v : Value) → Decides s n k f → g < length s.globals → g < length n.globals → x ≡ image_of (bases_of s.allocations) v
@@ -173,7 +178,8 @@ module _ (s : Scene) (n : NeverState) (h : AreImages s n) (small : AreSmall s.fl
         probed = others_probed s.flights k f n (with_global n g v) at.there small (bare_unprobed f.stage at.bare) (λ j r ne lr. refl) (λ j ne past v' i m. met_same n (with_global n g v) v' i (λ a. refl) (λ a u. u) m) h.probed;
       }
 
-  wipes : (x : ℕ) → ((a i : ℕ) → (placed_at s.allocations a).released ≡ false → is_unmapped (allocation_at n a) ≡ false → i < length (words_of n a) → (placed_at s.allocations a).base + i ≢ x)
+  wipes : (x : ℕ)
+      → ((a i : ℕ) → (placed_at s.allocations a).released ≡ false → is_unmapped (allocation_at n a) ≡ false → i < length (words_of n a) → (placed_at s.allocations a).base + i ≢ x)
       → AreImages (record s { heap = slice_set s.heap x 0 }) n
   wipes x out =
       record {
@@ -229,7 +235,8 @@ module _ (s : Scene) (n : NeverState) (h : AreImages s n) (small : AreSmall s.fl
                     ∙ ap (image_of (bases_of s.allocations)) (sym (ap (λ y. word_at (with_word n a i v) y j) e ∙ ap (word_at (with_word n a i v) a) e2 ∙ word_same n a i v li))
                 | inr ne2 ↦
                     get_or-set_other s.heap ((placed_at s.allocations a).base + i) ((placed_at s.allocations b).base + j) x 0 (λ z. let y = ap (λ y. (placed_at s.allocations y).base) e in absurd (ne2 (omega (arith, y, z))))
-                    ∙ h.heap b j ub mb' lj' ∙ ap (image_of (bases_of s.allocations)) (sym (ap (λ y. word_at (with_word n a i v) y j) e ∙ word_other n a i j v li ne2 ∙ ap (λ y. word_at n y j) (sym e)))
+                    ∙ h.heap b j ub mb' lj'
+                    ∙ ap (image_of (bases_of s.allocations)) (sym (ap (λ y. word_at (with_word n a i v) y j) e ∙ word_other n a i j v li ne2 ∙ ap (λ y. word_at n y j) (sym e)))
               ]
               | inr ne ↦
                   get_or-set_other s.heap ((placed_at s.allocations a).base + i) ((placed_at s.allocations b).base + j) x 0 (apart b a j i ub ua lj' li ne)
@@ -270,7 +277,8 @@ pub freed_was : (n : NeverState) (a b : ℕ) → is_unmapped (allocation_at (wit
 freed_was n a b = set_by (λ (x : NeverAllocation). is_unmapped x ≡ false → is_unmapped (allocation_at n b) ≡ false) n.allocations a b (record (allocation_at n a) { freed = true }) no_allocation
     (λ e u. ap (λ j. is_unmapped (allocation_at n j)) e ∙ and_no (allocation_at n a).freed (is_large (words_of n a)) u) (λ u. u)
 
-freed_is : (n : NeverState) (a b : ℕ) → is_unmapped (record (allocation_at n a) { freed = true }) ≡ false → is_unmapped (allocation_at n b) ≡ false → is_unmapped (allocation_at (with_freed n a) b) ≡ false
+freed_is : (n : NeverState) (a b : ℕ) → is_unmapped (record (allocation_at n a) { freed = true }) ≡ false → is_unmapped (allocation_at n b) ≡ false
+    → is_unmapped (allocation_at (with_freed n a) b) ≡ false
 freed_is n a b s u = set_by (λ (x : NeverAllocation). is_unmapped x ≡ false) n.allocations a b (record (allocation_at n a) { freed = true }) no_allocation (λ e. s) u
 
 module _ (s : Scene) (n : NeverState) (h : AreImages s n) (small : AreSmall s.flights) where
@@ -293,11 +301,14 @@ module _ (s : Scene) (n : NeverState) (h : AreImages s n) (small : AreSmall s.fl
       }
 
 -- a new allocation
-image_grown : (n : NeverState) (xs : List PlacedAllocation) (y : PlacedAllocation) (v : Value) → length xs ≡ length n.allocations → IsSound n v → image_of (bases_of (xs ++ y ∷ [])) v ≡ image_of (bases_of xs) v
+image_grown : (n : NeverState) (xs : List PlacedAllocation) (y : PlacedAllocation) (v : Value) → length xs ≡ length n.allocations → IsSound n v
+    → image_of (bases_of (xs ++ y ∷ [])) v ≡ image_of (bases_of xs) v
 image_grown n xs y v e s =
-    ap (λ bs. image_of bs v) (map-append (λ (x : PlacedAllocation). x.base) xs (y ∷ [])) ∙ image_more n (bases_of xs) (y.base ∷ []) v (length-map xs (λ (x : PlacedAllocation). x.base) ∙ e) s
+    ap (λ bs. image_of bs v) (map-append (λ (x : PlacedAllocation). x.base) xs (y ∷ []))
+    ∙ image_more n (bases_of xs) (y.base ∷ []) v (length-map xs (λ (x : PlacedAllocation). x.base) ∙ e) s
 
-suits_grown : (n : NeverState) (xs : List PlacedAllocation) (y : PlacedAllocation) (v : Value) (kind : Kind) → length xs ≡ length n.allocations → Suits n v kind → image_of (bases_of (xs ++ y ∷ [])) v ≡ image_of (bases_of xs) v
+suits_grown : (n : NeverState) (xs : List PlacedAllocation) (y : PlacedAllocation) (v : Value) (kind : Kind) → length xs ≡ length n.allocations → Suits n v kind
+    → image_of (bases_of (xs ++ y ∷ [])) v ≡ image_of (bases_of xs) v
 suits_grown n xs y (Num m) Number e s = refl
 suits_grown n xs y Null Number e s = refl
 suits_grown n xs y (Ptr a t o) Number e s = absurd s
@@ -306,7 +317,8 @@ suits_grown n xs y v (To t o) e s = image_grown n xs y v e s.0
 new_image : (xs : List PlacedAllocation) (y : PlacedAllocation) (m ty : ℕ) → length xs ≡ m → image_of (bases_of (xs ++ y ∷ [])) (Ptr m ty 0) ≡ address_of y.base
 new_image xs y m ty e =
     let at : slice_index (bases_of (xs ++ y ∷ [])) m ≡ y.base =
-    ap (λ bs. slice_index bs m) (map-append (λ (x : PlacedAllocation). x.base) xs (y ∷ [])) ∙ get_or_at (bases_of xs) y.base [] 0 m (length-map xs (λ (x : PlacedAllocation). x.base) ∙ e) in
+    ap (λ bs. slice_index bs m) (map-append (λ (x : PlacedAllocation). x.base) xs (y ∷ []))
+    ∙ get_or_at (bases_of xs) y.base [] 0 m (length-map xs (λ (x : PlacedAllocation). x.base) ∙ e) in
     ap (λ b. address_of (b + 0)) at ∙ (omega arith)
 
 zero_image : (bs : List ℕ) (kinds : List Kind) (i : ℕ) → image_of bs (get_or (map zero_of kinds) i Null) ≡ 0
@@ -356,7 +368,8 @@ exists_placed xs a h = elim (cases_lt a (length xs)) [
 ]
 
 module _ (globals : List ℕ) (s : Scene) (n : NeverState) (h : AreImages s n) (small : AreSmall s.flights) (typed : IsTyped globals n) (same : length s.allocations ≡ length n.allocations) where
-  grants : (k d base ty : ℕ) (f : Flight) → Decides s n k f → 8 * k + 7 < length s.registers → d < 8 → ((i : ℕ) → i < length (kinds_of n.types ty) → slice_index s.heap (base + i) ≡ 0)
+  grants : (k d base ty : ℕ) (f : Flight) → Decides s n k f → 8 * k + 7 < length s.registers → d < 8
+      → ((i : ℕ) → i < length (kinds_of n.types ty) → slice_index s.heap (base + i) ≡ 0)
       → AreImages (record s {
         flights = slice_set s.flights k f;
         registers = slice_set s.registers (8 * k + d) (address_of base);
@@ -381,7 +394,8 @@ module _ (globals : List ℕ) (s : Scene) (n : NeverState) (h : AreImages s n) (
               let na : allocation_at (with_new n ty) b ≡ new_words n ty = ap (allocation_at (with_new n ty)) e ∙ new_never n ty in
               let ga : placed_at (s.allocations ++ y ∷ []) b ≡ y = ap (placed_at (s.allocations ++ y ∷ [])) (e ∙ sym same) ∙ new_placed s.allocations y in
               let lj' : j < length (zero_words (kinds_of n.types ty)) = subst (λ (x : NeverAllocation). j < length x.words) na lj in
-              ap (λ (x : PlacedAllocation). slice_index s.heap (x.base + j)) ga ∙ zero_there j (omega (arith, length-map (kinds_of n.types ty) zero_of)) ∙ sym (zero_image bs (kinds_of n.types ty) j)
+              ap (λ (x : PlacedAllocation). slice_index s.heap (x.base + j)) ga ∙ zero_there j (omega (arith, length-map (kinds_of n.types ty) zero_of))
+              ∙ sym (zero_image bs (kinds_of n.types ty) j)
               ∙ ap (λ (x : NeverAllocation). image_of bs (slice_index_or x.words j Null)) (sym na)
           | inr ne ↦
               let na = old_never n ty b ne in
@@ -401,7 +415,8 @@ module _ (globals : List ℕ) (s : Scene) (n : NeverState) (h : AreImages s n) (
       }
 
 -- each move
-pub images_kept : (globals : List ℕ) (safe : ℕ → Bool) (s t : Scene) (n m : NeverState) → AreImages s n → AreSmall s.flights → IsTyped globals n → length s.allocations ≡ length n.allocations → AreApart s.allocations n
+pub images_kept : (globals : List ℕ) (safe : ℕ → Bool) (s t : Scene) (n m : NeverState) → AreImages s n → AreSmall s.flights → IsTyped globals n
+    → length s.allocations ≡ length n.allocations → AreApart s.allocations n
     → Move safe s n t m → AreImages t m
 images_kept globals safe s t n m h small typed same apart Rests = h
 images_kept globals safe s t n m h small typed same apart (Flies k f e c p) = flies s n h small k f e c p

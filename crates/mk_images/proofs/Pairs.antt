@@ -90,7 +90,8 @@ carries_same bs cs f a b d a2 b2 d2 ea eb ed h =
     record { q = λ e. h.q e ∙ sym ea; some_q = h.some_q; p = λ e. h.p e ∙ sym eb; some_p = h.some_p; r = λ e. h.r e ∙ sym ed }
 
 -- an access that is met, where lengths and what is unmapped are the same
-pub met_same : (n m : NeverState) (v : Value) (i : ℕ) → ((a : ℕ) → length (words_of m a) ≡ length (words_of n a)) → ((a : ℕ) → is_unmapped (allocation_at n a) ≡ false → is_unmapped (allocation_at m a) ≡ false)
+pub met_same : (n m : NeverState) (v : Value) (i : ℕ) → ((a : ℕ) → length (words_of m a) ≡ length (words_of n a))
+    → ((a : ℕ) → is_unmapped (allocation_at n a) ≡ false → is_unmapped (allocation_at m a) ≡ false)
     → IsMet n v i → IsMet m v i
 met_same n m Null i l u h = tt
 met_same n m (Num k) i l u h = tt

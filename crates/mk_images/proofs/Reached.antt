@@ -45,7 +45,8 @@ module _ (listed : List ℕ) (safe : ℕ → Bool) (s : Scene) (n : NeverState) 
   word_is : (a t o q i : ℕ) → q ≡ image_of (bases_of s.allocations) (Ptr a t o) → (q - 65536) / 8 + i ≡ (placed_at s.allocations a).base + (o + i)
   word_is a t o q i e = let b = base_at s.allocations a in omega arith
 
-  pub reaches : (v : Value) (q i : ℕ) (P : Kind → Type 0) → q ≡ image_of (bases_of s.allocations) v → q ≢ 0 → IsSound n v → IsSafe safe v → IsMet n v i → Meets n v i P → Reaches safe s n v q i P
+  pub reaches : (v : Value) (q i : ℕ) (P : Kind → Type 0) → q ≡ image_of (bases_of s.allocations) v → q ≢ 0 → IsSound n v → IsSafe safe v → IsMet n v i → Meets n v i P
+      → Reaches safe s n v q i P
   reaches Null q i P e ne sound is met meets = absurd (ne e)
   reaches (Num m) q i P e ne sound is met meets = absurd sound
   reaches (Ptr a t o) q i P e ne sound is met meets =
@@ -64,7 +65,8 @@ module _ (listed : List ℕ) (safe : ℕ → Bool) (s : Scene) (n : NeverState) 
       }
 
   -- what `probe` tells
-  pub unmapped_target : (header : ℕ → ℕ) → PagesShow header s n → (v : Value) (q i : ℕ) (P : Kind → Type 0) → q ≡ image_of (bases_of s.allocations) v → q ≢ 0 → IsSound n v → IsSafe safe v → Meets n v i P
+  pub unmapped_target : (header : ℕ → ℕ) → PagesShow header s n → (v : Value) (q i : ℕ) (P : Kind → Type 0) → q ≡ image_of (bases_of s.allocations) v → q ≢ 0 → IsSound n v
+      → IsSafe safe v → Meets n v i P
       → is_unmapped_header (header_of (header (((q - 65536) / 8 + i) / 64))) ≡ true → target_of n v i ≡ Unmapped
   unmapped_target header show Null q i P e ne sound is meets u = absurd (ne e)
   unmapped_target header show (Num m) q i P e ne sound is meets u = absurd sound

@@ -46,7 +46,8 @@ image_zero n bs Null s e = refl
 image_zero n bs (Num m) s e = absurd s
 image_zero n bs (Ptr a t o) s e = absurd (omega arith)
 
-pub image_same : (listed : List ℕ) (safe : ℕ → Bool) (s : Scene) (n : NeverState) → Ready listed safe s n → (u v : Value) → IsSound n u → IsSound n v → IsSafe safe u → IsSafe safe v
+pub image_same : (listed : List ℕ) (safe : ℕ → Bool) (s : Scene) (n : NeverState) → Ready listed safe s n → (u v : Value) → IsSound n u → IsSound n v → IsSafe safe u
+    → IsSafe safe v
     → image_of (bases_of s.allocations) u ≡ image_of (bases_of s.allocations) v → u ≡ v
 image_same listed safe s n h Null v su sv fu fv e = sym (image_zero n (bases_of s.allocations) v sv (sym e))
 image_same listed safe s n h (Num m) v su sv fu fv e = absurd su
@@ -65,7 +66,8 @@ image_same listed safe s n h (Ptr a t o) (Ptr b u i) su sv fu fv e =
       | inr ne ↦ absurd (h.apart a b o i (h.set.unreleased a fu) (h.set.unreleased b fv) (pointed_word listed safe s n h a t o su) (pointed_word listed safe s n h b u i sv) ne places)
     ]
 
-pub image_test : (listed : List ℕ) (safe : ℕ → Bool) (s : Scene) (n : NeverState) → Ready listed safe s n → (u v : Value) → IsSound n u → IsSound n v → IsSafe safe u → IsSafe safe v
+pub image_test : (listed : List ℕ) (safe : ℕ → Bool) (s : Scene) (n : NeverState) → Ready listed safe s n → (u v : Value) → IsSound n u → IsSound n v → IsSafe safe u
+    → IsSafe safe v
     → (image_of (bases_of s.allocations) u == image_of (bases_of s.allocations) v) ≡ is_same u v
 image_test listed safe s n h u v su sv fu fv = elim (cases_Bool (is_same u v)) [
   | inl e ↦ eq-eqb _ _ (ap (image_of (bases_of s.allocations)) (equal_from_same u v e)) ∙ sym e
@@ -85,7 +87,8 @@ Leads safe s n k o t a =
 abbrev pub LeadsBy : (ℕ → Bool) → Scene → NeverState → ℕ → Op → Scene → Progress → Type 0
 LeadsBy safe s n k o t p = Leads safe s n k o (record t { flights = slice_set s.flights k p.flight }) p.answer
 
-pub either_leads : (safe : ℕ → Bool) (s : Scene) (n : NeverState) (k : ℕ) (o : Op) (t : Scene) (b : Bool) (p q : Progress) → (b ≡ true → LeadsBy safe s n k o t p) → (b ≡ false → LeadsBy safe s n k o t q)
+pub either_leads : (safe : ℕ → Bool) (s : Scene) (n : NeverState) (k : ℕ) (o : Op) (t : Scene) (b : Bool) (p q : Progress) → (b ≡ true → LeadsBy safe s n k o t p)
+    → (b ≡ false → LeadsBy safe s n k o t q)
     → LeadsBy safe s n k o t (if b then p else q)
 either_leads safe s n k o t true p q hp hq = hp refl
 either_leads safe s n k o t false p q hp hq = hq refl

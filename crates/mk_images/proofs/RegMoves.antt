@@ -34,16 +34,19 @@ abbrev pub flight : Stage → Op → ℕ → ℕ → ℕ → ℕ → Flight
 flight st o q p r l = record { stage = st; op = o; q = q; p = p; r = r; loaded = l }
 
 -- only q is carried
-carries_q : (bs : List ℕ) (f : Flight) (a b d : Value) → f.q ≡ image_of bs a → f.q ≢ 0 → has_p f.stage f.op ≡ false → has_some_p f.stage f.op ≡ false → has_r f.stage f.op ≡ false → Carries bs f a b d
+carries_q : (bs : List ℕ) (f : Flight) (a b d : Value) → f.q ≡ image_of bs a → f.q ≢ 0 → has_p f.stage f.op ≡ false → has_some_p f.stage f.op ≡ false
+    → has_r f.stage f.op ≡ false → Carries bs f a b d
 carries_q bs f a b d e ne p sp r = record { q = λ x. e; some_q = λ x. ne; p = λ x. let y : false ≡ true = sym p ∙ x in cc; some_p = λ x. let y : false ≡ true = sym sp ∙ x in cc; r = λ x. let y : false ≡ true = sym r ∙ x in cc }
 
 -- a flight that goes on undecided
-pub flies_on : (safe : ℕ → Bool) (s : Scene) (n : NeverState) (k : ℕ) (o : Op) (f : Flight) → is_put (flight_among s.flights k).stage ≡ false → is_put f.stage ≡ false → CarriesOwn (bases_of s.allocations) n k f → ProbedOwn n k f
+pub flies_on : (safe : ℕ → Bool) (s : Scene) (n : NeverState) (k : ℕ) (o : Op) (f : Flight) → is_put (flight_among s.flights k).stage ≡ false → is_put f.stage ≡ false
+    → CarriesOwn (bases_of s.allocations) n k f → ProbedOwn n k f
     → Leads safe s n k o (record s { flights = slice_set s.flights k f }) None
 flies_on safe s n k o f was is carries probed = (Flies k f (λ r x. shows_plain f r x is ∙ sym (shows_plain (flight_among s.flights k) r x was)) carries probed, λ more. refl)
 
 -- a pointer i words on
-lea_value : (listed : List ℕ) (safe : ℕ → Bool) (s : Scene) (n : NeverState) → Ready listed safe s n → (v : Value) (x i : ℕ) → IsSound n v → IsSafe safe v → x ≡ image_of (bases_of s.allocations) v → x ≢ 0
+lea_value : (listed : List ℕ) (safe : ℕ → Bool) (s : Scene) (n : NeverState) → Ready listed safe s n → (v : Value) (x i : ℕ) → IsSound n v → IsSafe safe v
+    → x ≡ image_of (bases_of s.allocations) v → x ≢ 0
     → Meets n v i (λ kind. Unit {0}) → ((x + 8 * i) % 2 ^ 64 ≡ image_of (bases_of s.allocations) (moved_on v i)) × IsSafe safe (moved_on v i) × (lea_reply v ≡ Done)
 lea_value listed safe s n h Null x i sound is e ne meets = absurd (ne e)
 lea_value listed safe s n h (Num m) x i sound is e ne meets = absurd sound
@@ -58,7 +61,8 @@ module _ (listed : List ℕ) (safe : ℕ → Bool) (s : Scene) (n : NeverState) 
   null_at : (q x : ℕ) → x ≡ image_of (bases_of s.allocations) (register_at n k q) → (x == 0) ≡ true → register_at n k q ≡ Null
   null_at q x e z = image_zero n (bases_of s.allocations) (register_at n k q) (h.typed.registers (8 * k + q)) (sym e ∙ eqb-true x 0 z)
 
-  reg_q : (o : Op) (q p r l x : ℕ) → flight_among s.flights k ≡ flight stage.LoadQ o q p r l → d_of o < 8 → is_astray (standing_at stage.LoadQ o) ≡ false → CarriesOwn (bases_of s.allocations) n k (flight stage.LoadQ o q p r l)
+  reg_q : (o : Op) (q p r l x : ℕ) → flight_among s.flights k ≡ flight stage.LoadQ o q p r l → d_of o < 8 → is_astray (standing_at stage.LoadQ o) ≡ false
+      → CarriesOwn (bases_of s.allocations) n k (flight stage.LoadQ o q p r l)
       → x ≡ image_of (bases_of s.allocations) (register_at n k (q_of o)) → LeadsBy safe s n k o s (progress_q (flight stage.LoadQ o q p r l) o x)
   reg_q (op.GetNum q' i) q p r l x is ld a car e =
       let was = ap (λ (f : Flight). is_put f.stage) is in
@@ -105,7 +109,8 @@ module _ (listed : List ℕ) (safe : ℕ → Bool) (s : Scene) (n : NeverState) 
   reg_q (op.New d ty full) q p r l x is ld a car e = cc
   reg_q _ q p r l x is ld a car e = cc
 
-  reg_p : (o : Op) (q p r l x : ℕ) → flight_among s.flights k ≡ flight stage.LoadP o q p r l → is_astray (standing_at stage.LoadP o) ≡ false → CarriesOwn (bases_of s.allocations) n k (flight stage.LoadP o q p r l)
+  reg_p : (o : Op) (q p r l x : ℕ) → flight_among s.flights k ≡ flight stage.LoadP o q p r l → is_astray (standing_at stage.LoadP o) ≡ false
+      → CarriesOwn (bases_of s.allocations) n k (flight stage.LoadP o q p r l)
       → x ≡ image_of (bases_of s.allocations) (register_at n k (p_of o)) → LeadsBy safe s n k o s (progress_p (flight stage.LoadP o q p r l) o x)
   reg_p (op.SetPtr q' i p') q p r l x is a car e =
       flies_on safe s n k (op.SetPtr q' i p') (flight stage.Probe (op.SetPtr q' i p') q x r l) (ap (λ (f : Flight). is_put f.stage) is) refl (record { q = λ y. car.q refl; some_q = λ y. car.some_q refl; p = λ y. e; some_p = λ y. cc; r = λ y. cc }) (λ y. cc)
@@ -128,7 +133,8 @@ module _ (listed : List ℕ) (safe : ℕ → Bool) (s : Scene) (n : NeverState) 
   reg_p (op.New d ty full) q p r l x is a car e = cc
   reg_p _ q p r l x is a car e = cc
 
-  reg_r : (o : Op) (q p r l x : ℕ) → flight_among s.flights k ≡ flight stage.LoadR o q p r l → is_astray (standing_at stage.LoadR o) ≡ false → CarriesOwn (bases_of s.allocations) n k (flight stage.LoadR o q p r l)
+  reg_r : (o : Op) (q p r l x : ℕ) → flight_among s.flights k ≡ flight stage.LoadR o q p r l → is_astray (standing_at stage.LoadR o) ≡ false
+      → CarriesOwn (bases_of s.allocations) n k (flight stage.LoadR o q p r l)
       → x ≡ image_of (bases_of s.allocations) (register_at n k (r_of o)) → LeadsBy safe s n k o s (onward (record (flight stage.LoadR o q p r l) { r = x }) None)
   reg_r (op.CasPtr q' i p' r') q p r l x is a car e =
       flies_on safe s n k (op.CasPtr q' i p' r') (flight stage.Probe (op.CasPtr q' i p' r') q p x l) (ap (λ (f : Flight). is_put f.stage) is) refl
@@ -136,7 +142,8 @@ module _ (listed : List ℕ) (safe : ℕ → Bool) (s : Scene) (n : NeverState) 
   reg_r (op.New d ty full) q p r l x is a car e = cc
   reg_r _ q p r l x is a car e = cc
 
-  reg_store : (o : Op) (q p r l : ℕ) → flight_among s.flights k ≡ flight stage.Store o q p r l → d_of o < 8 → is_astray (standing_at stage.Store o) ≡ false → CarriesOwn (bases_of s.allocations) n k (flight stage.Store o q p r l)
+  reg_store : (o : Op) (q p r l : ℕ) → flight_among s.flights k ≡ flight stage.Store o q p r l → d_of o < 8 → is_astray (standing_at stage.Store o) ≡ false
+      → CarriesOwn (bases_of s.allocations) n k (flight stage.Store o q p r l)
       → AreAdmitted listed n (asked (entry_of k o (Some answer.Done)))
       → LeadsBy safe s n k o (record s { registers = slice_set s.registers (8 * k + d_of o) (value_for (flight stage.Store o q p r l) o) }) (onward (flight stage.Store o q p r l) (Some answer.Done))
   reg_store (op.Lea d q' i) q p r l is ld a car ad =
@@ -168,8 +175,10 @@ registers_behind xs k f stage.Store = slice_set xs (8 * k + d_of f.op) (value_fo
 registers_behind xs k f stage.Put = slice_set xs (8 * k + d_of f.op) f.loaded
 registers_behind xs k f _ = xs
 
-pub reg_leads : (listed : List ℕ) (safe : ℕ → Bool) (s : Scene) (n : NeverState) (k : ℕ) → Ready listed safe s n → k < length s.flights → 8 * k + 7 < length n.registers → 8 * k + 7 < length s.registers
-    → (st : Stage) (o : Op) (q p r l x : ℕ) → flight_among s.flights k ≡ flight st o q p r l → d_of o < 8 → is_reg_stage st ≡ true → is_astray (standing_at st o) ≡ false → CarriesOwn (bases_of s.allocations) n k (flight st o q p r l)
+pub reg_leads : (listed : List ℕ) (safe : ℕ → Bool) (s : Scene) (n : NeverState) (k : ℕ) → Ready listed safe s n → k < length s.flights → 8 * k + 7 < length n.registers
+    → 8 * k + 7 < length s.registers
+    → (st : Stage) (o : Op) (q p r l x : ℕ) → flight_among s.flights k ≡ flight st o q p r l → d_of o < 8 → is_reg_stage st ≡ true → is_astray (standing_at st o) ≡ false
+    → CarriesOwn (bases_of s.allocations) n k (flight st o q p r l)
     → (is_put st ≡ false → x ≡ image_of (bases_of s.allocations) (register_at n k (register_met (flight st o q p r l) st)))
     → AreAdmitted listed n (asked (entry_of k o (progress_reg (flight st o q p r l) st x).answer))
     → LeadsBy safe s n k o (record s { registers = registers_behind s.registers k (flight st o q p r l) st }) (progress_reg (flight st o q p r l) st x)

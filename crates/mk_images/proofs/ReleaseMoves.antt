@@ -75,12 +75,14 @@ module _ (c : Config) (w : World) (n : NeverState) (known : KnownWorld c w) (mir
       let holds = storage_holds c (placed_at w.allocations a) known.limits (type_is c w n known mirrors a lt) in
       holds.1.0
 
-  base_cell_is : (a : ℕ) → (placed_at w.allocations a).released ≡ false → pointed_cell c.pages w.now.words.pages (address_of (placed_at w.allocations a).base) ≡ Some (cell_of_allocation c (placed_at w.allocations a))
+  base_cell_is : (a : ℕ) → (placed_at w.allocations a).released ≡ false
+      → pointed_cell c.pages w.now.words.pages (address_of (placed_at w.allocations a).base) ≡ Some (cell_of_allocation c (placed_at w.allocations a))
   base_cell_is a u =
       let same : address_of (placed_at w.allocations a).base ≡ address_of ((placed_at w.allocations a).base + 0) = omega arith in
       ap (pointed_cell c.pages w.now.words.pages) same ∙ st.cell a 0 u (some_words a u)
 
-  word_cut : (a i : ℕ) → safe a ≡ true → is_marked w.now.words (cell_of_allocation c (placed_at w.allocations a)) ≡ true → is_unmapped (allocation_at n a) ≡ false → IsSafe cut (word_at n a i)
+  word_cut : (a i : ℕ) → safe a ≡ true → is_marked w.now.words (cell_of_allocation c (placed_at w.allocations a)) ≡ true → is_unmapped (allocation_at n a) ≡ false
+      → IsSafe cut (word_at n a i)
   word_cut a i sa marked mapped = elim (cases_lt i (length (words_of n a))) [
     | inr le ↦ subst (λ (x : Value). IsSafe cut x) (sym (get_or_past (words_of n a) i Null le)) tt
     | inl li ↦

@@ -101,7 +101,8 @@ module _ (safe : ℕ → Bool) (s : Scene) (n : NeverState) (h : IsSafeSet safe 
       old : (b : ℕ) → b ≢ length n.allocations → (safe b || (b == length n.allocations)) ≡ true → safe b ≡ true
       old b ne sb = elim (or_cases (safe b) (b == length n.allocations) sb) [ inl x ↦ x | inr x ↦ absurd (ne (eqb-true b (length n.allocations) x)) ]
 
-pub safe_kept : (safe : ℕ → Bool) (s t : Scene) (n m : NeverState) → IsSafeSet safe s.allocations n → length s.allocations ≡ length n.allocations → Move safe s n t m → HasSafeSet t.allocations m
+pub safe_kept : (safe : ℕ → Bool) (s t : Scene) (n m : NeverState) → IsSafeSet safe s.allocations n → length s.allocations ≡ length n.allocations → Move safe s n t m
+    → HasSafeSet t.allocations m
 safe_kept safe s t n m h same Rests = (safe, h)
 safe_kept safe s t n m h same (Flies k f e c p) = (safe, h)
 safe_kept safe s t n m h same (Owes k f v a b c d e g i) = (safe, of_register safe s n h k _ v i)
@@ -116,12 +117,15 @@ safe_kept safe s t n m h same (Renews xs places released freed) = (safe, of_same
 safe_kept safe s t n m h same (Releases xs places released freed kept cut) = (kept, cut)
 
 -- the two lists of allocations
-twins_changed : (xs : List PlacedAllocation) (n : NeverState) (a : ℕ) (x : NeverAllocation) → x.ty ≡ (allocation_at n a).ty → x.freed ≡ (allocation_at n a).freed → AreTwins xs n → AreTwins xs (record n { allocations = slice_set n.allocations a x })
+twins_changed : (xs : List PlacedAllocation) (n : NeverState) (a : ℕ) (x : NeverAllocation) → x.ty ≡ (allocation_at n a).ty → x.freed ≡ (allocation_at n a).freed
+    → AreTwins xs n → AreTwins xs (record n { allocations = slice_set n.allocations a x })
 twins_changed xs n a x et ef h =
     record {
       count = h.count ∙ sym (length-set n.allocations a x);
-      ty = λ b lt. h.ty b lt ∙ set_by (λ (y : NeverAllocation). (allocation_at n b).ty ≡ y.ty) n.allocations a b x no_allocation (λ e. ap (λ j. (allocation_at n j).ty) e ∙ sym et) refl;
-      freed = λ b lt. h.freed b lt ∙ set_by (λ (y : NeverAllocation). (allocation_at n b).freed ≡ y.freed) n.allocations a b x no_allocation (λ e. ap (λ j. (allocation_at n j).freed) e ∙ sym ef) refl;
+      ty = λ b lt. h.ty b lt
+          ∙ set_by (λ (y : NeverAllocation). (allocation_at n b).ty ≡ y.ty) n.allocations a b x no_allocation (λ e. ap (λ j. (allocation_at n j).ty) e ∙ sym et) refl;
+      freed = λ b lt. h.freed b lt
+          ∙ set_by (λ (y : NeverAllocation). (allocation_at n b).freed ≡ y.freed) n.allocations a b x no_allocation (λ e. ap (λ j. (allocation_at n j).freed) e ∙ sym ef) refl;
     }
 
 twins_same : (xs ys : List PlacedAllocation) (n : NeverState) → SamePlaces xs ys → ((a : ℕ) → (placed_at ys a).freed ≡ (placed_at xs a).freed) → AreTwins xs n → AreTwins ys n
@@ -132,7 +136,8 @@ twins_same xs ys n p f h =
       freed = λ b lt. f b ∙ h.freed b (let e = p.count in omega (arith, e));
     }
 
-twins_freed : (xs ys : List PlacedAllocation) (n : NeverState) (a : ℕ) → SamePlaces xs ys → a < length n.allocations → ((b : ℕ) → b ≢ a → (placed_at ys b).freed ≡ (placed_at xs b).freed) → (placed_at ys a).freed ≡ true
+twins_freed : (xs ys : List PlacedAllocation) (n : NeverState) (a : ℕ) → SamePlaces xs ys → a < length n.allocations
+    → ((b : ℕ) → b ≢ a → (placed_at ys b).freed ≡ (placed_at xs b).freed) → (placed_at ys a).freed ≡ true
     → AreTwins xs n → AreTwins ys (with_freed n a)
 twins_freed xs ys n a p la others is h =
     let new = record (allocation_at n a) { freed = true } in

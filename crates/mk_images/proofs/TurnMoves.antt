@@ -72,7 +72,8 @@ sees_freed w None _ h = cc
 
 module _ (c : Config) (w : World) (n : NeverState) (known : KnownWorld c w) (mirrors : Mirrors c w n) (others : OthersSay c w) (safe : ℕ → Bool) (ready : Ready c.globals safe (scene_of w) n) (st : Stands c w.now.words w.allocations)
     (k : ℕ) (lt : k < c.callers) where
-  pub grant_by : (s : Stage) (o : Op) (q p r l : ℕ) (placing : Placing) → flight_of w.now (Caller k) ≡ flight s o q p r l → comes_next s o step.Grant ≡ true → is_used_once placing ≡ true
+  pub grant_by : (s : Stage) (o : Op) (q p r l : ℕ) (placing : Placing) → flight_of w.now (Caller k) ≡ flight s o q p r l → comes_next s o step.Grant ≡ true
+      → is_used_once placing ≡ true
       → w.now.seats.holding.placing ≡ placing → HoldsTurn c (view_of w.now) (Caller k) → phase_of w.now.words ≢ 4 → has_operands c o ≡ true
       → Leads safe (scene_of w) n k o (record {
         registers = slice_set w.now.words.registers (8 * k + d_of o) (address_of (granted_base c (flight s o q p r l) placing) % 2 ^ 64);
@@ -115,8 +116,10 @@ module _ (c : Config) (w : World) (n : NeverState) (known : KnownWorld c w) (mir
   full_by stage.Turn (op.New d ty full) q p r l is next = (goes_bare safe (scene_of w) n k (flight stage.Give (op.New d ty full) q p r l) (ap (λ (f : Flight). is_put f.stage) is) refl, λ more. refl)
   full_by _ _ q p r l is next = absurd (false≢true next)
 
-  freed_by : (s : Stage) (o : Op) (q p r l : ℕ) (cell : Cell) → flight_among w.now.seats.flights k ≡ flight s o q p r l → is_undecided_free (flight s o q p r l) ≡ true → pointed_cell c.pages w.now.words.pages p ≡ Some cell → is_freed w.now.words cell ≡ false
-      → (is_run_cell w.now.words (Some cell) ≡ true → (j : ℕ) → j ≢ k → is_past_probe (flight_among w.now.seats.flights j).stage ≡ false) → CarriesOwn (bases_of w.allocations) n k (flight s o q p r l)
+  freed_by : (s : Stage) (o : Op) (q p r l : ℕ) (cell : Cell) → flight_among w.now.seats.flights k ≡ flight s o q p r l → is_undecided_free (flight s o q p r l) ≡ true
+      → pointed_cell c.pages w.now.words.pages p ≡ Some cell → is_freed w.now.words cell ≡ false
+      → (is_run_cell w.now.words (Some cell) ≡ true → (j : ℕ) → j ≢ k → is_past_probe (flight_among w.now.seats.flights j).stage ≡ false)
+      → CarriesOwn (bases_of w.allocations) n k (flight s o q p r l)
       → Leads safe (scene_of w) n k o (record (scene_of w) { flights = slice_set w.now.seats.flights k (flight stage.Give o q p r l); allocations = map (freed_where_it_stands w.now.words (Some cell)) w.allocations }) (Some answer.Done)
   freed_by stage.Turn (op.Free p') q p r l cell is undecided points fresh quiet car =
       let f = flight stage.Give (op.Free p') q p r l in
@@ -126,7 +129,8 @@ module _ (c : Config) (w : World) (n : NeverState) (known : KnownWorld c w) (mir
       (free.0, λ more. one_right (bases_of (map (freed_where_it_stands w.now.words (Some cell)) w.allocations) ++ more) answer.Done n k (op.Free p') (ap (answer_of (bases_of (map (freed_where_it_stands w.now.words (Some cell)) w.allocations) ++ more)) (sym free.1)))
   freed_by _ _ q p r l cell is undecided points fresh quiet car = absurd (false≢true undecided)
 
-  twice_by : (s : Stage) (o : Op) (q p r l : ℕ) (cell : Cell) → flight_among w.now.seats.flights k ≡ flight s o q p r l → is_undecided_free (flight s o q p r l) ≡ true → pointed_cell c.pages w.now.words.pages p ≡ Some cell → is_freed w.now.words cell ≡ true
+  twice_by : (s : Stage) (o : Op) (q p r l : ℕ) (cell : Cell) → flight_among w.now.seats.flights k ≡ flight s o q p r l → is_undecided_free (flight s o q p r l) ≡ true
+      → pointed_cell c.pages w.now.words.pages p ≡ Some cell → is_freed w.now.words cell ≡ true
       → CarriesOwn (bases_of w.allocations) n k (flight s o q p r l)
       → Leads safe (scene_of w) n k o (record (scene_of w) { flights = slice_set w.now.seats.flights k (flight stage.Give o q p r l) }) (Some answer.Double)
   twice_by stage.Turn (op.Free p') q p r l cell is undecided points is_free car =
