@@ -1,35 +1,68 @@
 -- The other kinds of a caller's call lead to what the images allow.
 use Rattle.std.proofs.Common.{◌≡◌, ℕ, ◌+◌, ◌-◌, ◌*◌, ◌/◌, ◌<◌, Bool, true, false, List, ◌++◌, length, refl, sym, ap, subst, ◌∙◌}
-use Rattle.std.specs.Prelude.{slice_index, slice_set, ◌==◌, Some, if◌then◌else◌}
+use Rattle.std.specs.Prelude.{slice_index, slice_set, ◌==◌, Some, None, if◌then◌else◌}
 use Rattle.std.proofs.lemmas.List.{set-get_or}
+use Rattle.std.proofs.lemmas.Bool.{false≢true, true≢false}
+use Rattle.mk_never.specs.declared.types.Kind.{Kind}
 use Rattle.mk_never.specs.declared.operations.Op.{Op}
 use Rattle.mk_never.specs.declared.operations.Op.TheVariants as op
 use Rattle.mk_never.specs.declared.operations.Reply.TheVariants.{Done, Num as Number, Val}
-use Rattle.mk_never.specs.declared.values.Value.TheVariants.{Null, Num}
+use Rattle.mk_never.specs.declared.values.Value.{Value}
+use Rattle.mk_never.specs.declared.values.Value.TheVariants.{Null, Num, Ptr}
 use Rattle.mk_never.specs.declared.values.Target.TheVariants.{Unmapped}
 use Rattle.mk_never.specs.NeverHeap.{NeverState, register_at, global_at, allocation_at, words_of, word_at, is_unmapped, with_register, with_word, target_of, reply_at, left_at, number_of, bit, is_same}
-use Rattle.mk_never.specs.Admitted.{IsAdmitted, IsNumber, IsPointer}
+use Rattle.mk_never.specs.Admitted.{Meets, AccessIsAdmitted, IsAdmitted, IsNumber, IsPointer}
 use Rattle.mk_never.specs.Typed.{IsSound}
 use Rattle.mk_geom.specs.Headers.{header_of}
 use Rattle.mk_core.specs.declared.events.Answer.TheVariants as answer
 use Rattle.mk_core.specs.declared.seats.Stage.{Stage}
 use Rattle.mk_core.specs.declared.seats.Stage.TheVariants as stage
 use Rattle.mk_core.specs.declared.seats.Flight.{Flight}
-use Rattle.mk_core.specs.Calls.{d_of, g_of, i_of, one_if, onward, progress_read, progress_cas, progress_getg, value_written}
+use Rattle.mk_core.specs.Calls.{q_of, steps_of, stage_behind, refused, d_of, g_of, i_of, one_if, onward, progress_read, progress_cas, progress_getg, value_written}
 use Rattle.mk_core.specs.Cells.{is_unmapped_header}
 use Rattle.mk_core.specs.Image.{image_of, answer_of}
 use Rattle.mk_core.specs.Effects.{progress_probe}
 use Rattle.mk_core.specs.History.{bases_of}
 use Rattle.mk_protocol.proofs.Standings.{standing_at, is_astray}
-use Rattle.mk_images.specs.Images.{Scene, flight_among, is_put, CarriesOwn, ProbedOwn}
+use Rattle.mk_images.specs.Images.{has_p, has_some_p, has_r, Scene, flight_among, is_put, CarriesOwn, ProbedOwn}
 use Rattle.mk_core.specs.Allocations.{placed_at}
 use Rattle.mk_images.specs.SafeSets.{IsSafe}
 use Rattle.mk_images.proofs.Moves.{Move, Decides, Owes, Shares, Writes}
 use Rattle.mk_images.proofs.Ready.{Ready, image_test, bit_is, LeadsBy, either_leads, one_right}
-use Rattle.mk_images.proofs.Refusals.{refuses, goes_bare, decides_nothing}
+use Rattle.mk_images.proofs.Refusals.{accesses, refuses, goes_bare, decides_nothing}
 use Rattle.mk_never.proofs.Soundness.{suited_is_sound}
 use Rattle.mk_images.proofs.Reached.{PagesShow, Reaches, reaches, unmapped_target, mapped_met, suits, sound_more, of_number}
 use Rattle.mk_images.proofs.RegMoves.{flight, flies_on}
+
+-- the access of an operation, at whatever kind of word
+meets_some : (n : NeverState) (v : Value) (i : ℕ) (P : Kind → Type 0) → Meets n v i P → Meets n v i (λ kind. Unit {0})
+meets_some n Null i P h = tt
+meets_some n (Num m) i P h = tt
+meets_some n (Ptr a t o) i P h = (h.0, tt)
+
+access_meets : (n : NeverState) (k : ℕ) (o : Op) → accesses o ≡ true → AccessIsAdmitted n k o → Meets n (register_at n k (q_of o)) (i_of o) (λ kind. Unit {0})
+access_meets n k (op.GetNum q i) a h = meets_some n (register_at n k q) i IsNumber h
+access_meets n k (op.SetNum q i m) a h = meets_some n (register_at n k q) i IsNumber h
+access_meets n k (op.GetPtr d q i) a h = meets_some n (register_at n k q) i IsPointer h
+access_meets n k (op.SetPtr q i p) a h = meets_some n (register_at n k q) i IsPointer h
+access_meets n k (op.CasPtr q i p r) a h = meets_some n (register_at n k q) i IsPointer h
+access_meets n k _ a h = absurd (false≢true a)
+
+-- behind its `probe` an access carries what it did before
+record BehindProbe (s : Stage) (o : Op) : Type 0 where
+  pub access : accesses o ≡ true
+  pub put : is_put s ≡ false
+  pub p : has_p s o ≡ has_p stage.Probe o
+  pub some_p : has_some_p s o ≡ false
+  pub r : has_r s o ≡ has_r stage.Probe o
+
+at_probe : (o : Op) → is_astray (standing_at stage.Probe o) ≡ false → BehindProbe (stage_behind stage.Probe (steps_of o)) o
+at_probe (op.GetNum q i) h = record { access = refl; put = refl; p = refl; some_p = refl; r = refl }
+at_probe (op.SetNum q i m) h = record { access = refl; put = refl; p = refl; some_p = refl; r = refl }
+at_probe (op.GetPtr d q i) h = record { access = refl; put = refl; p = refl; some_p = refl; r = refl }
+at_probe (op.SetPtr q i p) h = record { access = refl; put = refl; p = refl; some_p = refl; r = refl }
+at_probe (op.CasPtr q i p r) h = record { access = refl; put = refl; p = refl; some_p = refl; r = refl }
+at_probe _ h = absurd (true≢false h)
 
 module _ (listed : List ℕ) (safe : ℕ → Bool) (s : Scene) (n : NeverState) (k : ℕ) (h : Ready listed safe s n) (there : k < length s.flights) (long : 8 * k + 7 < length n.registers) where
   own_sound : (r : ℕ) → IsSound n (register_at n k r)
@@ -38,48 +71,30 @@ module _ (listed : List ℕ) (safe : ℕ → Bool) (s : Scene) (n : NeverState) 
   own_safe : (r : ℕ) → IsSafe safe (register_at n k r)
   own_safe r = h.set.registers (8 * k + r)
 
+  -- an access goes on where its page is mapped, and is refused where it isn't
   pub probe_leads : (header : ℕ → ℕ) → PagesShow header s n → (o : Op) (q p r l x : ℕ) → flight_among s.flights k ≡ flight stage.Probe o q p r l → d_of o < 8
-      → is_astray (standing_at stage.Probe o) ≡ false
-      → CarriesOwn (bases_of s.allocations) n k (flight stage.Probe o q p r l) → x ≡ header (((q - 65536) / 8 + i_of o) / 64)
-      → (is_unmapped_header (header_of x) ≡ true → IsAdmitted listed n k o)
+      → is_astray (standing_at stage.Probe o) ≡ false → CarriesOwn (bases_of s.allocations) n k (flight stage.Probe o q p r l)
+      → x ≡ header (((q - 65536) / 8 + i_of o) / 64) → (is_unmapped_header (header_of x) ≡ true → IsAdmitted listed n k o)
       → LeadsBy safe s n k o s (progress_probe (flight stage.Probe o q p r l) x)
-  probe_leads header show (op.GetNum q' i) q p r l x is ld a car e ad =
+  probe_leads header show o q p r l x is ld a car e ad =
       let was = ap (λ (f : Flight). is_put f.stage) is in
-      either_leads safe s n k (op.GetNum q' i) s (is_unmapped_header (header_of x)) _ _
-      (λ u. refuses safe s n k (op.GetNum q' i) q p r answer.Fault Unmapped refl there long was ld refl
-      (unmapped_target listed safe s n h header show (register_at n k q') q i IsNumber (car.q refl) (car.some_q refl) (own_sound q') (own_safe q') (ad u).access (ap (λ y. is_unmapped_header (header_of y)) (sym e) ∙ u)) (λ bs. refl))
-      (λ u. flies_on safe s n k (op.GetNum q' i) (flight stage.Read (op.GetNum q' i) q p r l) was refl (record { q = λ y. car.q refl; some_q = λ y. car.some_q refl; p = λ y. cc; some_p = λ y. cc; r = λ y. cc })
-      (λ y. mapped_met listed safe s n h header show (register_at n k q') q i (car.q refl) (car.some_q refl) (own_sound q') (own_safe q') (ap (λ y. is_unmapped_header (header_of y)) (sym e) ∙ u)))
-  probe_leads header show (op.SetNum q' i m) q p r l x is ld a car e ad =
-      let was = ap (λ (f : Flight). is_put f.stage) is in
-      either_leads safe s n k (op.SetNum q' i m) s (is_unmapped_header (header_of x)) _ _
-      (λ u. refuses safe s n k (op.SetNum q' i m) q p r answer.Fault Unmapped refl there long was ld refl
-      (unmapped_target listed safe s n h header show (register_at n k q') q i IsNumber (car.q refl) (car.some_q refl) (own_sound q') (own_safe q') (ad u).access (ap (λ y. is_unmapped_header (header_of y)) (sym e) ∙ u)) (λ bs. refl))
-      (λ u. flies_on safe s n k (op.SetNum q' i m) (flight stage.Write (op.SetNum q' i m) q p r l) was refl (record { q = λ y. car.q refl; some_q = λ y. car.some_q refl; p = λ y. cc; some_p = λ y. cc; r = λ y. cc })
-      (λ y. mapped_met listed safe s n h header show (register_at n k q') q i (car.q refl) (car.some_q refl) (own_sound q') (own_safe q') (ap (λ y. is_unmapped_header (header_of y)) (sym e) ∙ u)))
-  probe_leads header show (op.GetPtr d q' i) q p r l x is ld a car e ad =
-      let was = ap (λ (f : Flight). is_put f.stage) is in
-      either_leads safe s n k (op.GetPtr d q' i) s (is_unmapped_header (header_of x)) _ _
-      (λ u. refuses safe s n k (op.GetPtr d q' i) q p r answer.Fault Unmapped refl there long was ld refl
-      (unmapped_target listed safe s n h header show (register_at n k q') q i IsPointer (car.q refl) (car.some_q refl) (own_sound q') (own_safe q') (ad u).access (ap (λ y. is_unmapped_header (header_of y)) (sym e) ∙ u)) (λ bs. refl))
-      (λ u. flies_on safe s n k (op.GetPtr d q' i) (flight stage.Read (op.GetPtr d q' i) q p r l) was refl (record { q = λ y. car.q refl; some_q = λ y. car.some_q refl; p = λ y. cc; some_p = λ y. cc; r = λ y. cc })
-      (λ y. mapped_met listed safe s n h header show (register_at n k q') q i (car.q refl) (car.some_q refl) (own_sound q') (own_safe q') (ap (λ y. is_unmapped_header (header_of y)) (sym e) ∙ u)))
-  probe_leads header show (op.SetPtr q' i p') q p r l x is ld a car e ad =
-      let was = ap (λ (f : Flight). is_put f.stage) is in
-      either_leads safe s n k (op.SetPtr q' i p') s (is_unmapped_header (header_of x)) _ _
-      (λ u. refuses safe s n k (op.SetPtr q' i p') q p r answer.Fault Unmapped refl there long was ld refl
-      (unmapped_target listed safe s n h header show (register_at n k q') q i IsPointer (car.q refl) (car.some_q refl) (own_sound q') (own_safe q') (ad u).access (ap (λ y. is_unmapped_header (header_of y)) (sym e) ∙ u)) (λ bs. refl))
-      (λ u. flies_on safe s n k (op.SetPtr q' i p') (flight stage.Write (op.SetPtr q' i p') q p r l) was refl (record { q = λ y. car.q refl; some_q = λ y. car.some_q refl; p = λ y. car.p refl; some_p = λ y. cc; r = λ y. cc })
-      (λ y. mapped_met listed safe s n h header show (register_at n k q') q i (car.q refl) (car.some_q refl) (own_sound q') (own_safe q') (ap (λ y. is_unmapped_header (header_of y)) (sym e) ∙ u)))
-  probe_leads header show (op.CasPtr q' i p' r') q p r l x is ld a car e ad =
-      let was = ap (λ (f : Flight). is_put f.stage) is in
-      either_leads safe s n k (op.CasPtr q' i p' r') s (is_unmapped_header (header_of x)) _ _
-      (λ u. refuses safe s n k (op.CasPtr q' i p' r') q p r answer.Fault Unmapped refl there long was ld refl
-      (unmapped_target listed safe s n h header show (register_at n k q') q i IsPointer (car.q refl) (car.some_q refl) (own_sound q') (own_safe q') (ad u).access (ap (λ y. is_unmapped_header (header_of y)) (sym e) ∙ u)) (λ bs. refl))
-      (λ u. flies_on safe s n k (op.CasPtr q' i p' r') (flight stage.Cas (op.CasPtr q' i p' r') q p r l) was refl (record { q = λ y. car.q refl; some_q = λ y. car.some_q refl; p = λ y. car.p refl; some_p = λ y. cc; r = λ y. car.r refl })
-      (λ y. mapped_met listed safe s n h header show (register_at n k q') q i (car.q refl) (car.some_q refl) (own_sound q') (own_safe q') (ap (λ y. is_unmapped_header (header_of y)) (sym e) ∙ u)))
-  probe_leads header show (op.New d ty full) q p r l x is ld a car e ad = cc
-  probe_leads header show _ q p r l x is ld a car e ad = cc
+      let table = at_probe o a in
+      let next = flight (stage_behind stage.Probe (steps_of o)) o q p r l in
+      let v = register_at n k (q_of o) in
+      let unmapped = ap (λ y. is_unmapped_header (header_of y)) (sym e) in
+      either_leads safe s n k o s (is_unmapped_header (header_of x)) (refused (flight stage.Probe o q p r l) answer.Fault) (onward (flight stage.Probe o q p r l) None)
+      (λ u. refuses safe s n k o q p r answer.Fault Unmapped table.access there long was ld refl
+      (unmapped_target listed safe s n h header show v q (i_of o) (λ kind. Unit {0}) (car.q refl) (car.some_q refl) (own_sound (q_of o)) (own_safe (q_of o))
+      (access_meets n k o table.access (ad u).access) (unmapped ∙ u)) (λ bs. refl))
+      (λ u. flies_on safe s n k o next was table.put
+      (record {
+        q = λ y. car.q refl;
+        some_q = λ y. car.some_q refl;
+        p = λ y. car.p (sym table.p ∙ y);
+        some_p = λ y. absurd (false≢true (sym table.some_p ∙ y));
+        r = λ y. car.r (sym table.r ∙ y);
+      })
+      (λ y. mapped_met listed safe s n h header show v q (i_of o) (car.q refl) (car.some_q refl) (own_sound (q_of o)) (own_safe (q_of o)) (unmapped ∙ u)))
 
   pub read_leads : (o : Op) (q p r l x : ℕ) → flight_among s.flights k ≡ flight stage.Read o q p r l → d_of o < 8 → is_astray (standing_at stage.Read o) ≡ false
       → CarriesOwn (bases_of s.allocations) n k (flight stage.Read o q p r l) → ProbedOwn n k (flight stage.Read o q p r l) → x ≡ slice_index s.heap ((q - 65536) / 8 + i_of o)

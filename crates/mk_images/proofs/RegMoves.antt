@@ -1,7 +1,7 @@
 -- `reg` leads to what the images allow, at each stage.
 use Rattle.std.proofs.Common.{◌≡◌, ◌≢◌, ℕ, ◌+◌, ◌*◌, ◌%◌, ◌^◌, ◌<◌, Bool, true, false, List, ◌++◌, length, refl, sym, ap, subst, ◌∙◌, arith}
-use Rattle.std.specs.Prelude.{slice_set, ◌==◌, Some, None}
-use Rattle.std.proofs.lemmas.Bool.{eqb-true, eqb-false}
+use Rattle.std.specs.Prelude.{if◌then◌else◌, slice_set, ◌==◌, Some, None}
+use Rattle.std.proofs.lemmas.Bool.{false≢true, eqb-true, eqb-false}
 use Rattle.mk_never.specs.declared.operations.Op.{Op}
 use Rattle.mk_never.specs.declared.operations.Op.TheVariants as op
 use Rattle.mk_never.specs.declared.operations.Reply.TheVariants.{Done}
@@ -15,20 +15,20 @@ use Rattle.mk_core.specs.declared.events.Answer.TheVariants as answer
 use Rattle.mk_core.specs.declared.seats.Stage.{Stage}
 use Rattle.mk_core.specs.declared.seats.Stage.TheVariants as stage
 use Rattle.mk_core.specs.declared.seats.Flight.{Flight}
-use Rattle.mk_core.specs.Calls.{q_of, p_of, r_of, d_of, value_for, progress_q, progress_p, progress_reg, onward, one_if}
+use Rattle.mk_core.specs.Calls.{i_of, steps_of, stage_behind, refused, q_of, p_of, r_of, d_of, value_for, progress_q, progress_p, progress_reg, onward, one_if}
 use Rattle.mk_core.specs.Image.{image_of, answer_of}
 use Rattle.mk_core.specs.History.{bases_of}
 use Rattle.mk_core.specs.Decided.{entry_of, asked}
 use Rattle.mk_core.specs.Accesses.{register_met}
 use Rattle.mk_protocol.proofs.Standings.{standing_at, is_astray}
 use Rattle.mk_protocol.proofs.Stages.{is_reg_stage}
-use Rattle.mk_images.specs.Images.{Scene, flight_among, is_put, has_p, has_some_p, has_r, Carries, CarriesOwn, ProbedOwn}
+use Rattle.mk_images.specs.Images.{is_past_probe, Scene, flight_among, is_put, has_p, has_some_p, has_r, Carries, CarriesOwn, ProbedOwn}
 use Rattle.mk_images.specs.SafeSets.{IsSafe}
 use Rattle.mk_images.proofs.Moves.{Move, Flies, Pays, Stores}
 use Rattle.mk_images.proofs.Pairs.{shows_plain}
 use Rattle.mk_images.proofs.Kept.{base_at}
 use Rattle.mk_images.proofs.Ready.{Ready, image_zero, image_test, bit_is, Leads, LeadsBy, either_leads, one_right}
-use Rattle.mk_images.proofs.Refusals.{refuses, decides_nothing, owes_null}
+use Rattle.mk_images.proofs.Refusals.{accesses, refuses, decides_nothing, owes_null}
 
 abbrev pub flight : Stage → Op → ℕ → ℕ → ℕ → ℕ → Flight
 flight st o q p r l = record { stage = st; op = o; q = q; p = p; r = r; loaded = l }
@@ -37,6 +37,22 @@ flight st o q p r l = record { stage = st; op = o; q = q; p = p; r = r; loaded =
 carries_q : (bs : List ℕ) (f : Flight) (a b d : Value) → f.q ≡ image_of bs a → f.q ≢ 0 → has_p f.stage f.op ≡ false → has_some_p f.stage f.op ≡ false
     → has_r f.stage f.op ≡ false → Carries bs f a b d
 carries_q bs f a b d e ne p sp r = record { q = λ x. e; some_q = λ x. ne; p = λ x. let y : false ≡ true = sym p ∙ x in cc; some_p = λ x. let y : false ≡ true = sym sp ∙ x in cc; r = λ x. let y : false ≡ true = sym r ∙ x in cc }
+
+-- behind the load of q, an access carries q alone
+record BehindLoadQ (s : Stage) (o : Op) : Type 0 where
+  pub p : has_p s o ≡ false
+  pub some_p : has_some_p s o ≡ false
+  pub r : has_r s o ≡ false
+  pub put : is_put s ≡ false
+  pub probed : is_past_probe s ≡ false
+
+behind_load_q : (o : Op) → accesses o ≡ true → BehindLoadQ (stage_behind stage.LoadQ (steps_of o)) o
+behind_load_q (op.GetNum q i) h = record { p = refl; some_p = refl; r = refl; put = refl; probed = refl }
+behind_load_q (op.SetNum q i m) h = record { p = refl; some_p = refl; r = refl; put = refl; probed = refl }
+behind_load_q (op.GetPtr d q i) h = record { p = refl; some_p = refl; r = refl; put = refl; probed = refl }
+behind_load_q (op.SetPtr q i p) h = record { p = refl; some_p = refl; r = refl; put = refl; probed = refl }
+behind_load_q (op.CasPtr q i p r) h = record { p = refl; some_p = refl; r = refl; put = refl; probed = refl }
+behind_load_q _ h = absurd (false≢true h)
 
 -- a flight that goes on undecided
 pub flies_on : (safe : ℕ → Bool) (s : Scene) (n : NeverState) (k : ℕ) (o : Op) (f : Flight) → is_put (flight_among s.flights k).stage ≡ false → is_put f.stage ≡ false
@@ -61,34 +77,26 @@ module _ (listed : List ℕ) (safe : ℕ → Bool) (s : Scene) (n : NeverState) 
   null_at : (q x : ℕ) → x ≡ image_of (bases_of s.allocations) (register_at n k q) → (x == 0) ≡ true → register_at n k q ≡ Null
   null_at q x e z = image_zero n (bases_of s.allocations) (register_at n k q) (h.typed.registers (8 * k + q)) (sym e ∙ eqb-true x 0 z)
 
+  -- an access loads its pointer, or is refused
+  load_q : (o : Op) (q p r l x : ℕ) → accesses o ≡ true → flight_among s.flights k ≡ flight stage.LoadQ o q p r l → d_of o < 8
+      → x ≡ image_of (bases_of s.allocations) (register_at n k (q_of o))
+      → LeadsBy safe s n k o s (if x == 0 then refused (flight stage.LoadQ o x p r l) answer.Null else onward (flight stage.LoadQ o x p r l) None)
+  load_q o q p r l x access is ld e =
+      let was = ap (λ (f : Flight). is_put f.stage) is in
+      let next = behind_load_q o access in
+      either_leads safe s n k o s (x == 0) (refused (flight stage.LoadQ o x p r l) answer.Null) (onward (flight stage.LoadQ o x p r l) None)
+      (λ z. refuses safe s n k o x p r answer.Null Nothing access there long was ld refl (ap (λ v. target_of n v (i_of o)) (null_at (q_of o) x e z)) (λ bs. refl))
+      (λ nz. flies_on safe s n k o (flight (stage_behind stage.LoadQ (steps_of o)) o x p r l) was next.put
+      (carries_q _ _ _ _ _ e (eqb-false x 0 nz) next.p next.some_p next.r) (λ y. absurd (false≢true (sym next.probed ∙ y))))
+
   reg_q : (o : Op) (q p r l x : ℕ) → flight_among s.flights k ≡ flight stage.LoadQ o q p r l → d_of o < 8 → is_astray (standing_at stage.LoadQ o) ≡ false
       → CarriesOwn (bases_of s.allocations) n k (flight stage.LoadQ o q p r l)
       → x ≡ image_of (bases_of s.allocations) (register_at n k (q_of o)) → LeadsBy safe s n k o s (progress_q (flight stage.LoadQ o q p r l) o x)
-  reg_q (op.GetNum q' i) q p r l x is ld a car e =
-      let was = ap (λ (f : Flight). is_put f.stage) is in
-      either_leads safe s n k (op.GetNum q' i) s (x == 0) _ _
-      (λ z. refuses safe s n k (op.GetNum q' i) x p r answer.Null Nothing refl there long was ld refl (ap (λ v. target_of n v i) (null_at q' x e z)) (λ bs. refl))
-      (λ nz. flies_on safe s n k (op.GetNum q' i) (flight stage.Probe (op.GetNum q' i) x p r l) was refl (carries_q _ _ _ _ _ e (eqb-false x 0 nz) refl refl refl) (λ y. cc))
-  reg_q (op.SetNum q' i m) q p r l x is ld a car e =
-      let was = ap (λ (f : Flight). is_put f.stage) is in
-      either_leads safe s n k (op.SetNum q' i m) s (x == 0) _ _
-      (λ z. refuses safe s n k (op.SetNum q' i m) x p r answer.Null Nothing refl there long was ld refl (ap (λ v. target_of n v i) (null_at q' x e z)) (λ bs. refl))
-      (λ nz. flies_on safe s n k (op.SetNum q' i m) (flight stage.Probe (op.SetNum q' i m) x p r l) was refl (carries_q _ _ _ _ _ e (eqb-false x 0 nz) refl refl refl) (λ y. cc))
-  reg_q (op.GetPtr d q' i) q p r l x is ld a car e =
-      let was = ap (λ (f : Flight). is_put f.stage) is in
-      either_leads safe s n k (op.GetPtr d q' i) s (x == 0) _ _
-      (λ z. refuses safe s n k (op.GetPtr d q' i) x p r answer.Null Nothing refl there long was ld refl (ap (λ v. target_of n v i) (null_at q' x e z)) (λ bs. refl))
-      (λ nz. flies_on safe s n k (op.GetPtr d q' i) (flight stage.Probe (op.GetPtr d q' i) x p r l) was refl (carries_q _ _ _ _ _ e (eqb-false x 0 nz) refl refl refl) (λ y. cc))
-  reg_q (op.SetPtr q' i p') q p r l x is ld a car e =
-      let was = ap (λ (f : Flight). is_put f.stage) is in
-      either_leads safe s n k (op.SetPtr q' i p') s (x == 0) _ _
-      (λ z. refuses safe s n k (op.SetPtr q' i p') x p r answer.Null Nothing refl there long was ld refl (ap (λ v. target_of n v i) (null_at q' x e z)) (λ bs. refl))
-      (λ nz. flies_on safe s n k (op.SetPtr q' i p') (flight stage.LoadP (op.SetPtr q' i p') x p r l) was refl (carries_q _ _ _ _ _ e (eqb-false x 0 nz) refl refl refl) (λ y. cc))
-  reg_q (op.CasPtr q' i p' r') q p r l x is ld a car e =
-      let was = ap (λ (f : Flight). is_put f.stage) is in
-      either_leads safe s n k (op.CasPtr q' i p' r') s (x == 0) _ _
-      (λ z. refuses safe s n k (op.CasPtr q' i p' r') x p r answer.Null Nothing refl there long was ld refl (ap (λ v. target_of n v i) (null_at q' x e z)) (λ bs. refl))
-      (λ nz. flies_on safe s n k (op.CasPtr q' i p' r') (flight stage.LoadP (op.CasPtr q' i p' r') x p r l) was refl (carries_q _ _ _ _ _ e (eqb-false x 0 nz) refl refl refl) (λ y. cc))
+  reg_q (op.GetNum q' i) q p r l x is ld a car e = load_q (op.GetNum q' i) q p r l x refl is ld e
+  reg_q (op.SetNum q' i m) q p r l x is ld a car e = load_q (op.SetNum q' i m) q p r l x refl is ld e
+  reg_q (op.GetPtr d q' i) q p r l x is ld a car e = load_q (op.GetPtr d q' i) q p r l x refl is ld e
+  reg_q (op.SetPtr q' i p') q p r l x is ld a car e = load_q (op.SetPtr q' i p') q p r l x refl is ld e
+  reg_q (op.CasPtr q' i p' r') q p r l x is ld a car e = load_q (op.CasPtr q' i p' r') q p r l x refl is ld e
   reg_q (op.Lea d q' i) q p r l x is ld a car e =
       let was = ap (λ (f : Flight). is_put f.stage) is in
       either_leads safe s n k (op.Lea d q' i) s (x == 0) _ _
