@@ -13,6 +13,3 @@ pub use counting::{census, free_pages, words_held};
 pub use fitting::first_fit;
 pub use mk_geom::{Census, Page, Place};
 pub use trigger::{due, freeable};
-
-#[cfg(test)]
-mod tests;

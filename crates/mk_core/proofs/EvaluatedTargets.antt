@@ -65,6 +65,7 @@ all_is_left_to_caller = record {
   registers = λ k r is lt. values_are_left k r is;
   in_call = λ k is in_call. subst (λ i. TargetsAreLeft small before_probe (before_probe ++ turn_taken) i) (same_caller k is) targets_are_left;
   turn = λ holds. absurd (no_turn holds);
+  held = λ holds k r lt two. absurd (no_turn holds);
   stop = λ all. absurd (no_turn all.0);
   scan = λ attends. absurd attends;
 }
@@ -120,6 +121,7 @@ headers_are_left_to_marker = record {
   registers = λ k r is lt. absurd cc;
   in_call = λ k is in_call. absurd in_call;
   turn = λ holds. absurd holds;
+  held = λ holds k r lt two. absurd holds;
   stop = λ all. absurd all.0;
   scan = λ attends. headers_are_left;
 }

@@ -1,12 +1,11 @@
 -- The allocations of a history, in the order of their grants: an allocation's number is its place.
-use Rattle.std.specs.Prelude.{ℕ, ◌*◌, Bool, true, false, ◌&&◌, ◌||◌, not, ◌==◌, List, [], ◌∷◌, ◌++◌, map, filter, sum_by, slice_index_or, Option, if◌then◌else◌}
+use Rattle.std.specs.Prelude.{ℕ, Bool, true, false, ◌&&◌, ◌||◌, not, ◌==◌, List, [], ◌∷◌, ◌++◌, map, filter, sum_by, slice_index_or, Option, if◌then◌else◌}
 use Rattle.mk_never.specs.declared.operations.Op.{Op}
 use Rattle.mk_never.specs.declared.operations.Op.TheVariants as op
 use Rattle.mk_never.specs.Types.{kinds_of, is_large}
 use Rattle.mk_geom.specs.declared.addresses.Cell.{Cell}
 use Rattle.mk_geom.specs.declared.pages.Place.{Place}
 use Rattle.mk_geom.specs.declared.pages.Census.{Census}
-use Rattle.mk_geom.specs.Classes.{class_words_of}
 use Rattle.mk_geom.specs.StorageWords.{mapped_words, cell_of_storage}
 use Rattle.mk_geom.specs.Storages.{Storage, place_of, census_of, Fits}
 use Rattle.mk_core.specs.declared.config.Config.{Config}
@@ -18,7 +17,8 @@ use Rattle.mk_geom.specs.Addresses.{address_of}
 use Rattle.mk_core.specs.Words.{Words}
 use Rattle.mk_core.specs.Bounded.{is_some_and}
 use Rattle.mk_core.specs.Cells.{pointed_cell, first_word, is_left_unmarked}
-use Rattle.mk_core.specs.NewPlaces.{object_of, class_made, is_small_object, pages_made}
+use Rattle.mk_core.specs.NewPlaces.{object_of}
+use Rattle.mk_core.specs.ObjectHeaders.{words_made}
 use Rattle.mk_core.specs.TurnConditions.{cell_freed}
 use Rattle.mk_core.specs.Accesses.{granted_base}
 use Rattle.mk_core.specs.Moments.{Moment, flight_of}
@@ -80,10 +80,7 @@ is_mapped c a = not a.released && not (a.freed && is_large (kinds_of c.types a.t
 
 -- its cell, or all its pages
 abbrev pub storage_words : Config → PlacedAllocation → ℕ
-storage_words c a =
-    if is_small_object (object_of (kinds_of c.types a.ty))
-    then class_words_of (class_made (object_of (kinds_of c.types a.ty)))
-    else 64 * pages_made (object_of (kinds_of c.types a.ty))
+storage_words c a = words_made (object_of (kinds_of c.types a.ty))
 
 abbrev pub storage_of : Config → PlacedAllocation → Storage
 storage_of c a =

@@ -170,11 +170,14 @@ pub record HeadersAreLeft (c : Config) (w v : World) : Type 0 where
   pub cells : (p u : ℕ) (cell : Cell) → cell_at c.pages (header_at w.now.words p) u ≡ Some cell → cell_at c.pages (header_at v.now.words p) u ≡ Some cell
   pub well : (u : ℕ) → points_well c.pages w.now.words u ≡ true → points_well c.pages v.now.words u ≡ true
 
--- Every caller keeps the values of its registers, whatever it is in the middle of.
+-- Every caller keeps the values of its registers, whatever it is in the middle of; and the turn's holder finds those of
+-- a caller whose gate is held as they were.
 pub record IsLeftByAdmitted (c : Config) (s : Seat) (es fs : List Event) : Type 0 where
   pub registers : (k r : ℕ) → s ≡ Caller k → r < 8 → register_at (never_behind c fs) k r ≡ register_at (never_behind c es) k r
   pub in_call : (k : ℕ) → s ≡ Caller k → IsInCall (left c es).now s → TargetsAreLeft c es fs k
   pub turn : Holds c (left c es).now s → HeapIsLeft c (left c es) (left c fs)
+  pub held : Holds c (left c es).now s → (k r : ℕ) → r < 8 → slice_index (left c es).now.words.gates k ≡ 2
+      → register_at (never_behind c fs) k r ≡ register_at (never_behind c es) k r
   pub stop : HoldsAll c (left c es).now s → never_behind c fs ≡ never_behind c es
   pub scan : Attends (left c es).now s → HeadersAreLeft c (left c es) (left c fs)
 

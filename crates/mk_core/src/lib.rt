@@ -21,8 +21,6 @@ mod stepping;
 mod stop_conditions;
 mod storage_laws;
 mod table;
-#[cfg(test)]
-mod tests;
 mod turn_conditions;
 
 pub use accesses::{Access, TableWord};

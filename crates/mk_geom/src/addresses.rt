@@ -51,6 +51,3 @@ fn cell_of_word(class: u64, page: u64, word: u64) -> Option<Cell>
     let index = word / class_words(class);
     (index < cells(class)).then_some(Cell { page, index })
 }
-
-#[cfg(test)]
-mod tests;

@@ -67,6 +67,3 @@ pub fn decode(word: u64) -> Option<Header>
         _ => None,
     }
 }
-
-#[cfg(test)]
-mod tests;

@@ -112,6 +112,3 @@ impl<T: Write> Sink for StdoutSink<T> {
         }
     }
 }
-
-#[cfg(test)]
-mod tests;

@@ -107,7 +107,6 @@ host_takes c m (step.Take (Some o)) h t = absurd (never (host_has_turn c m) h.or
 host_takes c m _ h t = cc
 
 host_acts : (c : Config) (m : Moment) (x : Step) → Meets c m Host x → Actor c m Host x
-host_acts c m step.Over h = AsHolder Host step.Over (eqb-true m.words.turn (1 + c.callers) (over_holds c m h)) refl
 host_acts c m x h = by (group_of x) refl
   where
     by : (g : Group) → group_of x ≡ g → Actor c m Host x
@@ -124,7 +123,8 @@ host_acts c m x h = by (group_of x) refl
     ]
 
 -- where no caller is astray, each event that meets the conditions is one of these
-pub acts : (c : Config) (m : Moment) (seat : Seat) (x : Step) → ((k : ℕ) → k < c.callers → is_astray (standing (flight_of m (Caller k))) ≡ false) → Meets c m seat x → Actor c m seat x
+pub acts : (c : Config) (m : Moment) (seat : Seat) (x : Step) → ((k : ℕ) → k < c.callers → is_astray (standing (flight_of m (Caller k))) ≡ false)
+    → Meets c m seat x → Actor c m seat x
 acts c m (Caller k) x a h = caller_acts c m k x h (a k (ltb-true k c.callers h.seat))
 acts c m (Marker k) x a h = marker_acts c m k x h
 acts c m Host x a h = host_acts c m x h

@@ -26,7 +26,7 @@ use Rattle.mk_core.specs.Effects.{hand_given}
 use Rattle.mk_core.specs.Frames.{OnlyGrow}
 use Rattle.mk_protocol.proofs.Asked.{none_at}
 use Rattle.mk_protocol.proofs.Actors.{Meets}
-use Rattle.mk_protocol.proofs.Sorts.{Behind}
+use Rattle.mk_protocol.proofs.SameWords.{Behind}
 use Rattle.mk_protocol.proofs.Growth.{grows_same, grows_more}
 
 pub record Colours : Type 0 where
@@ -61,7 +61,8 @@ pub data ColourStep (c : Config) (m : Moment) (seat : Seat) : Colours → Type 0
   Whitens : (p : ℕ) → IsQuiet m → ColourStep c m seat (record (colours_of m) { blacks = slice_set m.words.blacks p 0 })
   Dirties : ColourStep c m seat (record (colours_of m) { dirty = slice_set m.words.dirty (page_met (flight_of m seat)) 1 })
   Cleans : (p : ℕ) → IsQuiet m → may_undirty m p ≡ true → ColourStep c m seat (record (colours_of m) { dirty = slice_set m.words.dirty p 0 })
-  TakesHand : (x : Word) → ColourStep c m seat (record (colours_of m) { hand = or_else (hand_given c m seat x (found c m (record { seat = seat; step = step.Look x }))) m.seats.holding.hand })
+  TakesHand : (x : Word)
+      → ColourStep c m seat (colours_with m.words (or_else (hand_given c m seat x (found c m (record { seat = seat; step = step.Look x }))) m.seats.holding.hand))
   DropsHand : ColourStep c m seat (record (colours_of m) { hand = None })
 
 pub reg_colours : (w : Words) (k r : ℕ) (a : Access) (hand : Option Hand) → colours_with (accessed w (Named (word.Reg k r)) a) hand ≡ colours_with w hand
@@ -75,7 +76,8 @@ tally_colours w _ v hand = refl
 marking : (n : ℕ) → ((n == 1) || (n == 2)) ≡ true → (n ≡ 1) ⊎ (n ≡ 2)
 marking n h = elim (or_cases (n == 1) (n == 2) h) [ inl e ↦ inl (eqb-true n 1 e) | inr e ↦ inr (eqb-true n 2 e) ]
 
-quiet : (m : Moment) (more : Bool) → ((phase_of m.words == 0) || (phase_of m.words == 2)) ≡ true → (not (is_phase m.words 2) || (none_attends m.seats.markers && more)) ≡ true → IsQuiet m
+quiet : (m : Moment) (more : Bool) → ((phase_of m.words == 0) || (phase_of m.words == 2)) ≡ true
+    → (not (is_phase m.words 2) || (none_attends m.seats.markers && more)) ≡ true → IsQuiet m
 quiet m more h own = elim (or_cases (phase_of m.words == 0) (phase_of m.words == 2) h) [
   | inl z ↦ inl (eqb-true (phase_of m.words) 0 z)
   | inr two ↦ elim (or_cases (not (is_phase m.words 2)) (none_attends m.seats.markers && more) own) [
@@ -103,8 +105,9 @@ takes_or_not c m seat false = Leaves
 -- all kinds, whatever the seat
 pub colour_step : (c : Config) (m : Moment) (seat : Seat) (x : Step) → Meets c m seat x → ColourStep c m seat (colours_of (Behind c m seat x))
 colour_step c m seat step.Reg h =
+    let f = flight_of m seat in
     subst (λ (y : Colours). ColourStep c m seat y)
-    (sym (reg_colours m.words (caller_number seat) (register_met (flight_of m seat) (flight_of m seat).stage) (reg_access (flight_of m seat) (flight_of m seat).stage) m.seats.holding.hand)) Leaves
+    (sym (reg_colours m.words (caller_number seat) (register_met f f.stage) (reg_access f f.stage) m.seats.holding.hand)) Leaves
 colour_step c m seat (step.Tally n v) h = subst (λ (y : Colours). ColourStep c m seat y) (sym (tally_colours m.words n v m.seats.holding.hand)) Leaves
 colour_step c m seat (step.Take o) h = takes_or_not c m seat (m.words.turn == 0)
 colour_step c m seat step.Give h = DropsHand
@@ -121,7 +124,8 @@ colour_step c m seat (step.Unblack p) h =
 colour_step c m seat (step.Undirty p) h =
     Cleans p
     (quiet m (is_blank m p) h.phase
-    (ap (λ b. not (is_phase m.words 2) || b) (sym (and_moved (none_attends m.seats.markers) (slice_index m.words.blacks p == 0) (slice_index m.words.blacks (head_page m.words p) == 0))) ∙ h.holder))
+    (ap (λ b. not (is_phase m.words 2) || b)
+    (sym (and_moved (none_attends m.seats.markers) (slice_index m.words.blacks p == 0) (slice_index m.words.blacks (head_page m.words p) == 0))) ∙ h.holder))
     h.holder
 colour_step c m seat _ h = Leaves
 
@@ -130,7 +134,8 @@ quiet_ends : (m : Moment) (k : ℕ) → (phase_of m.words ≡ 1) ⊎ (phase_of m
 quiet_ends m k early a (inl z) = elim early [ inl e ↦ absurd (omega arith) | inr e ↦ absurd (omega arith) ]
 quiet_ends m k early a (inr none) = let f : true ≡ false = sym a ∙ none_at m.seats.markers k none.1 in cc
 
-pub attending_grows : (c : Config) (m : Moment) (seat : Seat) (y : Colours) (k : ℕ) → (phase_of m.words ≡ 1) ⊎ (phase_of m.words ≡ 2) → is_attending (marker_of m k).presence ≡ true
+pub attending_grows : (c : Config) (m : Moment) (seat : Seat) (y : Colours) (k : ℕ) → (phase_of m.words ≡ 1) ⊎ (phase_of m.words ≡ 2)
+    → is_attending (marker_of m k).presence ≡ true
     → ColourStep c m seat y → OnlyGrow m.words.marks y.marks × OnlyGrow m.words.blacks y.blacks
 attending_grows c m seat y k early a (AddsMarks p bits e h) = (grows_more m.words.marks p bits, grows_same m.words.blacks)
 attending_grows c m seat y k early a (MarksSeen p bits s e f) = (grows_more m.words.marks p bits, grows_same m.words.blacks)

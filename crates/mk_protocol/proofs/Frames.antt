@@ -34,10 +34,11 @@ use Rattle.mk_protocol.proofs.Views.{view_of}
 use Rattle.mk_protocol.proofs.Orderly.{turn_of, same_holder}
 use Rattle.mk_protocol.proofs.Asked.{others_held}
 use Rattle.mk_protocol.proofs.Actors.{Meets}
-use Rattle.mk_protocol.proofs.Protocols.{not_astray, actor_of, protocol_of}
+use Rattle.mk_protocol.proofs.OrderlyLists.{not_astray, actor_of}
+use Rattle.mk_protocol.proofs.Protocols.{protocol_of}
 use Rattle.mk_protocol.proofs.Readings.{in_counts}
 use Rattle.mk_protocol.proofs.Known.{Known, known_behind, known_left, holds_turn}
-use Rattle.mk_protocol.proofs.OthersMoves.{WorldBehind, OthersMove, Waits, Calls, Marks, MarkerWrite, ComesIn, gate_one, others_move}
+use Rattle.mk_protocol.proofs.OthersMoves.{with_words_seats, WorldBehind, OthersMove, Waits, Calls, Marks, MarkerWrite, ComesIn, gate_one, others_move}
 use Rattle.mk_protocol.proofs.Growth.{grows_same, grows_joined}
 use Rattle.mk_protocol.proofs.TurnFrame.{holding_out, turn_after, turn_same, turn_joined}
 use Rattle.mk_protocol.proofs.RegisterSteps.{register_step, others_registers}
@@ -62,7 +63,8 @@ others_marker c w seat (Caller k) x ne = refl
 others_marker c w seat Host x ne = refl
 
 -- A seat that holds the turn holds it still, behind an event of another.
-others_out : (c : Config) (w : World) (seat s : Seat) (x : Step) → Known c w.now → Meets c w.now seat x → seat ≢ s → Holds c w.now s → OthersMove c w seat (WorldBehind c w seat x)
+others_out : (c : Config) (w : World) (seat s : Seat) (x : Step) → Known c w.now → Meets c w.now seat x → seat ≢ s → Holds c w.now s
+    → OthersMove c w seat (WorldBehind c w seat x)
 others_out c w seat s x known h ne holds =
     let t = holds_turn c w.now s known.orderly holds in
     let turn = turn_of c (view_of w.now) s known.orderly t in
@@ -74,12 +76,12 @@ still_holds c (Marker k) w v flight turn h = h
 still_holds c Host w v flight turn h = turn ∙ h
 
 -- what is left, by worlds
-record Left (c : Config) (s : Seat) (w v : World) : Type 0 where
-  own : OwnIsLeft c s w v
-  mapped : IsInCall w.now s → (p : ℕ) → is_unmapped_header (header_in w.now.words p) ≡ false → is_unmapped_header (header_in v.now.words p) ≡ false
-  turn : Holds c w.now s → TurnIsLeft w v
-  stop : HoldsAll c w.now s → written_of v ≡ written_of w
-  scan : Attends w.now s → OnlyGrow w.now.words.marks v.now.words.marks × OnlyGrow w.now.words.blacks v.now.words.blacks
+pub record Left (c : Config) (s : Seat) (w v : World) : Type 0 where
+  pub own : OwnIsLeft c s w v
+  pub mapped : IsInCall w.now s → (p : ℕ) → is_unmapped_header (header_in w.now.words p) ≡ false → is_unmapped_header (header_in v.now.words p) ≡ false
+  pub turn : Holds c w.now s → TurnIsLeft w v
+  pub stop : HoldsAll c w.now s → written_of v ≡ written_of w
+  pub scan : Attends w.now s → OnlyGrow w.now.words.marks v.now.words.marks × OnlyGrow w.now.words.blacks v.now.words.blacks
 
 own_after : (c : Config) (w : World) (seat s : Seat) (x : Step) → Known c w.now → Meets c w.now seat x → seat ≢ s → OwnIsLeft c s w (WorldBehind c w seat x)
 own_after c w seat s x known h ne =
@@ -89,14 +91,18 @@ own_after c w seat s x known h ne =
       registers = λ k r is lt. others_registers w.now.words seat _ k r (register_step c w.now seat x known.operands h) (λ e. ne (e ∙ sym is)) lt;
       holding = λ holds.
           let move = others_out c w seat s x known h ne holds in
-          let turn = turn_after c w seat (WorldBehind c w seat x) known move in
-          (still_holds c s w (WorldBehind c w seat x) (others_flight c w seat s x ne) (ap (λ (y : Steady). y.turn) turn.steady) holds, holding_out c w seat (WorldBehind c w seat x) move);
+          let turn = turn_after c w seat (WorldBehind c w seat x) known move in (
+            still_holds c s w (WorldBehind c w seat x) (others_flight c w seat s x ne) (ap (λ (y : Steady). y.turn) turn.steady) holds,
+            holding_out c w seat (WorldBehind c w seat x) move,
+          );
     }
 
 -- a call in flight is that of a caller, whose gate is 1
 in_call_gate : (c : Config) (m : Moment) (k : ℕ) → Known c m → is_in_call (flight_of m (Caller k)) ≡ true → (k < c.callers) × (slice_index m.words.gates k ≡ 1)
 in_call_gate c m k known is = elim (cases_lt k c.callers) [
-  | inl lt ↦ (lt, gate_one c m k known lt (in_call_is (standing (flight_of m (Caller k))) (in_call_told (flight_of m (Caller k)).stage (flight_of m (Caller k)).op (not_astray c m known.orderly k lt) ∙ is)))
+  | inl lt ↦
+      let f = flight_of m (Caller k) in
+      (lt, gate_one c m k known lt (in_call_is (standing f) (in_call_told f.stage f.op (not_astray c m known.orderly k lt) ∙ is)))
   | inr past ↦
       let f : false ≡ true = ap (λ (g : Flight). is_in_call g) (sym (get_or_past m.seats.flights k at_rest (omega (arith, known.orderly.flights)))) ∙ is in
       cc
@@ -112,11 +118,12 @@ mapped_after c w seat Host x known h ne call p is = absurd call
 
 -- Where all other gates are held, callers do nothing, and markers don't change what callers do.
 marks_leave : (w : World) (k : ℕ) (y : MarkerState) (ms : List MarkerState) (x : Words) → MarkerWrite k w.now y x
-    → written_of (record { now = record { words = x; seats = record w.now.seats { markers = ms }; fresh_words = w.now.fresh_words }; allocations = w.allocations }) ≡ written_of w
+    → written_of (with_words_seats w x (record w.now.seats { markers = ms })) ≡ written_of w
 marks_leave w k y ms x (ComesIn a) = refl
 marks_leave w k y ms x _ = refl
 
-stop_out : (c : Config) (w : World) (seat s : Seat) (v : World) → OthersMove c w seat v → seat ≢ s → Holds c w.now s → others_are_held c.callers w.now.words s ≡ true → written_of v ≡ written_of w
+stop_out : (c : Config) (w : World) (seat s : Seat) (v : World) → OthersMove c w seat v → seat ≢ s → Holds c w.now s
+    → others_are_held c.callers w.now.words s ≡ true → written_of v ≡ written_of w
 stop_out c w seat s v Waits ne holds all = refl
 stop_out c w seat s v (Calls {k} f {x} lt le write) ne holds all =
     let two = others_held c w.now s all k lt (λ e. ne (same s k lt holds e)) in
@@ -136,7 +143,7 @@ scan_after c w seat (Caller k) x known h a = absurd a
 scan_after c w seat Host x known h a = absurd a
 
 -- one event of another seat
-left_after : (c : Config) (w : World) (seat s : Seat) (x : Step) → Known c w.now → Meets c w.now seat x → seat ≢ s → Left c s w (WorldBehind c w seat x)
+pub left_after : (c : Config) (w : World) (seat s : Seat) (x : Step) → Known c w.now → Meets c w.now seat x → seat ≢ s → Left c s w (WorldBehind c w seat x)
 left_after c w seat s x known h ne =
     record {
       own = own_after c w seat s x known h ne;
@@ -146,7 +153,7 @@ left_after c w seat s x known h ne =
       scan = scan_after c w seat s x known h;
     }
 
-left_same : (c : Config) (s : Seat) (w : World) → Left c s w w
+pub left_same : (c : Config) (s : Seat) (w : World) → Left c s w w
 left_same c s w =
     record {
       own = record { flight = refl; marker = refl; registers = λ k r is lt. refl; holding = λ holds. (holds, refl) };
@@ -179,7 +186,7 @@ still_stopped c s w u l all = (
   ap (λ (y : Written). all_below c.callers (λ j. is_number_of s j || (slice_index y.gates j == 2))) (l.stop all) ∙ all.1,
 )
 
-left_joined : (c : Config) (s : Seat) (w u v : World) → Left c s w u → Left c s u v → Left c s w v
+pub left_joined : (c : Config) (s : Seat) (w u v : World) → Left c s w u → Left c s u v → Left c s w v
 left_joined c s w u v a b =
     record {
       own = record {
@@ -204,12 +211,12 @@ same_seat (Caller k) = eq-eqb k k refl
 same_seat (Marker k) = eq-eqb k k refl
 same_seat Host = refl
 
-other_seat : (s seat : Seat) → is_one_of (s ∷ []) seat ≡ false → seat ≢ s
+pub other_seat : (s seat : Seat) → is_one_of (s ∷ []) seat ≡ false → seat ≢ s
 other_seat s seat h e =
     let f : true ≡ false = sym (ap (λ b. b || false) (same_seat s)) ∙ ap (λ (t : Seat). is_one_of (s ∷ []) t) (sym e) ∙ h in
     cc
 
-left_later : (c : Config) (s : Seat) (w : World) (es : List Event) → Known c w.now → AreEnabledFrom c w es → AreOfOthers (s ∷ []) es → Left c s w (left_from c w es)
+pub left_later : (c : Config) (s : Seat) (w : World) (es : List Event) → Known c w.now → AreEnabledFrom c w es → AreOfOthers (s ∷ []) es → Left c s w (left_from c w es)
 unfolding left_from AreEnabledFrom AreOfOthers
 left_later c s w [] k on others = left_same c s w
 left_later c s w (e ∷ es) k on others =
@@ -223,7 +230,8 @@ record CountsNothing (c : Config) (w : World) (es : List Event) : Type 0 where
   none_ends : ends es ≡ 0
   none_full : fulls_of (calls_from c w es) ≡ 0
 
-counts_later : (c : Config) (s : Seat) (w : World) (es : List Event) → Known c w.now → AreEnabledFrom c w es → AreOfOthers (s ∷ []) es → Holds c w.now s → CountsNothing c w es
+counts_later : (c : Config) (s : Seat) (w : World) (es : List Event) → Known c w.now → AreEnabledFrom c w es → AreOfOthers (s ∷ []) es
+    → Holds c w.now s → CountsNothing c w es
 unfolding calls_from AreEnabledFrom AreOfOthers
 counts_later c s w [] k on others holds = record { none_ends = refl; none_full = refl }
 counts_later c s w (e ∷ es) k on others holds =
@@ -244,7 +252,9 @@ counts_left : (c : Config) (es more : List Event) → CountsNothing c (left c es
 counts_left c es more h =
     record {
       ends = sum_by-append (λ (x : Event). cond {A = ℕ} (is_end x.step) 1 0) es more ∙ (let r = h.none_ends in omega arith);
-      fulls = ap (λ (ds : List Decided). fulls_of ds) (calls_append c (first_world c) es more) ∙ fulls_append (calls c es) (calls_from c (left c es) more) ∙ (let r = h.none_full in omega arith);
+      fulls =
+          ap (λ (ds : List Decided). fulls_of ds) (calls_append c (first_world c) es more) ∙ fulls_append (calls c es) (calls_from c (left c es) more)
+          ∙ (let r = h.none_full in omega arith);
     }
 
 -- the law
@@ -267,11 +277,13 @@ visit_left c Host m p i = absurd i
 is_left : (c : Config) (s : Seat) (es more : List Event) → Left c s (left c es) (left c (es ++ more)) → Known c (left c (es ++ more)).now
     → (Holds c (left c es).now s → CountsAreLeft c es (es ++ more)) → IsLeft c s es (es ++ more)
 is_left c s es more l known counts =
-    let p = protocol_of c (left c (es ++ more)).now known.orderly in
+    let p = protocol_of c (left c (es ++ more)).now known in
     record {
       own = l.own;
       in_call = λ k is call. record {
-        gate = (in_call_gate c (left c (es ++ more)).now k known (subst (λ (t : Seat). IsInCall (left c (es ++ more)).now t) is (still_calls c s (left c es) (left c (es ++ more)) l.own call))).1;
+        gate =
+            (in_call_gate c (left c (es ++ more)).now k known
+            (subst (λ (t : Seat). IsInCall (left c (es ++ more)).now t) is (still_calls c s (left c es) (left c (es ++ more)) l.own call))).1;
         mapped = l.mapped call;
       };
       turn = λ holds. (l.turn holds, counts holds);

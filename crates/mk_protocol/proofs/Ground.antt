@@ -72,6 +72,33 @@ with_quarantine w p n cell =
       allocations = map (freed_where_it_stands w.now.words cell) w.allocations;
     }
 
+-- the ground behind a `head`, a `used`, a `mark` and a `take`, by what decides where a New's place is
+
+abbrev pub headed : Config → World → Flight → ℕ → ℕ → Bool → Ground
+headed c w f p n b =
+    record (ground_of w) {
+      pages = with_header w.now.words p n;
+      placing = if b then w.now.seats.holding.placing else chosen w.now.seats.holding.placing (place_now c w.now f);
+    }
+
+abbrev pub used_up : Config → World → Flight → ℕ → ℕ → Bool → Ground
+used_up c w f p n b =
+    record (ground_of w) {
+      pages = with_used w.now.words p n;
+      placing = if b then w.now.seats.holding.placing else taken w.now.seats.holding.placing (place_now c w.now f);
+    }
+
+abbrev pub marked : Config → World → Flight → Bool → Ground
+marked c w f b =
+    record (ground_of w) { placing = if b then chosen w.now.seats.holding.placing (place_now c w.now f) else w.now.seats.holding.placing }
+
+abbrev pub begun_by : World → Bool → Ground
+begun_by w b =
+    record (ground_of w) {
+      placing = (if b then nothing_done else w.now.seats.holding).placing;
+      run = (if b then nothing_done else w.now.seats.holding).freed;
+    }
+
 -- where a seat steps whose call is f
 pub data GroundStep (c : Config) (w : World) (f : Flight) : Ground → Type 0 where
   Rests : GroundStep c w f (ground_of w)
@@ -82,12 +109,15 @@ pub data GroundStep (c : Config) (w : World) (f : Flight) : Ground → Type 0 wh
   Unmaps : (p n : ℕ) → unmaps w.now.words w.now.seats.holding.freed p n ≡ true → phase_of w.now.words ≢ 4
       → GroundStep c w f (record (ground_of w) { pages = with_header w.now.words p n; placing = chosen w.now.seats.holding.placing (place_now c w.now f) })
   Empties : (p n : ℕ) → empties w.now.words p n ≡ true → phase_of w.now.words ≡ 4 → GroundStep c w f (record (ground_of w) { pages = with_header w.now.words p n })
-  TakesCell : (p n : ℕ) → is_used_once w.now.seats.holding.placing ≡ false → takes_cell w.now.words (object_made c f.op) (place_now c w.now f) p n ≡ true → phase_of w.now.words ≢ 4
+  TakesCell : (p n : ℕ) → is_used_once w.now.seats.holding.placing ≡ false
+      → takes_cell w.now.words (object_made c f.op) (place_now c w.now f) p n ≡ true → phase_of w.now.words ≢ 4
       → GroundStep c w f (record (ground_of w) { pages = with_used w.now.words p n; placing = taken w.now.seats.holding.placing (place_now c w.now f) })
   GivesBack : (p n : ℕ) → gives_back w.now.words p n ≡ true → phase_of w.now.words ≡ 4 → GroundStep c w f (record (ground_of w) { pages = with_used w.now.words p n })
-  Frees : (p n : ℕ) (cell : Option Cell) → cell_freed c.pages w.now.words f p n ≡ cell → frees w.now.words (target c.pages w.now.words f) p n ≡ true → phase_of w.now.words ≢ 4
+  Frees : (p n : ℕ) (cell : Option Cell) → cell_freed c.pages w.now.words f p n ≡ cell → frees w.now.words (target c.pages w.now.words f) p n ≡ true
+      → phase_of w.now.words ≢ 4
       → GroundStep c w f (with_quarantine w p n cell)
-  Snapshots : (p n : ℕ) (cell : Option Cell) → cell_freed c.pages w.now.words f p n ≡ cell → takes_snapshot w.now.words p n ≡ true → GroundStep c w f (with_quarantine w p n cell)
+  Snapshots : (p n : ℕ) (cell : Option Cell) → cell_freed c.pages w.now.words f p n ≡ cell → takes_snapshot w.now.words p n ≡ true
+      → GroundStep c w f (with_quarantine w p n cell)
   Drops : (p n : ℕ) (cell : Option Cell) → cell_freed c.pages w.now.words f p n ≡ cell → drops w.now.words p (n % 2 ^ 32) (n / 2 ^ 32) ≡ true → phase_of w.now.words ≡ 4
       → GroundStep c w f (with_quarantine w p n cell)
   Grants : is_undecided_new f ≡ true → is_used_once w.now.seats.holding.placing ≡ true
@@ -111,7 +141,8 @@ pub reg_ground : (w : Words) (k r : ℕ) (a : Access) → KeepsGround w (accesse
 reg_ground w k r Load = record { pages = refl; freed = refl; snapshot = refl }
 reg_ground w k r _ = record { pages = refl; freed = refl; snapshot = refl }
 
-rests : (c : Config) (w : World) (f : Flight) (x : Words) → KeepsGround w.now.words x → GroundStep c w f (record (ground_of w) { pages = x.pages; freed = x.freed; snapshot = x.snapshot })
+rests : (c : Config) (w : World) (f : Flight) (x : Words) → KeepsGround w.now.words x
+    → GroundStep c w f (record (ground_of w) { pages = x.pages; freed = x.freed; snapshot = x.snapshot })
 rests c w f x g =
     subst (λ (ps : List Page). GroundStep c w f (record (ground_of w) { pages = ps; freed = x.freed; snapshot = x.snapshot })) (sym g.pages)
     (subst (λ (fs : List ℕ). GroundStep c w f (record (ground_of w) { freed = fs; snapshot = x.snapshot })) (sym g.freed)
@@ -120,7 +151,7 @@ rests c w f x g =
 -- the kinds that go by the phase
 
 head_step : (c : Config) (w : World) (f : Flight) (p n : ℕ) → may_head c w.now f p n ≡ true
-    → GroundStep c w f (record (ground_of w) { pages = with_header w.now.words p n; placing = if is_phase w.now.words 4 then w.now.seats.holding.placing else chosen w.now.seats.holding.placing (place_now c w.now f) })
+    → GroundStep c w f (headed c w f p n (is_phase w.now.words 4))
 head_step c w f p n h = by (is_phase w.now.words 4) refl h
   where
     carved : Bool
@@ -130,25 +161,27 @@ head_step c w f p n h = by (is_phase w.now.words 4) refl h
     unmapped = unmaps w.now.words w.now.seats.holding.freed p n
 
     by : (b : Bool) → is_phase w.now.words 4 ≡ b → (if b then empties w.now.words p n else carved || unmapped) ≡ true
-        → GroundStep c w f (record (ground_of w) { pages = with_header w.now.words p n; placing = if b then w.now.seats.holding.placing else chosen w.now.seats.holding.placing (place_now c w.now f) })
+        → GroundStep c w f (headed c w f p n b)
     by true e k = Empties p n k (eqb-true (phase_of w.now.words) 4 e)
-    by false e k = elim (or_cases carved unmapped k) [ inl a ↦ Carves p n a (eqb-false (phase_of w.now.words) 4 e) | inr a ↦ Unmaps p n a (eqb-false (phase_of w.now.words) 4 e) ]
+    by false e k =
+        elim (or_cases carved unmapped k) [ inl a ↦ Carves p n a (eqb-false (phase_of w.now.words) 4 e) | inr a ↦ Unmaps p n a (eqb-false (phase_of w.now.words) 4 e) ]
 
 used_step : (c : Config) (w : World) (f : Flight) (p n : ℕ) → may_use c w.now f p n ≡ true
-    → GroundStep c w f (record (ground_of w) { pages = with_used w.now.words p n; placing = if is_phase w.now.words 4 then w.now.seats.holding.placing else taken w.now.seats.holding.placing (place_now c w.now f) })
+    → GroundStep c w f (used_up c w f p n (is_phase w.now.words 4))
 used_step c w f p n h = by (is_phase w.now.words 4) refl h
   where
     takes : Bool
     takes = takes_cell w.now.words (object_made c f.op) (place_now c w.now f) p n
 
     by : (b : Bool) → is_phase w.now.words 4 ≡ b → (if b then gives_back w.now.words p n else not (is_used_once w.now.seats.holding.placing) && takes) ≡ true
-        → GroundStep c w f (record (ground_of w) { pages = with_used w.now.words p n; placing = if b then w.now.seats.holding.placing else taken w.now.seats.holding.placing (place_now c w.now f) })
+        → GroundStep c w f (used_up c w f p n b)
     by true e k = GivesBack p n k (eqb-true (phase_of w.now.words) 4 e)
     by false e k =
         let both = and_parts (not (is_used_once w.now.seats.holding.placing)) takes k in
         TakesCell p n (not-true (is_used_once w.now.seats.holding.placing) both.0) both.1 (eqb-false (phase_of w.now.words) 4 e)
 
-quar_step : (c : Config) (w : World) (f : Flight) (p n : ℕ) → may_quarantine c w.now f p n ≡ true → GroundStep c w f (with_quarantine w p n (cell_freed c.pages w.now.words f p n))
+quar_step : (c : Config) (w : World) (f : Flight) (p n : ℕ) → may_quarantine c w.now f p n ≡ true
+    → GroundStep c w f (with_quarantine w p n (cell_freed c.pages w.now.words f p n))
 quar_step c w f p n h = by (is_phase w.now.words 4) refl h
   where
     frees_it : Bool
@@ -166,20 +199,20 @@ quar_step c w f p n h = by (is_phase w.now.words 4) refl h
     ]
 
 mark_step : (c : Config) (w : World) (f : Flight) (p n : ℕ)
-    → GroundStep c w f (record (ground_of w) { placing = if marks_place w.now.words (object_made c f.op) (place_now c w.now f) p n then chosen w.now.seats.holding.placing (place_now c w.now f) else w.now.seats.holding.placing })
+    → GroundStep c w f (marked c w f (marks_place w.now.words (object_made c f.op) (place_now c w.now f) p n))
 mark_step c w f p n = by (marks_place w.now.words (object_made c f.op) (place_now c w.now f) p n) refl
   where
     by : (b : Bool) → marks_place w.now.words (object_made c f.op) (place_now c w.now f) p n ≡ b
-        → GroundStep c w f (record (ground_of w) { placing = if b then chosen w.now.seats.holding.placing (place_now c w.now f) else w.now.seats.holding.placing })
+        → GroundStep c w f (marked c w f b)
     by true e = Places p n e
     by false e = Rests
 
 take_step : (c : Config) (w : World) (f : Flight) → f.stage ≡ stage.Idle
-    → GroundStep c w f (record (ground_of w) { placing = (if w.now.words.turn == 0 then nothing_done else w.now.seats.holding).placing; run = (if w.now.words.turn == 0 then nothing_done else w.now.seats.holding).freed })
+    → GroundStep c w f (begun_by w (w.now.words.turn == 0))
 take_step c w f idle = by (w.now.words.turn == 0) refl
   where
     by : (b : Bool) → (w.now.words.turn == 0) ≡ b
-        → GroundStep c w f (record (ground_of w) { placing = (if b then nothing_done else w.now.seats.holding).placing; run = (if b then nothing_done else w.now.seats.holding).freed })
+        → GroundStep c w f (begun_by w b)
     by true e = Starts (eqb-true w.now.words.turn 0 e) idle
     by false e = Rests
 
@@ -195,7 +228,8 @@ ground_step c w seat (step.Take o) h = take_step c w (flight_of w.now seat) (tak
 ground_step c w seat step.Give h = Gives h.holder (give_phase (phase_of w.now.words) h.phase)
 ground_step c w seat step.Reg h =
     rests c w (flight_of w.now seat) _
-    (reg_ground w.now.words (caller_number seat) (register_met (flight_of w.now seat) (flight_of w.now seat).stage) (reg_access (flight_of w.now seat) (flight_of w.now seat).stage))
+    (reg_ground w.now.words (caller_number seat) (register_met (flight_of w.now seat) (flight_of w.now seat).stage)
+    (reg_access (flight_of w.now seat) (flight_of w.now seat).stage))
 ground_step c w seat (step.Tally n v) h = rests c w (flight_of w.now seat) _ (tally_ground w.now.words n v)
 ground_step c w seat (step.Head p n) h = head_step c w (flight_of w.now seat) p n h.holder
 ground_step c w seat (step.Used p n) h = used_step c w (flight_of w.now seat) p n h.holder

@@ -23,7 +23,7 @@ use Rattle.mk_core.specs.Moments.{Moment, flight_of, is_number_of, is_held, othe
 use Rattle.mk_core.specs.Accesses.{caller_number, register_met, reg_access, tally_word}
 use Rattle.mk_core.proofs.AllBelow.{all_below-at}
 use Rattle.mk_protocol.proofs.Actors.{Meets}
-use Rattle.mk_protocol.proofs.Sorts.{Behind}
+use Rattle.mk_protocol.proofs.SameWords.{Behind}
 
 -- what becomes of the pages
 pub data HeaderStep (w : Words) : List Page → Type 0 where
@@ -62,11 +62,13 @@ header_step c m seat (step.Used p v) k h lt ne one = SetsUsed p v
 header_step c m seat (step.Tally n v) k h lt ne one = subst (λ (ps : List Page). HeaderStep m.words ps) (sym (tally_pages m.words n v)) KeepsPages
 header_step c m seat step.Reg k h lt ne one =
     subst (λ (ps : List Page). HeaderStep m.words ps)
-    (sym (reg_pages m.words (caller_number seat) (register_met (flight_of m seat) (flight_of m seat).stage) (reg_access (flight_of m seat) (flight_of m seat).stage))) KeepsPages
+    (sym (reg_pages m.words (caller_number seat) (register_met (flight_of m seat) (flight_of m seat).stage)
+    (reg_access (flight_of m seat) (flight_of m seat).stage))) KeepsPages
 header_step c m seat _ k h lt ne one = KeepsPages
 
 -- a page's header behind a change of one page
-pub page_set : (ps : List Page) (p q : ℕ) (x : Page) → (P : ℕ → Type 0) → (p < length ps → P x.header) → P (slice_index_or ps q free_page).header → P (slice_index_or (slice_set ps p x) q free_page).header
+pub page_set : (ps : List Page) (p q : ℕ) (x : Page) → (P : ℕ → Type 0) → (p < length ps → P x.header) → P (slice_index_or ps q free_page).header
+    → P (slice_index_or (slice_set ps p x) q free_page).header
 page_set ps p q x P mine other = elim (cases_eq q p) [
   | inl e ↦ elim (cases_lt p (length ps)) [
     | inl lt ↦ subst (λ (y : Page). P y.header) (sym (ap (λ j. slice_index_or (slice_set ps p x) j free_page) e ∙ get_or-set_same ps p x free_page lt)) (mine lt)
@@ -76,13 +78,15 @@ page_set ps p q x P mine other = elim (cases_eq q p) [
 ]
 
 -- a header stays where only the used word changes
-pub used_set : (w : Words) (p q n : ℕ) → (P : ℕ → Type 0) → P (header_at w q) → P (slice_index_or (slice_set w.pages p (record { header = header_at w p; used = n })) q free_page).header
+pub used_set : (w : Words) (p q n : ℕ) → (P : ℕ → Type 0) → P (header_at w q)
+    → P (slice_index_or (slice_set w.pages p (record { header = header_at w p; used = n })) q free_page).header
 used_set w p q n P is = elim (cases_eq q p) [
   | inl e ↦ page_set w.pages p q (record { header = header_at w p; used = n }) P (λ lt. subst (λ i. P (header_at w i)) e is) is
   | inr ne ↦ subst (λ (y : Page). P y.header) (sym (get_or-set_other w.pages p q (record { header = header_at w p; used = n }) free_page ne)) is
 ]
 
-pub stays_mapped : (w : Words) (ps : List Page) (q : ℕ) → HeaderStep w ps → is_unmapped_header (header_in w q) ≡ false → is_unmapped_header (header_of (slice_index_or ps q free_page).header) ≡ false
+pub stays_mapped : (w : Words) (ps : List Page) (q : ℕ) → HeaderStep w ps → is_unmapped_header (header_in w q) ≡ false
+    → is_unmapped_header (header_of (slice_index_or ps q free_page).header) ≡ false
 stays_mapped w ps q KeepsPages h = h
 stays_mapped w ps q (SetsUsed p n) h = used_set w p q n (λ y. is_unmapped_header (header_of y) ≡ false) h
 stays_mapped w ps q (SetsHeader p v is) h = page_set w.pages p q (record { header = v; used = used_at w p }) (λ y. is_unmapped_header (header_of y) ≡ false) (λ lt. is) h

@@ -12,8 +12,8 @@ use Rattle.mk_core.specs.Moments.{Moment, flight_of}
 use Rattle.mk_core.specs.Accesses.{caller_number, register_met, reg_access}
 use Rattle.mk_core.specs.History.{World, first_world, world_behind, left_from, left}
 use Rattle.mk_core.specs.HeldGates.{is_hold_of, changes_gate, is_gate_held_from, is_gate_held}
-use Rattle.mk_protocol.proofs.Sorts.{Behind, reg_keeps, tally_keeps}
-use Rattle.mk_protocol.proofs.Protocols.{at_first}
+use Rattle.mk_protocol.proofs.SameWords.{Behind, reg_keeps, tally_keeps}
+use Rattle.mk_protocol.proofs.OrderlyLists.{at_first}
 
 -- a gate that changes has the value that was set
 unchanged : (gs : List ℕ) (i : ℕ) → not (slice_index gs i == slice_index gs i) ≡ true → ⊥
@@ -38,7 +38,8 @@ changed gs j x i h = elim (cases_eq i j) [
 
 -- a value that isn't 2, and an exchange of 0 for a value
 
-set_told : (gs : List ℕ) (j x i : ℕ) → (x == 2) ≡ false → not (slice_index (slice_set gs j x) i == slice_index gs i) ≡ true → (slice_index (slice_set gs j x) i == 2) ≡ false
+set_told : (gs : List ℕ) (j x i : ℕ) → (x == 2) ≡ false → not (slice_index (slice_set gs j x) i == slice_index gs i) ≡ true
+    → (slice_index (slice_set gs j x) i == 2) ≡ false
 set_told gs j x i other h = ap (λ y. y == 2) (changed gs j x i h).now ∙ other
 
 exchanged : (n g : ℕ) → (if g == 0 then n else g) ≢ g → (if g == 0 then n else g) ≡ n
@@ -63,7 +64,8 @@ gate_told c m seat (step.Hold j) i h =
     ap (λ y. y == 2) e.1 ∙ sym (eq-eqb i j e.0)
 gate_told c m seat (step.Open j) i h = set_told m.words.gates j 0 i refl h
 gate_told c m seat step.Reg i h =
-    let same = (reg_keeps m.words (caller_number seat) (register_met (flight_of m seat) (flight_of m seat).stage) (reg_access (flight_of m seat) (flight_of m seat).stage)).gates in
+    let same =
+    (reg_keeps m.words (caller_number seat) (register_met (flight_of m seat) (flight_of m seat).stage) (reg_access (flight_of m seat) (flight_of m seat).stage)).gates in
     absurd (unchanged m.words.gates i (subst (λ (gs : List ℕ). not (slice_index gs i == slice_index m.words.gates i) ≡ true) same h))
 gate_told c m seat (step.Tally n v) i h =
     absurd (unchanged m.words.gates i (subst (λ (gs : List ℕ). not (slice_index gs i == slice_index m.words.gates i) ≡ true) (tally_keeps m.words n v).gates h))
@@ -85,7 +87,8 @@ held_from : (c : Config) (w : World) (es : List Event) (i : ℕ) (held : Bool) �
     → is_gate_held_from c i w held es ≡ (slice_index (left_from c w es).now.words.gates i == 2)
 unfolding left_from is_gate_held_from
 held_from c w [] i held is = is
-held_from c w (e ∷ es) i held is = held_from c (world_behind c w e) es i (if changes_gate i w (world_behind c w e) then is_hold_of i e.step else held) (held_behind c w e i held is)
+held_from c w (e ∷ es) i held is =
+    held_from c (world_behind c w e) es i (if changes_gate i w (world_behind c w e) then is_hold_of i e.step else held) (held_behind c w e i held is)
 
 pub gates_tell_holds : (c : Config) (es : List Event) (i : ℕ) → (slice_index (left c es).now.words.gates i ≡ 2) ↔ (is_gate_held c i es ≡ true)
 gates_tell_holds c es i =

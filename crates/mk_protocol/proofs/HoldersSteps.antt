@@ -33,7 +33,8 @@ where_some false x h = cc
 -- only an undecided New has a place, and only an undecided Free a target
 
 pub placed_new : (c : Config) (m : Moment) (f : Flight) (place : Place) → place_now c m f ≡ Some place → is_undecided_new f ≡ true
-placed_new c m f place e = (where_some (is_undecided_new f) (place_in c.resident m.words.pages (object_made c f.op) m.seats.holding.placing) (ap (λ (x : Option Place). is_some x) e)).0
+placed_new c m f place e =
+    (where_some (is_undecided_new f) (place_in c.resident m.words.pages (object_made c f.op) m.seats.holding.placing) (ap (λ (x : Option Place). is_some x) e)).0
 
 pub target_free : (pages : ℕ) (w : Words) (f : Flight) → is_some (target pages w f) ≡ true → is_undecided_free f ≡ true
 target_free pages w f h = (where_some (is_undecided_free f) (pointed_cell pages w.pages f.p) h).0
@@ -97,6 +98,7 @@ quarantines pages w f h p v = by (cell_freed pages w f p v) refl
     by None e = Goes _ refl refl
 
 -- `full` comes where there is no place
-pub full_unplaced : (resident : ℕ) (pages : List Page) (o : Object) (placing : Placing) (cycle : OwnCycle) → is_full resident pages o placing cycle ≡ true → placing ≡ Unplaced
+pub full_unplaced : (resident : ℕ) (pages : List Page) (o : Object) (placing : Placing) (cycle : OwnCycle)
+    → is_full resident pages o placing cycle ≡ true → placing ≡ Unplaced
 full_unplaced resident pages o Unplaced cycle h = refl
 full_unplaced resident pages o _ cycle h = cc

@@ -23,7 +23,7 @@ use Rattle.mk_core.proofs.Conditions.{enabled_meets}
 use Rattle.mk_core.proofs.Lengths.{zero_lengths, accessed_lengths}
 use Rattle.mk_protocol.proofs.Markers.{marker_set}
 use Rattle.mk_protocol.proofs.Actors.{Meets}
-use Rattle.mk_protocol.proofs.Protocols.{at_first}
+use Rattle.mk_protocol.proofs.OrderlyLists.{at_first}
 use Rattle.mk_protocol.proofs.Known.{Known, known_behind, known_at_first}
 use Rattle.mk_protocol.proofs.OthersMoves.{WorldBehind}
 use Rattle.mk_protocol.proofs.Ground.{ground_of, ground_step}
@@ -37,8 +37,10 @@ pub record InHeap (c : Config) (m : Moment) : Type 0 where
   pub places : PlacesFit c m
   pub markers : (k : ℕ) → MarkerFits c (marker_of m k)
 
-own_fits : (c : Config) (m : Moment) (k : ℕ) (x : Step) → Meets c m (Marker k) x → InHeap c m → MarkerFits c (marker_behind c (found c m (record { seat = Marker k; step = x })) x (marker_of m k))
-own_fits c m k x h in_heap = marker_fits_behind c (found c m (record { seat = Marker k; step = x })) x (marker_of m k) (looked x) (claimed x h.range) h.marker (in_heap.markers k)
+own_fits : (c : Config) (m : Moment) (k : ℕ) (x : Step) → Meets c m (Marker k) x → InHeap c m
+    → MarkerFits c (marker_behind c (found c m (record { seat = Marker k; step = x })) x (marker_of m k))
+own_fits c m k x h in_heap =
+    marker_fits_behind c (found c m (record { seat = Marker k; step = x })) x (marker_of m k) (looked x) (claimed x h.range) h.marker (in_heap.markers k)
   where
     looked : (x : Step) (p : ℕ) → x ≡ step.Mlook (word.Head p) → RunFits c p (found c m (record { seat = Marker k; step = x }))
     looked x p e = subst (λ (y : Step). RunFits c p (found c m (record { seat = Marker k; step = y }))) (sym e) (in_heap.runs p)
@@ -48,7 +50,8 @@ own_fits c m k x h in_heap = marker_fits_behind c (found c m (record { seat = Ma
         let r = subst (λ (y : Step). is_in_range c (Marker k) (flight_of m (Marker k)) y ≡ true) e range in
         ltb-true p c.pages (and_parts (nat_lt p c.pages) (nat_lt i 32) r).0
 
-markers_fit : (c : Config) (w : World) (seat : Seat) (x : Step) → InHeap c w.now → Meets c w.now seat x → (k : ℕ) → MarkerFits c (marker_of (WorldBehind c w seat x).now k)
+markers_fit : (c : Config) (w : World) (seat : Seat) (x : Step) → InHeap c w.now → Meets c w.now seat x → (k : ℕ)
+    → MarkerFits c (marker_of (WorldBehind c w seat x).now k)
 markers_fit c w (Caller j) x in_heap h k = in_heap.markers k
 markers_fit c w Host x in_heap h k = in_heap.markers k
 markers_fit c w (Marker j) x in_heap h k =
@@ -59,7 +62,9 @@ in_heap_behind c w seat x known in_heap h =
     let e : Event = record { seat = seat; step = x } in
     record {
       lengths = accessed_lengths c.pages w.now.words (reached c w.now e) (access c w.now e) in_heap.lengths;
-      runs = runs_behind c w (flight_of w.now seat) (ground_of (WorldBehind c w seat x)) (λ place now. place_fits_now c w.now seat x place in_heap.lengths.pages in_heap.places h now) in_heap.runs (ground_step c w seat x h);
+      runs =
+          runs_behind c w (flight_of w.now seat) (ground_of (WorldBehind c w seat x))
+          (λ place now. place_fits_now c w.now seat x place in_heap.lengths.pages in_heap.places h now) in_heap.runs (ground_step c w seat x h);
       places = places_behind c w seat x known in_heap.lengths.pages in_heap.places h;
       markers = markers_fit c w seat x in_heap h;
     }

@@ -1,5 +1,5 @@
 -- Each move keeps all in order.
-use Rattle.std.proofs.Common.{◌≡◌, ◌≢◌, ◌⊎◌, ℕ, ◌+◌, ◌-◌, ◌*◌, ◌%◌, ◌^◌, ◌<◌, ◌≤◌, true, false, List, length, length-set, refl, sym, ◌∙◌, ap, subst, inl, inr, arith}
+use Rattle.std.proofs.Common.{◌≡◌, ◌≢◌, ◌⊎◌, ℕ, ◌+◌, ◌-◌, ◌*◌, ◌%◌, ◌^◌, ◌<◌, ◌≤◌, true, List, length, length-set, refl, sym, ◌∙◌, ap, subst, inl, inr, arith}
 use Rattle.std.specs.Prelude.{slice_index, slice_index_or, slice_set}
 use Rattle.std.proofs.lemmas.Bool.{cases_eq}
 use Rattle.std.proofs.lemmas.List.{get_or-set_same, get_or-set_other}
@@ -16,10 +16,11 @@ use Rattle.mk_core.specs.StopConditions.{is_attending}
 use Rattle.mk_protocol.proofs.Standings.{Standing, Resting, InCall, standing, Shows, shows_taken, shows_given, shows_held, shows_opened}
 use Rattle.mk_protocol.proofs.Services.{Served, Service, Goes, service_stands, service_rests, served_on, nothing_served}
 use Rattle.mk_protocol.proofs.Views.{View, flight_in, gate_in, marker_in, flight_at, flights_with, HoldsTurn}
-use Rattle.mk_protocol.proofs.Moves.{IdlesOutside, PhaseStep, Begins, Wants, Closes, Releases, Ends, Stops, Move, Stays, Enters, GoesOn, Leaves, Takes, Gives, Works, Holds, Opens, Phases, Attends, Quits, Scans}
+use Rattle.mk_protocol.proofs.Moves.{IdlesOutside, Move, Stays, Enters, GoesOn, Leaves, Takes, Gives, Works, Holds, Opens, Phases, Attends, Quits, Scans}
 use Rattle.mk_protocol.proofs.Shown.{AllShow, all_but_flight, all_but_gate, all_but_both, all_but_seat, length_with}
-use Rattle.mk_protocol.proofs.Markers.{count_in, counted_same, counted_more, counted_less, marker_set, up_one, down_four, up_five, up_eight, down_eight}
+use Rattle.mk_protocol.proofs.Markers.{count_in, counted_same, counted_more, counted_less, marker_set, up_eight, down_eight}
 use Rattle.mk_protocol.proofs.Orderly.{Orderly, shows_at, turn_of, holders_flight, holder_shows, giver_shows, taker_shows, taker_number, few_in}
+use Rattle.mk_protocol.proofs.PhaseKept.{phase_kept}
 
 flights_kept : (c : Config) (v : View) (seat : Seat) (f : Flight) → Orderly c v → length (flights_with v.flights seat f) ≡ c.callers
 flights_kept c v seat f h = length_with v.flights seat f ∙ h.flights
@@ -51,7 +52,8 @@ works_served c v seat f i h t s =
 works_shown : (c : Config) (v : View) (seat : Seat) (f : Flight) (i : Holding) → Orderly c v → HoldsTurn c v seat → Service (flight_at v.flights seat) v.holding f i
     → AllShow c.callers v.turn v.gates (flights_with v.flights seat f)
 works_shown c v seat f i h t s =
-    all_but_seat c v.turn seat v.gates v.flights f (holder_shows c v seat f h t (λ is. service_stands (flight_at v.flights seat) v.holding f i is s)) (λ b lb ne. h.each b lb)
+    all_but_seat c v.turn seat v.gates v.flights f (holder_shows c v seat f h t (λ is. service_stands (flight_at v.flights seat) v.holding f i is s))
+    (λ b lb ne. h.each b lb)
 
 -- a gate of another is set
 gate_shown : (c : Config) (v : View) (j x : ℕ) → c.callers ≤ 16 → Orderly c v → j < c.callers → Shows v.turn x j (standing (flight_in v j))
@@ -64,64 +66,6 @@ held_or gs j b lt other = elim (cases_eq b j) [
   | inl e ↦ ap (λ i. slice_index (slice_set gs j 2) i) e ∙ get_or-set_same gs j 2 0 lt
   | inr ne ↦ get_or-set_other gs j b 2 0 ne ∙ other ne
 ]
-
--- what a phase step leaves
-record PhaseKept (c : Config) (v : View) (p : ℕ) : Type 0 where
-  phase : p ≡ p % 8 + 8 * count_in v.markers
-  low : p % 8 ≤ 5
-  stopped : p % 8 ≡ 3 → (k : ℕ) → k < c.callers → v.turn ≢ 1 + k → gate_in v k ≡ 2
-  attends : (k : ℕ) → is_attending (marker_in v k).presence ≡ true → (p % 8 ≡ 1) ⊎ (p % 8 ≡ 2)
-
-phase_kept : (c : Config) (v : View) (seat : Seat) (p : ℕ) → Orderly c v → HoldsTurn c v seat → PhaseStep c v seat p → PhaseKept c v p
-phase_kept c v seat p h t (Begins z) =
-    let n = up_one v.phase (count_in v.markers) (v.phase % 8) h.phase h.low (few_in c v h) (omega arith) in
-    record {
-      phase = omega (arith, n.0, n.1);
-      low = omega (arith, n.0);
-      stopped = λ e. absurd (omega (arith, n.0));
-      attends = λ k a. elim (h.attends k a) [ inl e ↦ absurd (omega arith) | inr e ↦ absurd (omega arith) ];
-    }
-phase_kept c v seat p h t (Wants z) =
-    let n = up_one v.phase (count_in v.markers) (v.phase % 8) h.phase h.low (few_in c v h) (omega arith) in
-    record {
-      phase = omega (arith, n.0, n.1);
-      low = omega (arith, n.0);
-      stopped = λ e. absurd (omega (arith, n.0));
-      attends = λ k a. inr (omega (arith, n.0));
-    }
-phase_kept c v seat p h t (Closes z held none) =
-    let n = up_one v.phase (count_in v.markers) (v.phase % 8) h.phase h.low (few_in c v h) (omega arith) in
-    let turn = turn_of c v seat h t in
-    record {
-      phase = omega (arith, n.0, n.1);
-      low = omega (arith, n.0);
-      stopped = λ e k lt ne. held k lt (λ is. ne (omega arith));
-      attends = λ k a. let f : true ≡ false = sym a ∙ none k in cc;
-    }
-phase_kept c v seat p h t (Releases z) =
-    let n = up_one v.phase (count_in v.markers) (v.phase % 8) h.phase h.low (few_in c v h) (omega arith) in
-    record {
-      phase = omega (arith, n.0, n.1);
-      low = omega (arith, n.0);
-      stopped = λ e. absurd (omega (arith, n.0));
-      attends = λ k a. elim (h.attends k a) [ inl e ↦ absurd (omega arith) | inr e ↦ absurd (omega arith) ];
-    }
-phase_kept c v seat p h t (Ends z) =
-    let n = down_four v.phase (count_in v.markers) (v.phase % 8) h.phase (few_in c v h) z in
-    record {
-      phase = omega (arith, n.0, n.1);
-      low = omega (arith, n.0);
-      stopped = λ e. absurd (omega (arith, n.0));
-      attends = λ k a. elim (h.attends k a) [ inl e ↦ absurd (omega arith) | inr e ↦ absurd (omega arith) ];
-    }
-phase_kept c v seat p h t (Stops z) =
-    let n = up_five v.phase (count_in v.markers) (v.phase % 8) h.phase (few_in c v h) z in
-    record {
-      phase = omega (arith, n.0, n.1);
-      low = omega (arith, n.0);
-      stopped = λ e. absurd (omega (arith, n.0));
-      attends = λ k a. elim (h.attends k a) [ inl e ↦ absurd (omega arith) | inr e ↦ absurd (omega arith) ];
-    }
 
 -- a marker attends only in these phases, behind a change of one
 attends_set : (v : View) (p k : ℕ) (x : MarkerState) → (is_attending x.presence ≡ true → (v.phase % 8 ≡ 1) ⊎ (v.phase % 8 ≡ 2))
@@ -159,7 +103,9 @@ kept c v seat n small h (GoesOn {k} f lt was is) =
       gates = h.gates;
       markers = h.markers;
       turn = h.turn;
-      each = all_but_flight c.callers v.turn k v.gates v.flights f (omega (arith, h.flights)) (subst (λ (x : Standing). Shows v.turn (gate_in v k) k x) (sym is) s) (λ b lb ne. h.each b lb);
+      each =
+          all_but_flight c.callers v.turn k v.gates v.flights f (omega (arith, h.flights))
+          (subst (λ (x : Standing). Shows v.turn (gate_in v k) k x) (sym is) s) (λ b lb ne. h.each b lb);
       served = others_served c v k f h s.1;
       free = h.free;
       phase = h.phase;
@@ -177,7 +123,9 @@ kept c v seat n small h (Leaves {k} lt was) =
       gates = length-set v.gates k 0 ∙ h.gates;
       markers = h.markers;
       turn = h.turn;
-      each = all_but_both c.callers v.turn k 0 v.gates v.flights at_rest (omega (arith, h.gates)) (omega (arith, h.flights)) (λ e. absurd (omega arith), omega arith, λ e. refl, s.1) h.each;
+      each =
+          all_but_both c.callers v.turn k 0 v.gates v.flights at_rest (omega (arith, h.gates)) (omega (arith, h.flights))
+          (λ e. absurd (omega arith), omega arith, λ e. refl, s.1) h.each;
       served = others_served c v k at_rest h s.1;
       free = h.free;
       phase = h.phase;
@@ -194,7 +142,8 @@ kept c v seat n small h (Takes f z may) =
       markers = h.markers;
       turn = omega (arith, taker_number c v seat f may);
       each = all_but_seat c (1 + holder_number c seat) seat v.gates v.flights f (taker_shows c v seat f h z may)
-          (λ b lb ne. shows_taken (gate_in v b) b (holder_number c seat) (standing (flight_in v b)) ne (subst (λ t. Shows t (gate_in v b) b (standing (flight_in v b))) z (h.each b lb)));
+          (λ b lb ne. shows_taken (gate_in v b) b (holder_number c seat) (standing (flight_in v b)) ne
+          (subst (λ t. Shows t (gate_in v b) b (standing (flight_in v b))) z (h.each b lb)));
       served = nothing_served _ _;
       free = λ e. absurd (omega arith);
       phase = h.phase;
@@ -246,7 +195,9 @@ kept c v seat n small h (Holds j t lj ne was) =
       gates = length-set v.gates j 2 ∙ h.gates;
       markers = h.markers;
       turn = h.turn;
-      each = gate_shown c v j 2 small h lj (shows_held v.turn j (holder_number c seat) (standing (flight_in v j)) ne turn (subst (λ x. Shows v.turn x j (standing (flight_in v j))) was (h.each j lj)));
+      each =
+          gate_shown c v j 2 small h lj
+          (shows_held v.turn j (holder_number c seat) (standing (flight_in v j)) ne turn (subst (λ x. Shows v.turn x j (standing (flight_in v j))) was (h.each j lj)));
       served = h.served;
       free = λ e. absurd (omega arith);
       phase = h.phase;
@@ -263,7 +214,9 @@ kept c v seat n small h (Opens j t lj ne was open3) =
       gates = length-set v.gates j 0 ∙ h.gates;
       markers = h.markers;
       turn = h.turn;
-      each = gate_shown c v j 0 small h lj (shows_opened v.turn j (holder_number c seat) (standing (flight_in v j)) ne turn (subst (λ x. Shows v.turn x j (standing (flight_in v j))) was (h.each j lj)));
+      each =
+          gate_shown c v j 0 small h lj
+          (shows_opened v.turn j (holder_number c seat) (standing (flight_in v j)) ne turn (subst (λ x. Shows v.turn x j (standing (flight_in v j))) was (h.each j lj)));
       served = h.served;
       free = λ e. absurd (omega arith);
       phase = h.phase;

@@ -16,7 +16,7 @@ use Rattle.mk_core.proofs.Conditions.{enabled_meets}
 use Rattle.mk_protocol.proofs.Standings.{in_turn_told, under_turn_is, standing}
 use Rattle.mk_protocol.proofs.Views.{view_of, HoldsTurn}
 use Rattle.mk_protocol.proofs.Orderly.{Orderly}
-use Rattle.mk_protocol.proofs.Protocols.{not_astray, orderly_behind, orderly_at_first, at_first}
+use Rattle.mk_protocol.proofs.OrderlyLists.{not_astray, orderly_behind, orderly_at_first, at_first}
 use Rattle.mk_protocol.proofs.Operands.{HaveOperands, operands_behind}
 
 pub record Known (c : Config) (m : Moment) : Type 0 where

@@ -14,23 +14,27 @@ use Rattle.mk_core.specs.Readings.{is_in}
 abbrev pub count_in : List MarkerState → ℕ
 count_in xs = count_by is_in xs
 
-counted : (xs : List MarkerState) (k : ℕ) (x : MarkerState) → k < length xs → count_in (slice_set xs k x) + cond {A = ℕ} (is_in (slice_index_or xs k outside)) 1 0 ≡ count_in xs + cond {A = ℕ} (is_in x) 1 0
+counted : (xs : List MarkerState) (k : ℕ) (x : MarkerState) → k < length xs
+    → count_in (slice_set xs k x) + cond {A = ℕ} (is_in (slice_index_or xs k outside)) 1 0 ≡ count_in xs + cond {A = ℕ} (is_in x) 1 0
 counted xs k x lt = sum_by-set (λ (y : MarkerState). cond {A = ℕ} (is_in y) 1 0) xs k x outside lt
 
-pub counted_same : (xs : List MarkerState) (k : ℕ) (x : MarkerState) → k < length xs → x.presence ≡ (slice_index_or xs k outside).presence → count_in (slice_set xs k x) ≡ count_in xs
+pub counted_same : (xs : List MarkerState) (k : ℕ) (x : MarkerState) → k < length xs → x.presence ≡ (slice_index_or xs k outside).presence
+    → count_in (slice_set xs k x) ≡ count_in xs
 counted_same xs k x lt same =
     let s = counted xs k x lt in
     let e : cond {A = ℕ} (is_in x) 1 0 ≡ cond {A = ℕ} (is_in (slice_index_or xs k outside)) 1 0 = ap (λ (p : Presence). cond {A = ℕ} (not (is_out p)) 1 0) same in
     omega arith
 
-pub counted_more : (xs : List MarkerState) (k : ℕ) (x : MarkerState) → k < length xs → is_in (slice_index_or xs k outside) ≡ false → is_in x ≡ true → count_in (slice_set xs k x) ≡ count_in xs + 1
+pub counted_more : (xs : List MarkerState) (k : ℕ) (x : MarkerState) → k < length xs → is_in (slice_index_or xs k outside) ≡ false → is_in x ≡ true
+    → count_in (slice_set xs k x) ≡ count_in xs + 1
 counted_more xs k x lt was is =
     let s = counted xs k x lt in
     let a : cond {A = ℕ} (is_in (slice_index_or xs k outside)) 1 0 ≡ 0 = ap (λ b. cond {A = ℕ} b 1 0) was in
     let b : cond {A = ℕ} (is_in x) 1 0 ≡ 1 = ap (λ b. cond {A = ℕ} b 1 0) is in
     omega arith
 
-pub counted_less : (xs : List MarkerState) (k : ℕ) (x : MarkerState) → k < length xs → is_in (slice_index_or xs k outside) ≡ true → is_in x ≡ false → count_in (slice_set xs k x) + 1 ≡ count_in xs
+pub counted_less : (xs : List MarkerState) (k : ℕ) (x : MarkerState) → k < length xs → is_in (slice_index_or xs k outside) ≡ true → is_in x ≡ false
+    → count_in (slice_set xs k x) + 1 ≡ count_in xs
 counted_less xs k x lt was is =
     let s = counted xs k x lt in
     let a : cond {A = ℕ} (is_in (slice_index_or xs k outside)) 1 0 ≡ 1 = ap (λ b. cond {A = ℕ} b 1 0) was in

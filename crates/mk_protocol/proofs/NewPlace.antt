@@ -31,8 +31,7 @@ use Rattle.mk_protocol.proofs.Views.{View, view_of, flight_in, flight_at, flight
 use Rattle.mk_protocol.proofs.Moves.{Move, Enters, GoesOn, Leaves, Takes, Gives as GivesTurn, Works}
 use Rattle.mk_protocol.proofs.Orderly.{same_holder}
 use Rattle.mk_protocol.proofs.Actors.{Meets}
-use Rattle.mk_protocol.proofs.Sorts.{moves}
-use Rattle.mk_protocol.proofs.Protocols.{not_astray, actor_of}
+use Rattle.mk_protocol.proofs.OrderlyLists.{event_moves}
 use Rattle.mk_protocol.proofs.Known.{Known}
 use Rattle.mk_protocol.proofs.OthersMoves.{WorldBehind}
 use Rattle.mk_protocol.proofs.Ground.{Ground, GroundStep, Starts, Gives, Carves, Unmaps, TakesCell, Grants, Places, ground_step}
@@ -53,15 +52,15 @@ PlacesFit c m =
 
 -- the place of first fit does, and so that of the step
 
-first_fits : (resident : ℕ) (pages : List Page) (o : Object) (place : Place) → place_on_pages resident pages o ≡ Some place → is_small_object o ≡ false → place.page + run_pages_of o.words ≤ length pages
+first_fits : (resident : ℕ) (pages : List Page) (o : Object) (place : Place) → place_on_pages resident pages o ≡ Some place
+    → is_small_object o ≡ false → place.page + run_pages_of o.words ≤ length pages
 first_fits resident pages o place is large = (run_place_is resident o.words o.leaf pages place (leb-false o.words 32 large) is).free.within
 
-same_some : (x y : Place) → Some x ≡ Some y → x ≡ y
-same_some x y e = cc
-
-in_fits : (c : Config) (pages : List Page) (o : Op) (placing : Placing) (place : Place) → length pages ≡ c.pages → ((y : Place) → held_place placing ≡ Some y → PlaceFits c o y)
+in_fits : (c : Config) (pages : List Page) (o : Op) (placing : Placing) (place : Place) → length pages ≡ c.pages
+    → ((y : Place) → held_place placing ≡ Some y → PlaceFits c o y)
     → place_in c.resident pages (object_made c o) placing ≡ Some place → PlaceFits c o place
-in_fits c pages o Unplaced place count held is = λ large. subst (λ n. place.page + run_pages_of (object_made c o).words ≤ n) count (first_fits c.resident pages (object_made c o) place is large)
+in_fits c pages o Unplaced place count held is =
+    λ large. subst (λ n. place.page + run_pages_of (object_made c o).words ≤ n) count (first_fits c.resident pages (object_made c o) place is large)
 in_fits c pages o (Chosen y) place count held is = held place is
 in_fits c pages o (Used y) place count held is = held place is
 in_fits c pages o Granted place count held is = cc
@@ -99,7 +98,8 @@ ground_place c w f g x _ h = inl h
 
 -- an undecided New is one that was there, or there is no place
 
-set_new : (fs : List Flight) (k j : ℕ) (f : Flight) → (is_undecided_new f ≡ true → f ≡ slice_index_or fs k at_rest) → is_undecided_new (slice_index_or (slice_set fs k f) j at_rest) ≡ true
+set_new : (fs : List Flight) (k j : ℕ) (f : Flight) → (is_undecided_new f ≡ true → f ≡ slice_index_or fs k at_rest)
+    → is_undecided_new (slice_index_or (slice_set fs k f) j at_rest) ≡ true
     → slice_index_or (slice_set fs k f) j at_rest ≡ slice_index_or fs j at_rest
 set_new fs k j f same new = elim (cases_eq j k) [
   | inl e ↦ elim (cases_lt k (length fs)) [
@@ -145,13 +145,15 @@ new_was c v seat n j (Works f i t s) new = inl (by seat t s new)
 new_was c v seat n j _ new = inl refl
 
 -- the seat of an undecided New holds the turn
-pub new_holds : (c : Config) (m : Moment) (seat : Seat) (x : Step) → Meets c m seat x → is_undecided_new (flight_of m seat) ≡ true → (k : ℕ) × (k < c.callers) × (seat ≡ Caller k)
+pub new_holds : (c : Config) (m : Moment) (seat : Seat) (x : Step) → Meets c m seat x → is_undecided_new (flight_of m seat) ≡ true
+    → (k : ℕ) × (k < c.callers) × (seat ≡ Caller k)
 new_holds c m (Caller k) x h new = (k, ltb-true k c.callers h.seat, refl)
 new_holds c m (Marker k) x h new = cc
 new_holds c m Host x h new = cc
 
 -- the place of a step
-pub place_fits_now : (c : Config) (m : Moment) (seat : Seat) (x : Step) (place : Place) → length m.words.pages ≡ c.pages → PlacesFit c m → Meets c m seat x → place_now c m (flight_of m seat) ≡ Some place
+pub place_fits_now : (c : Config) (m : Moment) (seat : Seat) (x : Step) (place : Place) → length m.words.pages ≡ c.pages → PlacesFit c m
+    → Meets c m seat x → place_now c m (flight_of m seat) ≡ Some place
     → PlaceFits c (flight_of m seat).op place
 place_fits_now c m seat x place count fits h now =
     let is = now_is c m (flight_of m seat) place now in
@@ -160,9 +162,10 @@ place_fits_now c m seat x place count fits h now =
     in_fits c m.words.pages (flight_of m seat).op m.seats.holding.placing place count
     (λ y old. subst (λ (s : Seat). PlaceFits c (flight_of m s).op y) (sym own.2) (fits own.0 own.1 own_new y old)) is.1
 
-pub places_behind : (c : Config) (w : World) (seat : Seat) (x : Step) → Known c w.now → length w.now.words.pages ≡ c.pages → PlacesFit c w.now → Meets c w.now seat x → PlacesFit c (WorldBehind c w seat x).now
+pub places_behind : (c : Config) (w : World) (seat : Seat) (x : Step) → Known c w.now → length w.now.words.pages ≡ c.pages → PlacesFit c w.now
+    → Meets c w.now seat x → PlacesFit c (WorldBehind c w seat x).now
 places_behind c w seat x known count fits h k lt new place held =
-    elim (new_was c (view_of w.now) seat (view_of (WorldBehind c w seat x).now) k (moves c w.now seat x (not_astray c w.now known.orderly) (actor_of c w.now seat x known.orderly h) h) new) [
+    elim (new_was c (view_of w.now) seat (view_of (WorldBehind c w seat x).now) k (event_moves c w.now seat x known.orderly h) new) [
       | inr none ↦ let e : None ≡ Some place = sym none ∙ held in absurd (none_some e)
       | inl same ↦
           let was : is_undecided_new (flight_of w.now (Caller k)) ≡ true = ap (λ (f : Flight). is_undecided_new f) (sym same) ∙ new in
@@ -172,14 +175,16 @@ places_behind c w seat x known count fits h k lt new place held =
     none_some : None ≡ Some place → ⊥
     none_some e = cc
 
-    before : is_undecided_new (flight_of w.now (Caller k)) ≡ true → (held_place w.now.seats.holding.placing ≡ Some place) ⊎ (place_now c w.now (flight_of w.now seat) ≡ Some place)
+    before : is_undecided_new (flight_of w.now (Caller k)) ≡ true
+        → (held_place w.now.seats.holding.placing ≡ Some place) ⊎ (place_now c w.now (flight_of w.now seat) ≡ Some place)
         → PlaceFits c (flight_of w.now (Caller k)).op place
     before was (inl old) = fits k lt was place old
     before was (inr now) =
         let is = now_is c w.now (flight_of w.now seat) place now in
         let own = new_holds c w.now seat x h is.0 in
         let own_new : is_undecided_new (flight_of w.now (Caller own.0)) ≡ true = subst (λ (s : Seat). is_undecided_new (flight_of w.now s) ≡ true) own.2 is.0 in
-        let stands : standing (flight_of w.now (Caller own.0)) ≡ UnderTurn = new_stands (flight_of w.now (Caller own.0)).stage (flight_of w.now (Caller own.0)).op own_new in
+        let stands : standing (flight_of w.now (Caller own.0)) ≡ UnderTurn = new_stands (flight_of w.now (Caller own.0)).stage
+        (flight_of w.now (Caller own.0)).op own_new in
         let mine : standing (flight_of w.now (Caller k)) ≡ UnderTurn = new_stands (flight_of w.now (Caller k)).stage (flight_of w.now (Caller k)).op was in
         let that : seat ≡ Caller k = own.2 ∙ same_holder c (view_of w.now) (Caller own.0) (Caller k) known.orderly (own.1, stands) (lt, mine) in
         subst (λ (s : Seat). PlaceFits c (flight_of w.now s).op place) that (place_fits_now c w.now seat x place count fits h now)

@@ -29,11 +29,6 @@ deciding_kind (op.New d ty full) step.Grant h = (refl, refl)
 deciding_kind (op.New d ty full) step.Full h = (refl, refl)
 deciding_kind o x h = holders_kind x h
 
-at_turn : (s : Stage) (o : Op) (x : Step) → is_turn_stage s ≡ true → comes_next s o x ≡ true → (group_of x ≡ group.Turn) × (is_take x ≡ false)
-at_turn stage.Turn o x t h = deciding_kind o x h
-at_turn stage.Give o x t h = holders_kind x h
-at_turn _ o x t h = cc
-
 -- what is of the turn, and no `take`, comes at a stage of the turn
 pub of_turn : (s : Stage) (o : Op) (x : Step) → group_of x ≡ group.Turn → is_take x ≡ false → comes_next s o x ≡ true → is_turn_stage s ≡ true
 of_turn stage.Turn o x g t h = refl

@@ -22,7 +22,7 @@ use Rattle.mk_core.specs.Effects.{progress, progress_freed}
 use Rattle.mk_core.specs.TurnConditions.{cell_freed}
 use Rattle.mk_core.specs.Ranges.{is_in_range}
 use Rattle.mk_protocol.proofs.Actors.{Meets}
-use Rattle.mk_protocol.proofs.Sorts.{Behind}
+use Rattle.mk_protocol.proofs.SameWords.{Behind}
 
 -- what a step makes of the operation in flight
 pub data OpStep (c : Config) (old : Op) : Op → Type 0 where
@@ -77,7 +77,8 @@ checked : (c : Config) (old new : Op) → has_operands c old ≡ true → OpStep
 checked c old new h Same = h
 checked c old new h (Checked x) = x
 
-set_operands : (c : Config) (fs : List Flight) (k : ℕ) (f : Flight) → HaveOperands c fs → OpStep c (slice_index_or fs k at_rest).op f.op → HaveOperands c (slice_set fs k f)
+set_operands : (c : Config) (fs : List Flight) (k : ℕ) (f : Flight) → HaveOperands c fs → OpStep c (slice_index_or fs k at_rest).op f.op
+    → HaveOperands c (slice_set fs k f)
 set_operands c fs k f h s b = elim (cases_eq b k) [
   | inl e ↦ elim (cases_lt k (length fs)) [
     | inl lt ↦
@@ -88,7 +89,8 @@ set_operands c fs k f h s b = elim (cases_eq b k) [
   | inr ne ↦ subst (λ (x : Flight). has_operands c x.op ≡ true) (sym (get_or-set_other fs k b f at_rest ne)) (h b)
 ]
 
-pub operands_behind : (c : Config) (m : Moment) (seat : Seat) (x : Step) → HaveOperands c m.seats.flights → Meets c m seat x → HaveOperands c (Behind c m seat x).seats.flights
+pub operands_behind : (c : Config) (m : Moment) (seat : Seat) (x : Step) → HaveOperands c m.seats.flights → Meets c m seat x
+    → HaveOperands c (Behind c m seat x).seats.flights
 operands_behind c m (Caller k) x h on =
     set_operands c m.seats.flights k _ h (op_step c m (Caller k) (flight_of m (Caller k)) (found c m (record { seat = Caller k; step = x })) x on.range)
 operands_behind c m (Marker k) x h on = h

@@ -45,11 +45,6 @@ turn_of c v (Caller k) h t = let s = shows_at c v k UnderTurn h t.0 t.1 in s.1
 turn_of c v (Marker k) h t = absurd t
 turn_of c v Host h t = t
 
-pub number_of : (c : Config) (v : View) (seat : Seat) → HoldsTurn c v seat → holder_number c seat ≤ c.callers
-number_of c v (Caller k) t = omega (arith, t.0)
-number_of c v (Marker k) t = absurd t
-number_of c v Host t = omega arith
-
 -- so no two seats hold it
 pub same_holder : (c : Config) (v : View) (a b : Seat) → Orderly c v → HoldsTurn c v a → HoldsTurn c v b → a ≡ b
 same_holder c v a b p ha hb =

@@ -83,7 +83,8 @@ pub counts_nothing : (c : Config) (m : Moment) (seat : Seat) (x : Step) → (Hol
     → (is_end x ≡ false) × (answers_full (answer_decided c m (record { seat = seat; step = x })) ≡ false)
 counts_nothing c m seat x out (InCallOf k _ lt g) = (call_no_end x g, call_answer c m (flight_of m (Caller k)) (found c m (record { seat = Caller k; step = x })) x g)
 counts_nothing c m seat x out (AsMarker k _ lt g) = (marker_no_end x g, refl)
-counts_nothing c m seat x out (CallTakes k o lt idle is) = (refl, either_answer (m.words.turn == 0) (record { flight = begun o; answer = None }) (still (flight_of m (Caller k))) refl refl)
+counts_nothing c m seat x out (CallTakes k o lt idle is) =
+    (refl, either_answer (m.words.turn == 0) (record { flight = begun o; answer = None }) (still (flight_of m (Caller k))) refl refl)
 counts_nothing c m seat x out (HostTakes free) = (refl, refl)
 counts_nothing c m seat x out (AsHolder _ _ t n) = absurd (out t)
 

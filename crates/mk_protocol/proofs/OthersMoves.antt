@@ -31,9 +31,9 @@ use Rattle.mk_protocol.proofs.Views.{view_of, HoldsTurn}
 use Rattle.mk_protocol.proofs.Orderly.{shows_at}
 use Rattle.mk_protocol.proofs.Actors.{Meets, Actor, InCallOf, AsMarker, CallTakes, HostTakes, AsHolder}
 use Rattle.mk_protocol.proofs.IdleMarkers.{work_attends, look_stays}
-use Rattle.mk_protocol.proofs.Sorts.{attends_at}
+use Rattle.mk_protocol.proofs.MarkerMoves.{attends_at}
 use Rattle.mk_protocol.proofs.Markers.{count_in-at}
-use Rattle.mk_protocol.proofs.Protocols.{not_astray, actor_of}
+use Rattle.mk_protocol.proofs.OrderlyLists.{not_astray, actor_of}
 use Rattle.mk_protocol.proofs.Operands.{Operands, operands_of, register_small}
 use Rattle.mk_protocol.proofs.Known.{Known}
 
@@ -54,7 +54,8 @@ pub data CallWrite (k : ℕ) (w : Words) : Words → Type 0 where
 pub data MarkerWrite (k : ℕ) (m : Moment) : MarkerState → Words → Type 0 where
   MarkerLoads : {y : MarkerState} → y.presence ≡ (marker_of m k).presence → MarkerWrite k m y m.words
   ComesIn : {y : MarkerState} → (is_attending y.presence ≡ true → m.words.phase % 8 ≡ 1) → MarkerWrite k m y (record m.words { phase = (m.words.phase + 8) % 2 ^ 64 })
-  GoesOut : {y : MarkerState} → is_attending y.presence ≡ false → 8 ≤ m.words.phase → MarkerWrite k m y (record m.words { phase = (m.words.phase + (2 ^ 64 - 8)) % 2 ^ 64 })
+  GoesOut : {y : MarkerState} → is_attending y.presence ≡ false → 8 ≤ m.words.phase
+      → MarkerWrite k m y (record m.words { phase = (m.words.phase + (2 ^ 64 - 8)) % 2 ^ 64 })
   AddsMarks : {y : MarkerState} (p bits : ℕ) → is_attending (marker_of m k).presence ≡ true → y.presence ≡ (marker_of m k).presence
       → MarkerWrite k m y (record m.words { marks = slice_set m.words.marks p (bit_or (slice_index m.words.marks p) bits) })
   AddsBlacks : {y : MarkerState} (p bits : ℕ) → is_attending (marker_of m k).presence ≡ true → y.presence ≡ (marker_of m k).presence
@@ -84,11 +85,15 @@ waits_flight c w k =
     subst (λ (fs : List Flight). OthersMove c w (Caller k) (with_words_seats w w.now.words (record w.now.seats { flights = fs })))
     (sym (set-get_or w.now.seats.flights k at_rest)) Waits
 
+-- a call that begins where it may
+abbrev begun_if : Bool → Op → Flight → Flight
+begun_if b o f = (if b then record { flight = begun o; answer = None } else still f).flight
+
 -- `enter`, where the gate is 0, and where it is held
 abbrev entered : World → ℕ → Op → Bool → World
 entered w k o b =
     with_words_seats w (record w.now.words { gates = slice_set w.now.words.gates k (if b then 1 else slice_index w.now.words.gates k) })
-    (record w.now.seats { flights = slice_set w.now.seats.flights k ((if b then record { flight = begun o; answer = None } else still (flight_of w.now (Caller k))).flight) })
+    (record w.now.seats { flights = slice_set w.now.seats.flights k (begun_if b o (flight_of w.now (Caller k))) })
 
 enter_out : (c : Config) (w : World) (k : ℕ) (o : Op) → k < c.callers → Outs c w (Caller k) (step.Enter o)
 enter_out c w k o lt = elim (cases_eq (slice_index w.now.words.gates k) 0) [
@@ -97,7 +102,8 @@ enter_out c w k o lt = elim (cases_eq (slice_index w.now.words.gates k) 0) [
       (Calls (begun o) lt (omega arith) (SetsGate 1 (omega arith)))
   | inr ne ↦
       subst (λ (b : Bool). OthersMove c w (Caller k) (entered w k o b)) (sym (ne_eqb (slice_index w.now.words.gates k) 0 ne))
-      (subst (λ (gs : List ℕ). OthersMove c w (Caller k) (with_words_seats w (record w.now.words { gates = gs }) (record w.now.seats { flights = slice_set w.now.seats.flights k (flight_of w.now (Caller k)) })))
+      (subst (λ (gs : List ℕ). OthersMove c w (Caller k)
+      (with_words_seats w (record w.now.words { gates = gs }) (record w.now.seats { flights = slice_set w.now.seats.flights k (flight_of w.now (Caller k)) })))
       (sym (set-get_or w.now.words.gates k 0)) (waits_flight c w k))
 ]
 
@@ -135,7 +141,8 @@ host_take_out c w ne =
 pub gate_one : (c : Config) (m : Moment) (k : ℕ) → Known c m → k < c.callers → standing (flight_of m (Caller k)) ≡ InCall → slice_index m.words.gates k ≡ 1
 gate_one c m k h lt is = (shows_at c (view_of m) k InCall h.orderly lt is).0
 
-in_call : (c : Config) (m : Moment) (k : ℕ) (x : Step) → Known c m → k < c.callers → Meets c m (Caller k) x → has_stage_of_its_own x ≡ true → is_call_stage (stage_of x) ≡ true
+in_call : (c : Config) (m : Moment) (k : ℕ) (x : Step) → Known c m → k < c.callers → Meets c m (Caller k) x → has_stage_of_its_own x ≡ true
+    → is_call_stage (stage_of x) ≡ true
     → slice_index m.words.gates k ≤ 1
 in_call c m k x known lt h own is =
     let f = flight_of m (Caller k) in
@@ -143,7 +150,8 @@ in_call c m k x known lt h own is =
     omega arith
 
 -- `reg` is in a call outside the turn, unless its seat holds the turn
-reg_in_call : (c : Config) (m : Moment) (k : ℕ) → Known c m → k < c.callers → is_reg_stage (flight_of m (Caller k)).stage ≡ true → (HoldsTurn c (view_of m) (Caller k) → ⊥)
+reg_in_call : (c : Config) (m : Moment) (k : ℕ) → Known c m → k < c.callers → is_reg_stage (flight_of m (Caller k)).stage ≡ true
+    → (HoldsTurn c (view_of m) (Caller k) → ⊥)
     → slice_index m.words.gates k ≤ 1
 reg_in_call c m k known lt is free = let g = gate_one c m k known lt (by (standing (flight_of m (Caller k))) refl) in omega arith
   where
@@ -158,7 +166,8 @@ reg_write w k f stage.Store o = SetsRegister (register_met f stage.Store) _ (reg
 reg_write w k f stage.Put o = SetsRegister (register_met f stage.Put) _ (register_small f stage.Put o)
 reg_write w k f _ o = CallLoads
 
-call_out : (c : Config) (w : World) (k : ℕ) (x : Step) → Known c w.now → (HoldsTurn c (view_of w.now) (Caller k) → ⊥) → k < c.callers → group_of x ≡ group.Callers → Meets c w.now (Caller k) x
+call_out : (c : Config) (w : World) (k : ℕ) (x : Step) → Known c w.now → (HoldsTurn c (view_of w.now) (Caller k) → ⊥) → k < c.callers
+    → group_of x ≡ group.Callers → Meets c w.now (Caller k) x
     → Outs c w (Caller k) x
 call_out c w k (step.Enter o) known out lt g h = enter_out c w k o lt
 call_out c w k step.Leave known out lt g h = Calls _ lt (in_call c w.now k step.Leave known lt h refl refl) (SetsGate 0 (omega arith))

@@ -20,7 +20,7 @@ use Rattle.mk_core.specs.Calls.{d_of}
 use Rattle.mk_core.specs.Moments.{Moment, flight_of}
 use Rattle.mk_core.specs.Accesses.{register_met, reg_access, tally_word}
 use Rattle.mk_protocol.proofs.Actors.{Meets, grants_new}
-use Rattle.mk_protocol.proofs.Sorts.{Behind}
+use Rattle.mk_protocol.proofs.SameWords.{Behind}
 use Rattle.mk_protocol.proofs.Operands.{HaveOperands, Operands, operands_of, register_small}
 
 pub data RegisterStep (w : Words) : Seat → List ℕ → Type 0 where
@@ -31,13 +31,16 @@ tally_registers : (w : Words) (n : Tally) (v : ℕ) → (accessed w (Named (tall
 tally_registers w tally.Held v = refl
 tally_registers w _ v = refl
 
-reg_registers : (w : Words) (k : ℕ) (f : Flight) (s : Stage) → Operands f.op → RegisterStep w (Caller k) (accessed w (Named (word.Reg k (register_met f s))) (reg_access f s)).registers
+reg_registers : (w : Words) (k : ℕ) (f : Flight) (s : Stage) → Operands f.op
+    → RegisterStep w (Caller k) (accessed w (Named (word.Reg k (register_met f s))) (reg_access f s)).registers
 reg_registers w k f stage.Store o = SetsOwn (register_met f stage.Store) _ (register_small f stage.Store o)
 reg_registers w k f stage.Put o = SetsOwn (register_met f stage.Put) _ (register_small f stage.Put o)
 reg_registers w k f _ o = KeepsRegisters
 
-pub register_step : (c : Config) (m : Moment) (seat : Seat) (x : Step) → HaveOperands c m.seats.flights → Meets c m seat x → RegisterStep m.words seat (Behind c m seat x).words.registers
-register_step c m (Caller k) step.Reg ops h = reg_registers m.words k (flight_of m (Caller k)) (flight_of m (Caller k)).stage (operands_of c (flight_of m (Caller k)).op (ops k))
+pub register_step : (c : Config) (m : Moment) (seat : Seat) (x : Step) → HaveOperands c m.seats.flights → Meets c m seat x
+    → RegisterStep m.words seat (Behind c m seat x).words.registers
+register_step c m (Caller k) step.Reg ops h =
+    reg_registers m.words k (flight_of m (Caller k)) (flight_of m (Caller k)).stage (operands_of c (flight_of m (Caller k)).op (ops k))
 register_step c m (Marker k) step.Reg ops h = let kind = h.kind in cc
 register_step c m Host step.Reg ops h = let kind = h.kind in cc
 register_step c m (Caller k) step.Grant ops h = SetsOwn (d_of (flight_of m (Caller k)).op) _ (operands_of c (flight_of m (Caller k)).op (ops k)).d
@@ -46,7 +49,8 @@ register_step c m Host step.Grant ops h = let new = grants_new c m Host h in cc
 register_step c m seat (step.Tally n v) ops h = subst (λ (rs : List ℕ). RegisterStep m.words seat rs) (sym (tally_registers m.words n v)) KeepsRegisters
 register_step c m seat _ ops h = KeepsRegisters
 
-pub others_registers : (w : Words) (seat : Seat) (rs : List ℕ) (k r : ℕ) → RegisterStep w seat rs → seat ≢ Caller k → r < 8 → slice_index rs (8 * k + r) ≡ slice_index w.registers (8 * k + r)
+pub others_registers : (w : Words) (seat : Seat) (rs : List ℕ) (k r : ℕ) → RegisterStep w seat rs → seat ≢ Caller k → r < 8
+    → slice_index rs (8 * k + r) ≡ slice_index w.registers (8 * k + r)
 others_registers w seat rs k r KeepsRegisters ne lt = refl
 others_registers w seat rs k r (SetsOwn {k = j} s v ls) ne lt =
     get_or-set_other w.registers (8 * j + s) (8 * k + r) v 0 (λ e. ne (ap (λ i. Caller i) (let same : j ≡ k = omega arith in same)))

@@ -48,7 +48,8 @@ block_apart : (class count : ℕ) (leaf : Bool) → class < 8 → 9 + 16 * count
 block_apart class count true lt e = omega arith
 block_apart class count false lt e = omega arith
 
-run_shown : (pages count distance : ℕ) (mapped leaf : Bool) → 9 + 16 * count ≡ word_of (run_header pages mapped leaf distance) → (mapped ≡ true) × (distance ≡ 0) × (count ≡ pages)
+run_shown : (pages count distance : ℕ) (mapped leaf : Bool) → 9 + 16 * count ≡ word_of (run_header pages mapped leaf distance)
+    → (mapped ≡ true) × (distance ≡ 0) × (count ≡ pages)
 run_shown pages count zero true true e = absurd (omega arith)
 run_shown pages count zero true false e = (refl, refl, omega arith)
 run_shown pages count zero false true e = absurd (omega arith)
@@ -59,7 +60,8 @@ run_shown pages count (suc d) false leaf e = absurd (omega arith)
 made_shown : (o : Object) (distance count : ℕ) → 9 + 16 * count ≡ header_made o distance → (is_small_object o ≡ false) × (distance ≡ 0) × (count ≡ run_pages_of o.words)
 made_shown o distance count e = by (is_small_object o) refl e
   where
-    by : (b : Bool) → is_small_object o ≡ b → 9 + 16 * count ≡ (if b then word_of (block_header (class_made o) o.leaf) else word_of (run_header (run_pages_of o.words) true o.leaf distance))
+    by : (b : Bool) → is_small_object o ≡ b
+        → 9 + 16 * count ≡ (if b then word_of (block_header (class_made o) o.leaf) else word_of (run_header (run_pages_of o.words) true o.leaf distance))
         → (is_small_object o ≡ false) × (distance ≡ 0) × (count ≡ run_pages_of o.words)
     by true is h = absurd (block_apart (class_made o) count o.leaf (class_small o.words) h)
     by false is h = let r = run_shown (run_pages_of o.words) count distance true o.leaf h in (is, r.1, r.2)
@@ -71,13 +73,17 @@ record Next (first page value : ℕ) (wanted : ℕ → ℕ) : Type 0 where
 
 next_is : (w : Words) (first count : ℕ) (wanted : ℕ → ℕ) (page value : ℕ) → is_next_header w first count wanted page value ≡ true → Next first page value wanted
 next_is w first count wanted page value h =
-    let last = and_parts (nat_le first page && nat_lt (page - first) count && not (header_at w page == wanted (page - first)) && all_below (page - first) (stands w first wanted)) (value == wanted (page - first)) h in
-    let three = and_parts (nat_le first page && nat_lt (page - first) count && not (header_at w page == wanted (page - first))) (all_below (page - first) (stands w first wanted)) last.0 in
+    let last = and_parts
+    (nat_le first page && nat_lt (page - first) count && not (header_at w page == wanted (page - first)) && all_below (page - first) (stands w first wanted))
+    (value == wanted (page - first)) h in
+    let three = and_parts (nat_le first page && nat_lt (page - first) count && not (header_at w page == wanted (page - first)))
+    (all_below (page - first) (stands w first wanted)) last.0 in
     let two = and_parts (nat_le first page && nat_lt (page - first) count) (not (header_at w page == wanted (page - first))) three.0 in
     let one = and_parts (nat_le first page) (nat_lt (page - first) count) two.0 in
     record { behind = leb-true first page one.0; is = eqb-true value (wanted (page - first)) last.1 }
 
-carved_fits : (c : Config) (w : Words) (f : Flight) (place : Option Place) (p n : ℕ) → ((x : Place) → place ≡ Some x → PlaceFits c f.op x) → carves w (object_made c f.op) place p n ≡ true → RunFits c p n
+carved_fits : (c : Config) (w : Words) (f : Flight) (place : Option Place) (p n : ℕ) → ((x : Place) → place ≡ Some x → PlaceFits c f.op x)
+    → carves w (object_made c f.op) place p n ≡ true → RunFits c p n
 carved_fits c w f None p n fits h = cc
 carved_fits c w f (Some x) p n fits h = λ count shows.
     let o = object_made c f.op in
@@ -119,12 +125,16 @@ header_set c ps p n u fits all q = elim (cases_eq q p) [
   | inr ne ↦ page_set_other ps p q (record { header = n; used = u }) ne (all q)
 ]
   where
-    page_set_other : (ps : List Page) (p q : ℕ) (x : Page) → q ≢ p → RunFits c q (slice_index_or ps q free_page).header → RunFits c q (slice_index_or (slice_set ps p x) q free_page).header
+    page_set_other : (ps : List Page) (p q : ℕ) (x : Page) → q ≢ p → RunFits c q (slice_index_or ps q free_page).header
+        → RunFits c q (slice_index_or (slice_set ps p x) q free_page).header
     page_set_other ps p q x ne h = subst (λ (y : Page). RunFits c q y.header) (sym (get_or-set_other ps p q x free_page ne)) h
 
-pub runs_behind : (c : Config) (w : World) (f : Flight) (g : Ground) → ((x : Place) → place_now c w.now f ≡ Some x → PlaceFits c f.op x) → RunsFit c w.now.words.pages → GroundStep c w f g → RunsFit c g.pages
-runs_behind c w f g fits all (Carves p n own at) = header_set c w.now.words.pages p n (used_at w.now.words p) (carved_fits c w.now.words f (place_now c w.now f) p n fits own) all
-runs_behind c w f g fits all (Unmaps p n own at) = header_set c w.now.words.pages p n (used_at w.now.words p) (unmapped_fits c w.now.words w.now.seats.holding.freed p n own) all
+pub runs_behind : (c : Config) (w : World) (f : Flight) (g : Ground) → ((x : Place) → place_now c w.now f ≡ Some x → PlaceFits c f.op x)
+    → RunsFit c w.now.words.pages → GroundStep c w f g → RunsFit c g.pages
+runs_behind c w f g fits all (Carves p n own at) =
+    header_set c w.now.words.pages p n (used_at w.now.words p) (carved_fits c w.now.words f (place_now c w.now f) p n fits own) all
+runs_behind c w f g fits all (Unmaps p n own at) =
+    header_set c w.now.words.pages p n (used_at w.now.words p) (unmapped_fits c w.now.words w.now.seats.holding.freed p n own) all
 runs_behind c w f g fits all (Empties p n own at) = header_set c w.now.words.pages p n (used_at w.now.words p) (emptied_fits c w.now.words p n own) all
 runs_behind c w f g fits all (TakesCell p n once own at) = λ q. used_set w.now.words p q n (λ y. RunFits c q y) (all q)
 runs_behind c w f g fits all (GivesBack p n own at) = λ q. used_set w.now.words p q n (λ y. RunFits c q y) (all q)

@@ -32,7 +32,8 @@ pub record MarkerFits (c : Config) (x : Marker) : Type 0 where
   pub end : (s : Scan) → x.scan ≡ Some s → s.end ≤ 64 * c.pages
 
 pub nothing_fits : (c : Config) (x : Marker) → x.seen ≡ None → x.scan ≡ None → MarkerFits c x
-nothing_fits c x no_seen no_scan = record { seen = λ s e. absurd (apart s (sym no_seen ∙ e)); page = λ s e. absurd (apart s (sym no_scan ∙ e)); end = λ s e. absurd (apart s (sym no_scan ∙ e)) }
+nothing_fits c x no_seen no_scan =
+    record { seen = λ s e. absurd (apart s (sym no_seen ∙ e)); page = λ s e. absurd (apart s (sym no_scan ∙ e)); end = λ s e. absurd (apart s (sym no_scan ∙ e)) }
   where
     apart : {A : Type 0} (s : A) → None ≡ Some s → ⊥
     apart s e = cc
@@ -61,7 +62,8 @@ seen_cell : (x : Option SeenHeader) (p i : ℕ) → has_seen_cell x p i ≡ true
 seen_cell None p i h s e = cc
 seen_cell (Some seen) p i h s e =
     let both = and_parts (seen.page == p) (nat_lt i (cells_under (header_of seen.header))) h in
-    subst (λ (y : SeenHeader). (y.page ≡ p) × (i < cells_under (header_of y.header))) (same seen s e) (eqb-true seen.page p both.0, ltb-true i (cells_under (header_of seen.header)) both.1)
+    subst (λ (y : SeenHeader). (y.page ≡ p) × (i < cells_under (header_of y.header))) (same seen s e)
+    (eqb-true seen.page p both.0, ltb-true i (cells_under (header_of seen.header)) both.1)
   where
     same : (a b : SeenHeader) → Some a ≡ Some b → a ≡ b
     same a b e = cc
@@ -74,7 +76,8 @@ claimed_is p i marks (Some h) s e = (h, refl, by (has_bit marks i) e)
     by true e = cc
     by false e = cc
 
-claims : (c : Config) (p i marks : ℕ) (x : Marker) → p < c.pages → has_seen_cell x.seen p i ≡ true → MarkerFits c x → MarkerFits c (record x { scan = scan_claimed p i marks x.seen })
+claims : (c : Config) (p i marks : ℕ) (x : Marker) → p < c.pages → has_seen_cell x.seen p i ≡ true → MarkerFits c x
+    → MarkerFits c (record x { scan = scan_claimed p i marks x.seen })
 claims c p i marks x lt seen h =
     record {
       seen = h.seen;
@@ -82,7 +85,8 @@ claims c p i marks x lt seen h =
       end = λ s e.
           let k = claimed_is p i marks x.seen s e in
           let at = seen_cell x.seen p i seen k.0 k.1 in
-          let fits : (count : ℕ) → header_of k.0.header ≡ Some (Run count true) → p + count ≤ c.pages = λ count shows. subst (λ q. q + count ≤ c.pages) at.0 (h.seen k.0 k.1 count shows) in
+          let fits : (count : ℕ) → header_of k.0.header ≡ Some (Run count true) → p + count ≤ c.pages = λ count shows. subst
+          (λ q. q + count ≤ c.pages) at.0 (h.seen k.0 k.1 count shows) in
           subst (λ (t : Scan). t.end ≤ 64 * c.pages) (sym k.2) (scan_end c p i (header_of k.0.header) lt at.1 fits);
     }
 
@@ -112,7 +116,8 @@ looks c n (word.Head p) x fits h =
 looks c n _ x fits h = record { seen = λ s e. cc; page = h.page; end = h.end }
 
 -- where a marker steps that finds n
-pub marker_fits_behind : (c : Config) (n : ℕ) (s : Step) (x : Marker) → ((p : ℕ) → s ≡ step.Mlook (word.Head p) → RunFits c p n) → ((p i : ℕ) → s ≡ step.Claim p i → p < c.pages)
+pub marker_fits_behind : (c : Config) (n : ℕ) (s : Step) (x : Marker) → ((p : ℕ) → s ≡ step.Mlook (word.Head p) → RunFits c p n)
+    → ((p i : ℕ) → s ≡ step.Claim p i → p < c.pages)
     → marker_may c x s ≡ true → MarkerFits c x → MarkerFits c (marker_behind c n s x)
 marker_fits_behind c n step.Attend x looked claimed m h = nothing_fits c _ refl refl
 marker_fits_behind c n step.Quit x looked claimed m h = nothing_fits c _ refl refl
@@ -167,18 +172,22 @@ seen_in_heap c header value cell e = by (is_heap_address c.pages value) refl e
         let lt = ltb-true value (65536 + 512 * c.pages) both.1 in
         omega arith
 
-    under : (h : Option Header) → option_and_then (λ (x : Header). cell_under x (page_at_address value) (word_at_address value)) h ≡ Some cell → cell.page ≤ page_at_address value
+    under : (h : Option Header) → option_and_then (λ (x : Header). cell_under x (page_at_address value) (word_at_address value)) h ≡ Some cell
+        → cell.page ≤ page_at_address value
     under (Some h) e = before_page h (page_at_address value) (word_at_address value) cell e
     under None e = cc
 
-    by : (b : Bool) → is_heap_address c.pages value ≡ b → (if b then option_and_then (λ (x : Header). cell_under x (page_at_address value) (word_at_address value)) (header_of header) else None) ≡ Some cell → cell.page < c.pages
+    by : (b : Bool) → is_heap_address c.pages value ≡ b
+        → (if b then option_and_then (λ (x : Header). cell_under x (page_at_address value) (word_at_address value)) (header_of header) else None) ≡ Some cell
+        → cell.page < c.pages
     by true is e = let le = under (header_of header) e in let lt = low is in omega arith
     by false is e = cc
 
 pub seen_page_in_heap : (c : Config) (s : Option SeenHeader) (hand : Option ℕ) → is_some (cell_seen c s hand) ≡ true → seen_page (cell_seen c s hand) < c.pages
 seen_page_in_heap c (Some s) (Some value) h = by (s.page == page_at_address value) (cell_at c.pages s.header value) refl h
   where
-    by : (b : Bool) (cell : Option Cell) → cell_at c.pages s.header value ≡ cell → is_some (if b then cell else None) ≡ true → seen_page (if b then cell else None) < c.pages
+    by : (b : Bool) (cell : Option Cell) → cell_at c.pages s.header value ≡ cell → is_some (if b then cell else None) ≡ true
+        → seen_page (if b then cell else None) < c.pages
     by true (Some cell) e h = seen_in_heap c s.header value cell e
     by true None e h = cc
     by false cell e h = cc

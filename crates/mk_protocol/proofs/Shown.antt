@@ -20,7 +20,9 @@ AllShow n t gs fs = (b : ℕ) → b < n → Shows t (slice_index gs b) b (standi
 pub all_but_flight : (n t k : ℕ) (gs : List ℕ) (fs : List Flight) (f : Flight) → k < length fs → Shows t (slice_index gs k) k (standing f)
     → ((b : ℕ) → b < n → k ≢ b → Shows t (slice_index gs b) b (standing (slice_index_or fs b at_rest))) → AllShow n t gs (slice_set fs k f)
 all_but_flight n t k gs fs f lt mine others b lb = elim (cases_eq b k) [
-  | inl e ↦ subst (λ (j : ℕ). Shows t (slice_index gs j) j (standing (slice_index_or (slice_set fs k f) j at_rest))) (sym e) (subst (λ (x : Flight). Shows t (slice_index gs k) k (standing x)) (sym (get_or-set_same fs k f at_rest lt)) mine)
+  | inl e ↦
+      subst (λ (j : ℕ). Shows t (slice_index gs j) j (standing (slice_index_or (slice_set fs k f) j at_rest))) (sym e)
+      (subst (λ (x : Flight). Shows t (slice_index gs k) k (standing x)) (sym (get_or-set_same fs k f at_rest lt)) mine)
   | inr ne ↦ subst (λ (x : Flight). Shows t (slice_index gs b) b (standing x)) (sym (get_or-set_other fs k b f at_rest ne)) (others b lb (λ e. ne (sym e)))
 ]
 
@@ -28,7 +30,9 @@ all_but_flight n t k gs fs f lt mine others b lb = elim (cases_eq b k) [
 pub all_but_gate : (n t k x : ℕ) (gs : List ℕ) (fs : List Flight) → k < length gs → Shows t x k (standing (slice_index_or fs k at_rest))
     → ((b : ℕ) → b < n → k ≢ b → Shows t (slice_index gs b) b (standing (slice_index_or fs b at_rest))) → AllShow n t (slice_set gs k x) fs
 all_but_gate n t k x gs fs lt mine others b lb = elim (cases_eq b k) [
-  | inl e ↦ subst (λ (j : ℕ). Shows t (slice_index (slice_set gs k x) j) j (standing (slice_index_or fs j at_rest))) (sym e) (subst (λ (y : ℕ). Shows t y k (standing (slice_index_or fs k at_rest))) (sym (get_or-set_same gs k x 0 lt)) mine)
+  | inl e ↦
+      subst (λ (j : ℕ). Shows t (slice_index (slice_set gs k x) j) j (standing (slice_index_or fs j at_rest))) (sym e)
+      (subst (λ (y : ℕ). Shows t y k (standing (slice_index_or fs k at_rest))) (sym (get_or-set_same gs k x 0 lt)) mine)
   | inr ne ↦ subst (λ (y : ℕ). Shows t y b (standing (slice_index_or fs b at_rest))) (sym (get_or-set_other gs k b x 0 ne)) (others b lb (λ e. ne (sym e)))
 ]
 
@@ -39,7 +43,8 @@ OwnShows c fs t gs _ s = Unit {0}
 
 -- the flight of the seat is set
 pub all_but_seat : (c : Config) (t : ℕ) (seat : Seat) (gs : List ℕ) (fs : List Flight) (f : Flight) → OwnShows c fs t gs seat (standing f)
-    → ((b : ℕ) → b < c.callers → holder_number c seat ≢ b → Shows t (slice_index gs b) b (standing (slice_index_or fs b at_rest))) → AllShow c.callers t gs (flights_with fs seat f)
+    → ((b : ℕ) → b < c.callers → holder_number c seat ≢ b → Shows t (slice_index gs b) b (standing (slice_index_or fs b at_rest)))
+    → AllShow c.callers t gs (flights_with fs seat f)
 all_but_seat c t (Caller k) gs fs f mine others = all_but_flight c.callers t k gs fs f mine.0 mine.1 others
 all_but_seat c t (Marker k) gs fs f mine others = λ b lb. others b lb (λ e. absurd (omega arith))
 all_but_seat c t Host gs fs f mine others = λ b lb. others b lb (λ e. absurd (omega arith))

@@ -1,194 +1,40 @@
 -- Each enabled event is one of the moves of the protocol.
-use Rattle.std.proofs.Common.{◌≡◌, ◌≢◌, ℕ, ◌+◌, ◌%◌, ◌<◌, Bool, true, false, List, refl, sym, ◌∙◌, ap, subst, inl, inr}
+use Rattle.std.proofs.Common.{◌≡◌, ◌≢◌, ℕ, ◌+◌, ◌<◌, Bool, true, false, List, refl, sym, ap, subst, inl, inr}
 use Rattle.std.specs.Prelude.{Some, None, slice_index, slice_set, ◌==◌, if◌then◌else◌}
-use Rattle.std.proofs.lemmas.Bool.{cases_eq, cases_Bool, not-true, not_from_true, eqb-true, eqb-false, eq-eqb, ne_eqb, and_parts}
+use Rattle.std.proofs.lemmas.Bool.{cases_eq, not-true, eqb-true, eqb-false, eq-eqb, ne_eqb, and_parts}
 use Rattle.std.proofs.lemmas.List.{set-get_or}
 use Rattle.mk_never.specs.declared.operations.Op.{Op}
-use Rattle.mk_geom.specs.Headers.{header_of}
 use Rattle.mk_core.specs.declared.config.Config.{Config}
-use Rattle.mk_core.specs.declared.accesses.Access.{Access}
-use Rattle.mk_core.specs.declared.accesses.Access.TheVariants.{Load, Store}
+use Rattle.mk_core.specs.declared.accesses.Access.TheVariants.{Store}
 use Rattle.mk_core.specs.declared.accesses.TableWord.TheVariants.{Named}
-use Rattle.mk_core.specs.declared.events.Answer.TheVariants as answer
-use Rattle.mk_core.specs.declared.events.Group.TheVariants as group
 use Rattle.mk_core.specs.declared.events.Seat.{Seat}
 use Rattle.mk_core.specs.declared.events.Seat.TheVariants.{Caller, Marker, Host}
-use Rattle.mk_core.specs.declared.events.Tally.{Tally}
-use Rattle.mk_core.specs.declared.events.Tally.TheVariants as tally
-use Rattle.mk_core.specs.declared.events.Word.TheVariants as word
 use Rattle.mk_core.specs.declared.events.Step.{Step}
 use Rattle.mk_core.specs.declared.events.Step.TheVariants as step
-use Rattle.mk_core.specs.declared.events.Event.{Event}
 use Rattle.mk_core.specs.declared.seats.Stage.{Stage}
 use Rattle.mk_core.specs.declared.seats.Stage.TheVariants as stage
 use Rattle.mk_core.specs.declared.seats.Flight.{Flight}
 use Rattle.mk_core.specs.declared.seats.Holding.{Holding}
-use Rattle.mk_core.specs.declared.seats.Presence.TheVariants.{Visiting, Attending}
-use Rattle.mk_core.specs.declared.seats.Marker.{Marker as MarkerState}
-use Rattle.mk_core.specs.Words.{Words, phase_of, accessed}
-use Rattle.mk_core.specs.Cells.{is_unmapped_header}
+use Rattle.mk_core.specs.Words.{phase_of, accessed}
 use Rattle.mk_core.specs.NewPlaces.{object_made}
 use Rattle.mk_core.specs.TurnConditions.{place_now}
-use Rattle.mk_core.specs.Calls.{steps_of, stage_behind, is_under_turn, begun, at_rest, still, onward, refused, progress_reg}
-use Rattle.mk_core.specs.Moments.{Moment, flight_of, marker_of, is_phase, nothing_done, holder_number}
-use Rattle.mk_core.specs.StopConditions.{is_attending, marks_place}
-use Rattle.mk_core.specs.Order.{group_of, host_has_turn}
-use Rattle.mk_core.specs.Accesses.{found, access, reached, tally_word, register_met, reg_access}
-use Rattle.mk_core.specs.Effects.{moment_behind, progress, chosen, taken}
-use Rattle.mk_core.specs.Readings.{is_in}
-use Rattle.mk_protocol.proofs.Standings.{Standing, Resting, InCall, UnderTurn, Astray, standing_at, standing, is_astray}
-use Rattle.mk_protocol.proofs.Stages.{is_call_stage, is_reg_stage, goes_on, calls_stand, onward_stands, refused_stands, regs_work, loads_under_turn, begun_in_call, begun_under_turn, read_stands, either_stands, reg_stands, reg_no_new}
-use Rattle.mk_protocol.proofs.NextSteps.{stage_of, has_stage_of_its_own, at_its_stage, at_reg, at_enter}
-use Rattle.mk_protocol.proofs.Services.{Service, Goes, Loads, Fills, Grants}
-use Rattle.mk_protocol.proofs.Views.{View, view_of, flight_in, gate_in, flights_with, flight_is, HoldsTurn}
-use Rattle.mk_protocol.proofs.Moves.{Begins, Wants, Closes, Releases, Ends, Stops, Move, Stays, Enters, GoesOn, Leaves, Takes, Gives, Works, Holds, Opens, Phases, Attends, Quits, Scans}
+use Rattle.mk_core.specs.Calls.{is_under_turn, begun, at_rest, still}
+use Rattle.mk_core.specs.Moments.{Moment, flight_of, is_phase, nothing_done, holder_number}
+use Rattle.mk_core.specs.StopConditions.{marks_place}
+use Rattle.mk_core.specs.Order.{host_has_turn}
+use Rattle.mk_core.specs.Accesses.{tally_word}
+use Rattle.mk_core.specs.Effects.{progress, chosen, taken}
+use Rattle.mk_protocol.proofs.Standings.{standing_at, standing, is_astray}
+use Rattle.mk_protocol.proofs.Stages.{begun_under_turn}
+use Rattle.mk_protocol.proofs.Services.{Service, Goes, Fills, Grants}
+use Rattle.mk_protocol.proofs.Views.{View, view_of, flight_in, flights_with, flight_is, HoldsTurn}
+use Rattle.mk_protocol.proofs.Moves.{Begins, Wants, Closes, Releases, Ends, Stops, Move, Stays, Takes, Gives, Works, Holds, Opens, Phases}
 use Rattle.mk_protocol.proofs.Asked.{none_held, others_held, other_caller, give_phase, none_at, closing_alone}
 use Rattle.mk_protocol.proofs.Actors.{Meets, is_holders, Actor, InCallOf, AsMarker, CallTakes, HostTakes, AsHolder, grants_new, fills_new}
 use Rattle.mk_protocol.proofs.HoldersSteps.{looks, chooses, takes, either_place, quarantines, full_unplaced}
-use Rattle.mk_protocol.proofs.IdleMarkers.{work_stays, work_idles}
-
-abbrev pub Behind : Config → Moment → Seat → Step → Moment
-Behind c m seat x = moment_behind c m (record { seat = seat; step = x })
-
-abbrev Moves : Config → Moment → Seat → Step → Type 0
-Moves c m seat x = Move c (view_of m) seat (view_of (Behind c m seat x))
-
-abbrev finds : Config → Moment → Seat → Step → ℕ
-finds c m seat x = found c m (record { seat = seat; step = x })
-
--- the words of the protocol are the same
-pub record Keeps (w x : Words) : Type 0 where
-  pub turn : x.turn ≡ w.turn
-  pub phase : x.phase ≡ w.phase
-  pub gates : x.gates ≡ w.gates
-
-pub reg_keeps : (w : Words) (k r : ℕ) (a : Access) → Keeps w (accessed w (Named (word.Reg k r)) a)
-reg_keeps w k r Load = record { turn = refl; phase = refl; gates = refl }
-reg_keeps w k r _ = record { turn = refl; phase = refl; gates = refl }
-
-pub tally_keeps : (w : Words) (n : Tally) (v : ℕ) → Keeps w (accessed w (Named (tally_word n)) (Store v))
-tally_keeps w tally.Held v = record { turn = refl; phase = refl; gates = refl }
-tally_keeps w _ v = record { turn = refl; phase = refl; gates = refl }
-
--- a move, where the words of the protocol are the same
-with_words : (c : Config) (v : View) (seat : Seat) (w x : Words) (fs : List Flight) (h : Holding) (ms : List MarkerState) → Keeps w x
-    → Move c v seat (record { turn = w.turn; phase = w.phase; gates = w.gates; flights = fs; holding = h; markers = ms })
-    → Move c v seat (record { turn = x.turn; phase = x.phase; gates = x.gates; flights = fs; holding = h; markers = ms })
-with_words c v seat w x fs h ms same move =
-    subst (λ t. Move c v seat (record { turn = t; phase = x.phase; gates = x.gates; flights = fs; holding = h; markers = ms })) (sym same.turn)
-    (subst (λ p. Move c v seat (record { turn = w.turn; phase = p; gates = x.gates; flights = fs; holding = h; markers = ms })) (sym same.phase)
-    (subst (λ (gs : List ℕ). Move c v seat (record { turn = w.turn; phase = w.phase; gates = gs; flights = fs; holding = h; markers = ms })) (sym same.gates) move))
-
--- a change of nothing
-
-same_flight : (v : View) (k : ℕ) → record v { flights = slice_set v.flights k (flight_in v k) } ≡ v
-same_flight v k = ap (λ (fs : List Flight). record v { flights = fs }) (set-get_or v.flights k at_rest)
-
-same_both : (v : View) (k : ℕ) → record v { gates = slice_set v.gates k (gate_in v k); flights = slice_set v.flights k (flight_in v k) } ≡ v
-same_both v k =
-    ap (λ (fs : List Flight). record v { gates = slice_set v.gates k (gate_in v k); flights = fs }) (set-get_or v.flights k at_rest)
-    ∙ ap (λ (gs : List ℕ). record v { gates = gs }) (set-get_or v.gates k 0)
-
--- a caller in its call
-
-abbrev entered : View → ℕ → Op → Bool → View
-entered v k o b =
-    record v {
-      gates = slice_set v.gates k (if b then 1 else gate_in v k);
-      flights = slice_set v.flights k ((if b then record { flight = begun o; answer = None } else still (flight_in v k)).flight);
-    }
-
-enter_move : (c : Config) (m : Moment) (k : ℕ) (o : Op) → k < c.callers → standing (flight_of m (Caller k)) ≡ Resting → is_under_turn o ≡ false → Moves c m (Caller k) (step.Enter o)
-enter_move c m k o lt was out = elim (cases_eq (slice_index m.words.gates k) 0) [
-  | inl z ↦
-      subst (λ (b : Bool). Move c (view_of m) (Caller k) (entered (view_of m) k o b)) (sym (eq-eqb (slice_index m.words.gates k) 0 z))
-      (Enters (begun o) lt z was (begun_in_call o out))
-  | inr ne ↦
-      subst (λ (b : Bool). Move c (view_of m) (Caller k) (entered (view_of m) k o b)) (sym (ne_eqb (slice_index m.words.gates k) 0 ne))
-      (subst (λ (n : View). Move c (view_of m) (Caller k) n) (sym (same_both (view_of m) k)) Stays)
-]
-
--- `reg`, in a call outside the turn or of a Free
-reg_move : (c : Config) (m : Moment) (k : ℕ) → k < c.callers → is_reg_stage (flight_of m (Caller k)).stage ≡ true → is_astray (standing (flight_of m (Caller k))) ≡ false → Moves c m (Caller k) step.Reg
-reg_move c m k lt is a =
-    with_words c (view_of m) (Caller k) m.words (accessed m.words (reached c m e) (access c m e)) _ m.seats.holding m.seats.markers
-    (reg_keeps m.words k (register_met f f.stage) (reg_access f f.stage))
-    (by (standing f) refl (reg_stands f.stage f.op f.q f.p f.r f.loaded (found c m e) is a))
-  where
-    e : Event
-    e = record { seat = Caller k; step = step.Reg }
-
-    f : Flight
-    f = flight_of m (Caller k)
-
-    g : Flight
-    g = (progress_reg (flight_of m (Caller k)) (flight_of m (Caller k)).stage (found c m (record { seat = Caller k; step = step.Reg }))).flight
-
-    by : (s : Standing) → standing (flight_of m (Caller k)) ≡ s → standing g ≡ standing (flight_of m (Caller k))
-        → Move c (view_of m) (Caller k) (record (view_of m) { flights = slice_set m.seats.flights k g })
-    by Resting was same = absurd (regs_work (flight_of m (Caller k)).stage (flight_of m (Caller k)).op is was)
-    by InCall was same = GoesOn g lt was (same ∙ was)
-    by UnderTurn was same = Works g m.seats.holding (lt, was) (Loads g (loads_under_turn f.stage f.op is was) (same ∙ was) (reg_no_new f.stage f.op f.q f.p f.r f.loaded (found c m e) is was))
-    by Astray was same = let y : true ≡ false = ap is_astray (sym was) ∙ a in cc
-
--- the other steps of a call
-on : (c : Config) (m : Moment) (k : ℕ) (x : Step) → Meets c m (Caller k) x → has_stage_of_its_own x ≡ true → is_call_stage (stage_of x) ≡ true → is_astray (standing (flight_of m (Caller k))) ≡ false
-    → standing (flight_of m (Caller k)) ≡ InCall
-on c m k x h own is a =
-    let f = flight_of m (Caller k) in
-    calls_stand f.stage f.op (ap is_call_stage (at_its_stage f.stage f.op x own h.order) ∙ is) a
-
-onward_from : (c : Config) (m : Moment) (k : ℕ) (x : Step) → Meets c m (Caller k) x → has_stage_of_its_own x ≡ true → goes_on (stage_of x) ≡ true → standing (flight_of m (Caller k)) ≡ InCall
-    → standing_at (stage_behind (flight_of m (Caller k)).stage (steps_of (flight_of m (Caller k)).op)) (flight_of m (Caller k)).op ≡ InCall
-onward_from c m k x h own is was =
-    let f = flight_of m (Caller k) in
-    onward_stands f.stage f.op was (ap goes_on (at_its_stage f.stage f.op x own h.order) ∙ is)
-
-pub call_moves : (c : Config) (m : Moment) (k : ℕ) (x : Step) → k < c.callers → group_of x ≡ group.Callers → is_astray (standing (flight_of m (Caller k))) ≡ false → Meets c m (Caller k) x → Moves c m (Caller k) x
-call_moves c m k (step.Enter o) lt g a h =
-    let s = at_enter (flight_of m (Caller k)).stage (flight_of m (Caller k)).op o h.order in
-    enter_move c m k o lt (ap (λ (t : Stage). standing_at t (flight_of m (Caller k)).op) s.0) s.1
-call_moves c m k step.Leave lt g a h = Leaves lt (on c m k step.Leave h refl refl a)
-call_moves c m k step.Reg lt g a h = reg_move c m k lt (at_reg (flight_of m (Caller k)).stage (flight_of m (Caller k)).op h.order) a
-call_moves c m k step.Probe lt g a h =
-    let f = flight_of m (Caller k) in
-    let was = on c m k step.Probe h refl refl a in
-    GoesOn _ lt was
-    (either_stands (is_unmapped_header (header_of (finds c m (Caller k) step.Probe))) (refused f answer.Fault) (onward f None) InCall
-    (refused_stands f.stage f.op was) (onward_from c m k step.Probe h refl refl was))
-call_moves c m k step.Read lt g a h =
-    let f = flight_of m (Caller k) in
-    let was = on c m k step.Read h refl refl a in
-    GoesOn _ lt was (read_stands f f.op (finds c m (Caller k) step.Read) ∙ onward_from c m k step.Read h refl refl was)
-call_moves c m k step.Write lt g a h = let was = on c m k step.Write h refl refl a in GoesOn _ lt was (onward_from c m k step.Write h refl refl was)
-call_moves c m k step.Cas lt g a h = let was = on c m k step.Cas h refl refl a in GoesOn _ lt was (onward_from c m k step.Cas h refl refl was)
-call_moves c m k step.Getg lt g a h = let was = on c m k step.Getg h refl refl a in GoesOn _ lt was (onward_from c m k step.Getg h refl refl was)
-call_moves c m k step.Setg lt g a h = let was = on c m k step.Setg h refl refl a in GoesOn _ lt was (onward_from c m k step.Setg h refl refl was)
-call_moves c m k step.Dirty lt g a h = let was = on c m k step.Dirty h refl refl a in GoesOn _ lt was (onward_from c m k step.Dirty h refl refl was)
-call_moves c m k _ lt g a h = cc
-
--- markers
-
-attends_in : (b : Bool) → is_in (record { presence = if b then Attending else Visiting; scan = None; hand = None; seen = None }) ≡ true
-attends_in true = refl
-attends_in false = refl
-
-pub attends_at : (n : ℕ) → is_attending (if n % 8 == 1 then Attending else Visiting) ≡ true → n % 8 ≡ 1
-attends_at n h = elim (cases_Bool (n % 8 == 1)) [
-  | inl e ↦ eqb-true (n % 8) 1 e
-  | inr e ↦ let f : false ≡ true = ap (λ (b : Bool). is_attending (if b then Attending else Visiting)) (sym e) ∙ h in cc
-]
-
-pub marker_moves : (c : Config) (m : Moment) (k : ℕ) (x : Step) → k < 8 → group_of x ≡ group.Markers → Meets c m (Marker k) x → Moves c m (Marker k) x
-marker_moves c m k step.Attend lt g h =
-    Attends _ lt (not_from_true _ h.marker) (attends_in (m.words.phase % 8 == 1)) (attends_at m.words.phase) (record { scan = refl; hand = refl; seen = refl })
-marker_moves c m k step.Quit lt g h = Quits lt h.marker
-marker_moves c m k (step.Mlook w) lt g h = Scans _ lt (work_stays c (finds c m (Marker k) (step.Mlook w)) (step.Mlook w) (marker_of m k) refl) (work_idles c (finds c m (Marker k) (step.Mlook w)) (step.Mlook w) (marker_of m k) h.marker refl)
-marker_moves c m k (step.Claim p i) lt g h = Scans _ lt refl (work_idles c (finds c m (Marker k) (step.Claim p i)) (step.Claim p i) (marker_of m k) h.marker refl)
-marker_moves c m k step.Mload lt g h = Scans _ lt refl (work_idles c (finds c m (Marker k) step.Mload) step.Mload (marker_of m k) h.marker refl)
-marker_moves c m k step.Mmark lt g h = Scans _ lt refl (work_idles c (finds c m (Marker k) step.Mmark) step.Mmark (marker_of m k) h.marker refl)
-marker_moves c m k step.Mblack lt g h = Scans _ lt refl (work_idles c (finds c m (Marker k) step.Mblack) step.Mblack (marker_of m k) h.marker refl)
-marker_moves c m k _ lt g h = cc
+use Rattle.mk_protocol.proofs.SameWords.{Behind, Moves, finds, tally_keeps, with_words}
+use Rattle.mk_protocol.proofs.CallMoves.{same_flight, call_moves}
+use Rattle.mk_protocol.proofs.MarkerMoves.{marker_moves}
 
 -- who takes the turn
 
@@ -200,7 +46,8 @@ taken_by v k o b =
       holding = if b then nothing_done else v.holding;
     }
 
-pub call_takes : (c : Config) (m : Moment) (k : ℕ) (o : Op) → k < c.callers → (flight_of m (Caller k)).stage ≡ stage.Idle → is_under_turn o ≡ true → Moves c m (Caller k) (step.Take (Some o))
+pub call_takes : (c : Config) (m : Moment) (k : ℕ) (o : Op) → k < c.callers → (flight_of m (Caller k)).stage ≡ stage.Idle → is_under_turn o ≡ true
+    → Moves c m (Caller k) (step.Take (Some o))
 call_takes c m k o lt idle is = elim (cases_eq m.words.turn 0) [
   | inl z ↦
       subst (λ (b : Bool). Move c (view_of m) (Caller k) (taken_by (view_of m) k o b)) (sym (eq-eqb m.words.turn 0 z))
@@ -278,8 +125,10 @@ by_kind c m seat (step.Used p v) t n h =
 by_kind c m seat (step.Quar p v) t n h = works c m seat _ _ t (quarantines c.pages m.words (flight_of m seat) m.seats.holding p v)
 by_kind c m seat step.Grant t n h = works c m seat _ _ t (Grants (grants_new c m seat h))
 by_kind c m seat (step.Tally n v) t _ h =
-    with_words c (view_of m) seat m.words (accessed m.words (Named (tally_word n)) (Store v)) _ m.seats.holding m.seats.markers (tally_keeps m.words n v) (works_on c m seat t)
-by_kind c m seat (step.Hold j) t n h = let o = other_caller c seat j h.range in stays_at c m seat (view_of (Behind c m seat (step.Hold j))) (hold_move c m seat j t o.0 o.1)
+    with_words c (view_of m) seat m.words (accessed m.words (Named (tally_word n)) (Store v)) _ m.seats.holding m.seats.markers
+    (tally_keeps m.words n v) (works_on c m seat t)
+by_kind c m seat (step.Hold j) t n h =
+    let o = other_caller c seat j h.range in stays_at c m seat (view_of (Behind c m seat (step.Hold j))) (hold_move c m seat j t o.0 o.1)
 by_kind c m seat (step.Open j) t n h =
     let o = other_caller c seat j h.range in
     stays_at c m seat (view_of (Behind c m seat (step.Open j)))
@@ -292,7 +141,8 @@ by_kind c m seat (step.Mark p v) t n h =
     (chooses c m (flight_of m seat)) (Goes m.seats.holding refl refl))
 by_kind c m seat (step.Wipe i) t n h = works_on c m seat t
 by_kind c m seat step.Full t n h =
-    works c m seat _ _ t (Fills (fills_new c m seat h) (full_unplaced c.resident m.words.pages (object_made c (flight_of m seat).op) m.seats.holding.placing m.seats.holding.cycle h.holder))
+    works c m seat _ _ t
+    (Fills (fills_new c m seat h) (full_unplaced c.resident m.words.pages (object_made c (flight_of m seat).op) m.seats.holding.placing m.seats.holding.cycle h.holder))
 by_kind c m seat step.Begin t n h = stays_at c m seat (view_of (Behind c m seat step.Begin)) (Phases _ t refl refl (Begins (eqb-true (phase_of m.words) 0 h.phase)))
 by_kind c m seat step.Close t n h =
     stays_at c m seat (view_of (Behind c m seat step.Close))
@@ -309,7 +159,8 @@ by_kind c m seat step.Over t n h =
 by_kind c m seat _ t n h = cc
 
 -- all kinds
-pub moves : (c : Config) (m : Moment) (seat : Seat) (x : Step) → ((k : ℕ) → k < c.callers → is_astray (standing (flight_of m (Caller k))) ≡ false) → Actor c m seat x → Meets c m seat x → Moves c m seat x
+pub moves : (c : Config) (m : Moment) (seat : Seat) (x : Step) → ((k : ℕ) → k < c.callers → is_astray (standing (flight_of m (Caller k))) ≡ false)
+    → Actor c m seat x → Meets c m seat x → Moves c m seat x
 moves c m seat x a (InCallOf k _ lt g) h = call_moves c m k x lt g (a k lt) h
 moves c m seat x a (AsMarker k _ lt g) h = marker_moves c m k x lt g h
 moves c m seat x a (CallTakes k o lt idle is) h = call_takes c m k o lt idle is

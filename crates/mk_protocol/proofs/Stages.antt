@@ -117,7 +117,8 @@ reg_stands _ _ q p r l x c h = cc
 
 -- and makes no New
 
-either_no_new : (b : Bool) (p q : Progress) → is_undecided_new p.flight ≡ false → is_undecided_new q.flight ≡ false → is_undecided_new ((if b then p else q).flight) ≡ false
+either_no_new : (b : Bool) (p q : Progress) → is_undecided_new p.flight ≡ false → is_undecided_new q.flight ≡ false
+    → is_undecided_new ((if b then p else q).flight) ≡ false
 either_no_new true p q hp hq = hp
 either_no_new false p q hp hq = hq
 

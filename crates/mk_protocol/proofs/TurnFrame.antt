@@ -29,11 +29,13 @@ down p le = omega arith
 
 -- what none but the holder changes
 
-steady_call : (w : World) (k : ℕ) (fs : List Flight) (x : Words) → CallWrite k w.now.words x → steady_of (with_words_seats w x (record w.now.seats { flights = fs })) ≡ steady_of w
+steady_call : (w : World) (k : ℕ) (fs : List Flight) (x : Words) → CallWrite k w.now.words x
+    → steady_of (with_words_seats w x (record w.now.seats { flights = fs })) ≡ steady_of w
 steady_call w k fs x CallLoads = refl
 steady_call w k fs x _ = refl
 
-steady_mark : (w : World) (k : ℕ) (y : MarkerState) (ms : List MarkerState) (x : Words) → MarkerWrite k w.now y x → steady_of (with_words_seats w x (record w.now.seats { markers = ms })) ≡ steady_of w
+steady_mark : (w : World) (k : ℕ) (y : MarkerState) (ms : List MarkerState) (x : Words) → MarkerWrite k w.now y x
+    → steady_of (with_words_seats w x (record w.now.seats { markers = ms })) ≡ steady_of w
 steady_mark w k y ms x (ComesIn a) = ap (λ n. record (steady_of w) { phase = n }) (up w.now.words.phase)
 steady_mark w k y ms x (GoesOut a le) = ap (λ n. record (steady_of w) { phase = n }) (down w.now.words.phase le)
 steady_mark w k y ms x _ = refl
@@ -79,12 +81,14 @@ same_written : (m : Moment) (k : ℕ) (y : MarkerState) (x : Words) → MarkerWr
 same_written m k y x (ComesIn a) = (refl, refl, refl, refl, refl)
 same_written m k y x _ = (refl, refl, refl, refl, refl)
 
-held_out : (c : Config) (w : World) (seat : Seat) (v : World) → OthersMove c w seat v → (j : ℕ) → slice_index w.now.words.gates j ≡ 2 → slice_index v.now.words.gates j ≡ 2
+held_out : (c : Config) (w : World) (seat : Seat) (v : World) → OthersMove c w seat v → (j : ℕ) → slice_index w.now.words.gates j ≡ 2
+    → slice_index v.now.words.gates j ≡ 2
 held_out c w seat v Waits j is = is
 held_out c w seat v (Calls {k} f {x} lt le write) j is = held_call k w.now.words x j le write is
 held_out c w seat v (Marks {k} y {x} lt write) j is = ap (λ (gs : List ℕ). slice_index gs j) (same_written w.now k y x write).0 ∙ is
 
-free_out : (c : Config) (w : World) (seat : Seat) (v : World) → OthersMove c w seat v → (j : ℕ) → slice_index w.now.words.gates j ≢ 2 → slice_index v.now.words.gates j ≢ 2
+free_out : (c : Config) (w : World) (seat : Seat) (v : World) → OthersMove c w seat v → (j : ℕ) → slice_index w.now.words.gates j ≢ 2
+    → slice_index v.now.words.gates j ≢ 2
 free_out c w seat v Waits j is = is
 free_out c w seat v (Calls {k} f {x} lt le write) j is = free_call k w.now.words x j write is
 free_out c w seat v (Marks {k} y {x} lt write) j is = λ two. is (ap (λ (gs : List ℕ). slice_index gs j) (sym (same_written w.now k y x write).0) ∙ two)
@@ -94,7 +98,8 @@ free_out c w seat v (Marks {k} y {x} lt write) j is = λ two. is (ap (λ (gs : L
 not_that : (gs : List ℕ) (k j : ℕ) → slice_index gs k ≤ 1 → slice_index gs j ≡ 2 → j ≢ k
 not_that gs k j le is e = let g : slice_index gs j ≡ slice_index gs k = ap (λ i. slice_index gs i) e in absurd (omega arith)
 
-callers_out : (c : Config) (w : World) (seat : Seat) (v : World) → OthersMove c w seat v → (j : ℕ) → slice_index w.now.words.gates j ≡ 2 → flight_of v.now (Caller j) ≡ flight_of w.now (Caller j)
+callers_out : (c : Config) (w : World) (seat : Seat) (v : World) → OthersMove c w seat v → (j : ℕ) → slice_index w.now.words.gates j ≡ 2
+    → flight_of v.now (Caller j) ≡ flight_of w.now (Caller j)
 callers_out c w seat v (Calls {k} f {x} lt le write) j is = get_or-set_other w.now.seats.flights k j f at_rest (not_that w.now.words.gates k j le is)
 callers_out c w seat v _ j is = refl
 
@@ -115,7 +120,8 @@ marked_call k w x CallLoads = (refl, refl)
 marked_call k w x _ = (refl, refl)
 
 -- a marker that attends is in the way
-marked_mark : (m : Moment) (k : ℕ) (y : MarkerState) (x : Words) → MarkerWrite k m y x → (is_attending (marker_of m k).presence ≡ true → ⊥) → (x.marks ≡ m.words.marks) × (x.blacks ≡ m.words.blacks)
+marked_mark : (m : Moment) (k : ℕ) (y : MarkerState) (x : Words) → MarkerWrite k m y x → (is_attending (marker_of m k).presence ≡ true → ⊥)
+    → (x.marks ≡ m.words.marks) × (x.blacks ≡ m.words.blacks)
 marked_mark m k y x (AddsMarks p bits a s) none = absurd (none a)
 marked_mark m k y x (AddsBlacks p bits a s) none = absurd (none a)
 marked_mark m k y x _ none = (refl, refl)
@@ -135,13 +141,15 @@ grow_mark m k y x (AddsMarks p bits a s) = (grows_more m.words.marks p bits, gro
 grow_mark m k y x (AddsBlacks p bits a s) = (grows_same m.words.marks, grows_more m.words.blacks p bits)
 grow_mark m k y x _ = (grows_same m.words.marks, grows_same m.words.blacks)
 
-grow_out : (c : Config) (w : World) (seat : Seat) (v : World) → OthersMove c w seat v → OnlyGrow w.now.words.marks v.now.words.marks × OnlyGrow w.now.words.blacks v.now.words.blacks
+grow_out : (c : Config) (w : World) (seat : Seat) (v : World) → OthersMove c w seat v
+    → OnlyGrow w.now.words.marks v.now.words.marks × OnlyGrow w.now.words.blacks v.now.words.blacks
 grow_out c w seat v Waits = (grows_same w.now.words.marks, grows_same w.now.words.blacks)
 grow_out c w seat v (Calls {k} f {x} lt le write) = grow_call k w.now.words x write
 grow_out c w seat v (Marks {k} y {x} lt write) = grow_mark w.now k y x write
 
 -- in the stop, once no marker attends, none begins to
-none_mark : (m : Moment) (k : ℕ) (y : MarkerState) (x : Words) → MarkerWrite k m y x → m.words.phase % 8 ≡ 2 → is_attending (marker_of m k).presence ≡ false → is_attending y.presence ≡ false
+none_mark : (m : Moment) (k : ℕ) (y : MarkerState) (x : Words) → MarkerWrite k m y x → m.words.phase % 8 ≡ 2
+    → is_attending (marker_of m k).presence ≡ false → is_attending y.presence ≡ false
 none_mark m k y x (MarkerLoads s) two none = ap is_attending s ∙ none
 none_mark m k y x (ComesIn a) two none = elim (cases_Bool (is_attending y.presence)) [ inl e ↦ let one = a e in absurd (omega arith) | inr e ↦ e ]
 none_mark m k y x (GoesOut a le) two none = a
@@ -160,14 +168,17 @@ stopped_out c w seat v (Marks {k} y {x} lt write) two none =
 dirty_call : (k : ℕ) (w x : Words) (p : ℕ) → CallWrite k w x → slice_index w.dirty p ≢ 0 → slice_index x.dirty p ≢ 0
 dirty_call k w x p (SetsDirty q) is = elim (cases_eq p q) [
   | inl e ↦ elim (cases_lt q (length w.dirty)) [
-    | inl lt ↦ let g : slice_index (slice_set w.dirty q 1) p ≡ 1 = ap (λ i. slice_index (slice_set w.dirty q 1) i) e ∙ get_or-set_same w.dirty q 1 0 lt in λ z. absurd (omega arith)
+    | inl lt ↦
+        let g : slice_index (slice_set w.dirty q 1) p ≡ 1 = ap (λ i. slice_index (slice_set w.dirty q 1) i) e ∙ get_or-set_same w.dirty q 1 0 lt in
+        λ z. absurd (omega arith)
     | inr past ↦ λ z. is (ap (λ (xs : List ℕ). slice_index xs p) (sym (set_past w.dirty q 1 past)) ∙ z)
   ]
   | inr ne ↦ λ z. is (sym (get_or-set_other w.dirty q p 1 0 ne) ∙ z)
 ]
 dirty_call k w x p _ is = is
 
-dirty_out : (c : Config) (w : World) (seat : Seat) (v : World) → OthersMove c w seat v → (p : ℕ) → slice_index w.now.words.dirty p ≢ 0 → slice_index v.now.words.dirty p ≢ 0
+dirty_out : (c : Config) (w : World) (seat : Seat) (v : World) → OthersMove c w seat v → (p : ℕ) → slice_index w.now.words.dirty p ≢ 0
+    → slice_index v.now.words.dirty p ≢ 0
 dirty_out c w seat v Waits p is = is
 dirty_out c w seat v (Calls {k} f {x} lt le write) p is = dirty_call k w.now.words x p write is
 dirty_out c w seat v (Marks {k} y {x} lt write) p is = λ z. is (ap (λ (xs : List ℕ). slice_index xs p) (sym (same_written w.now k y x write).3) ∙ z)

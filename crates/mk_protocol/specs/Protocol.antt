@@ -15,7 +15,7 @@ use Rattle.mk_core.specs.declared.seats.Marker.{Marker}
 use Rattle.mk_core.specs.declared.seats.RunPages.{RunPages}
 use Rattle.mk_core.specs.Config.{IsWithinLimits}
 use Rattle.mk_core.specs.Words.{phase_of}
-use Rattle.mk_core.specs.Calls.{steps_of, is_same_stage}
+use Rattle.mk_core.specs.Calls.{has_operands, steps_of, is_same_stage}
 use Rattle.mk_core.specs.NewPlaces.{is_undecided_new}
 use Rattle.mk_core.specs.Moments.{Moment, flight_of, marker_of, nothing_done}
 use Rattle.mk_core.specs.StopConditions.{is_attending}
@@ -83,6 +83,8 @@ pub record Protocol (c : Config) (m : Moment) : Type 0 where
   pub holder : (k : ℕ) → k < c.callers → (m.words.turn ≡ 1 + k) ↔ (is_in_turn (flight_of m (Caller k)) ≡ true)
   -- A call is at a stage that its operation has.
   pub stage : (k : ℕ) → k < c.callers → has_stage (flight_of m (Caller k)).op (flight_of m (Caller k)).stage ≡ true
+  -- Its registers, its global and its type are there.
+  pub operands : (k : ℕ) → has_operands c (flight_of m (Caller k)).op ≡ true
   -- While a stop is wanted or made, and up to the end of releasing, somebody has the turn.
   pub cycle : 2 ≤ phase_of m.words → phase_of m.words ≤ 4 → m.words.turn ≢ 0
   -- Between `close` and `release` the gates of all but the holder are held.

@@ -7,19 +7,19 @@ ghost use Rattle.mk_protocol.specs.Reaching.{EventsReachTheTable, OthersLeaveAcc
 ghost use Rattle.mk_protocol.specs.Readings.{WordsTell};
 
 /// Behind any enabled events: who holds the turn, whose gate is held, which phase may stand, and how far
-/// the holder and the markers may be.
+/// callers, the holder and the markers may be.
 pub fn lists_keep_the_protocol()
-    ensures { ListsKeepTheProtocol }
+    ensures protocol { ListsKeepTheProtocol }
 {}
 
 /// What a look at the turn, at a gate and at the phase tells.
 pub fn words_tell_who_holds_what()
-    ensures { WordsTell }
+    ensures told { WordsTell }
 {}
 
 /// What the events of other seats leave to a seat, by what it is in the middle of.
 pub fn others_leave_a_seat_its_own()
-    ensures { OthersLeave }
+    ensures left { OthersLeave }
 {}
 
 /// An event reaches a word of the table, and the same one in the same way whatever other seats do before it.

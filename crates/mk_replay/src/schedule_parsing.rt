@@ -118,6 +118,3 @@ fn stop_at(line: u64, stop: LineStop) -> TextStop
         LineStop::NoMemory => TextStop::NoMemory,
     }
 }
-
-#[cfg(test)]
-mod tests;

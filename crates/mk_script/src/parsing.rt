@@ -90,6 +90,3 @@ fn at_end(scope: &Scope, items: Vec<Item>) -> Result<Vec<Item>, TextStop>
     }
     Ok(items)
 }
-
-#[cfg(test)]
-mod tests;

@@ -2,4 +2,4 @@ use Rattle.mk_protocol.proofs.Protocols.{lists_keep_the_protocol}
 use Rattle.mk_protocol.proofs.lists_keep_the_protocol.Goals as goal
 
 pub returns : goal.returns
-returns c = lists_keep_the_protocol
+returns c = record { protocol = lists_keep_the_protocol }

@@ -1,0 +1,98 @@
+//! Whether the seven conditions, as they are defined, are those that are meant: schedules, and events that are
+//! refused at places of them.
+
+use super::conditions::{FREES, FULL, GATES, MARKS, ORDER, PHASES, PLACES, RANGES, RUN_FREED};
+use super::cycles::{
+    ANSWERS, BLACKS, CARVED, FREED_BEHIND, FREED_PAGES, GLOBALS, MOVE, RELEASE, SCAN, STOP,
+};
+use super::{ample, run};
+use std::alloc::{AllocError, Global};
+use std::test::Fail;
+
+/// Scripts, a schedule, and what the scripts have printed behind it. A line of the schedule is made, but one that
+/// begins with the number of a condition: that refuses each of the line's events there, between which ` | ` stands.
+#[derive(Clone, Copy)]
+pub struct Walk {
+    pub scripts: &'static str,
+    pub lines: &'static str,
+    pub written: &'static str,
+}
+
+/// The line that is told of a schedule, and what is written.
+fn replayed(alloc: Global, text: &str) -> Result<(Vec<u8>, Vec<u8>), AllocError> {
+    let (status, written) = run(alloc, &ample(&["replay"], text.as_bytes()))?;
+    let told = status.text(alloc).map_err(|_| AllocError)?;
+    Ok((told, written))
+}
+
+/// The first text with one of these events behind what is made that ends otherwise than refused by the condition.
+fn not_refused(
+    alloc: Global,
+    made: &str,
+    condition: &str,
+    seat: &str,
+    events: &str,
+) -> Result<Option<String>, Fail> {
+    let line = (made.lines().count() as u64).saturating_add(1);
+    let wanted = format!(in alloc; "line {line}: event 1 not enabled, condition {condition}\n")?;
+    for event in events.split(" | ") {
+        let text = format!(in alloc; "{made}{seat} {event}\n")?;
+        let (told, _) = replayed(alloc, text.as_str())?;
+        if told.as_slice() != wanted.as_bytes() {
+            return Ok(Some(text));
+        }
+    }
+    Ok(None)
+}
+
+/// The first text that goes otherwise than the walk says.
+fn astray(alloc: Global, walk: &Walk) -> Result<Option<String>, Fail> {
+    let mut made = format!(in alloc; "{}schedule\n", walk.scripts)?;
+    for line in walk.lines.lines() {
+        let words: Vec<&str> = line.splitn(3, ' ').collect(alloc)?;
+        match words.as_slice() {
+            [condition, seat, events] if "1234567".contains(*condition) => {
+                if let Some(text) = not_refused(alloc, made.as_str(), condition, seat, events)? {
+                    return Ok(Some(text));
+                }
+            }
+            _ => {
+                made.push_str(line)?;
+                made.push_str("\n")?;
+            }
+        }
+    }
+    let (told, written) = replayed(alloc, made.as_str())?;
+    if told.is_empty() && written.as_slice() == walk.written.as_bytes() {
+        return Ok(None);
+    }
+    Ok(Some(made))
+}
+
+#[test]
+fn events_are_refused_by_the_condition_that_is_meant(rt: HostRuntime) -> Result<(), Fail> {
+    for walk in [
+        ORDER,
+        RANGES,
+        GATES,
+        PHASES,
+        PLACES,
+        FREES,
+        RUN_FREED,
+        MARKS,
+        FULL,
+        GLOBALS,
+        BLACKS,
+        STOP,
+        RELEASE,
+        FREED_PAGES,
+        SCAN,
+        FREED_BEHIND,
+        CARVED,
+        MOVE,
+        ANSWERS,
+    ] {
+        assert_eq!(rt; astray(rt.alloc(), &walk)?, None);
+    }
+    Ok(())
+}
