@@ -78,7 +78,7 @@ module _ (c : Config) (w : World) (n : NeverState) (known : KnownWorld c w) (mir
         set = s;
         count = mirrors.twins.count;
         apart = are_apart st;
-        small = small_operands c w.now.seats.flights known.operands;
+        small = small_operands c w.now.seats.flights known.now.operands;
         bound = λ a i u li. let f = words_fit a (exists_placed w.allocations a u) in let b = st.inside a u in omega (arith, known.lengths.heap);
         room = let p = known.limits.pages.1 in omega (arith, known.lengths.heap);
         full = λ ty lt. subst (λ (types : List (List Kind)). 0 < length (kinds_of types ty)) (sym mirrors.types)

@@ -28,7 +28,7 @@ use Rattle.mk_core.specs.Enabled.{MeetsAll}
 use Rattle.mk_protocol.proofs.Standings.{standing_at, standing, is_astray}
 use Rattle.mk_protocol.proofs.Stages.{is_call_stage}
 use Rattle.mk_protocol.proofs.NextSteps.{at_its_stage, at_reg, at_enter}
-use Rattle.mk_protocol.proofs.Protocols.{not_astray}
+use Rattle.mk_protocol.proofs.OrderlyLists.{not_astray}
 use Rattle.mk_protocol.proofs.Operands.{operands_of}
 use Rattle.mk_images.specs.Images.{scene_of, is_put, is_past_probe, CarriesOwn, ProbedOwn}
 use Rattle.mk_images.proofs.KnownWorlds.{KnownWorld}
@@ -121,7 +121,7 @@ begun_not_put _ = refl
 
 module _ (c : Config) (w : World) (n : NeverState) (known : KnownWorld c w) (mirrors : Mirrors c w n) (safe : ℕ → Bool) (ready : Ready c.globals safe (scene_of w) n) where
   pub there_is : (k : ℕ) → k < c.callers → k < length w.now.seats.flights
-  there_is k lt = let e = known.orderly.flights in omega (arith, e)
+  there_is k lt = let e = known.now.orderly.flights in omega (arith, e)
 
   pub own_registers : (k : ℕ) → k < c.callers → 8 * k + 7 < length n.registers
   own_registers k lt = let e = mirrors.register_count in omega (arith, e)
@@ -133,7 +133,7 @@ module _ (c : Config) (w : World) (n : NeverState) (known : KnownWorld c w) (mir
   own_d k = (ready.small k).3
 
   own_astray : (k : ℕ) → k < c.callers → is_astray (standing (flight_of w.now (Caller k))) ≡ false
-  own_astray k lt = not_astray c w.now known.orderly k lt
+  own_astray k lt = not_astray c w.now known.now.orderly k lt
 
   -- a call that begins, or doesn't
   pub begins : (k : ℕ) (o next : Op) (x : ℕ) → is_put (flight_of w.now (Caller k)).stage ≡ false
@@ -263,7 +263,7 @@ module _ (c : Config) (w : World) (n : NeverState) (known : KnownWorld c w) (mir
       let f = flight_of w.now (Caller k) in
       let lt = ltb-true k c.callers h.seat in
       let e = literal f stage.Setg (at_its_stage f.stage f.op step.Setg refl h.order) in
-      let parts = operands_of c f.op (known.operands k) in
+      let parts = operands_of c f.op (known.now.operands k) in
       let small = parts.g in
       let lg = known.lengths.globals in
       let ln = mirrors.global_count in

@@ -40,7 +40,7 @@ use Rattle.mk_protocol.proofs.Stages.{is_call_stage, is_turn_stage, calls_stand,
 use Rattle.mk_protocol.proofs.NextSteps.{of_turn, at_its_stage, at_take, at_no_take}
 use Rattle.mk_protocol.proofs.Asked.{others_held}
 use Rattle.mk_protocol.proofs.Actors.{grants_new}
-use Rattle.mk_protocol.proofs.Protocols.{not_astray}
+use Rattle.mk_protocol.proofs.OrderlyLists.{not_astray}
 use Rattle.mk_images.proofs.KeptPlaces.{same_places}
 use Rattle.mk_images.proofs.Stands.{gone_shows}
 use Rattle.mk_images.specs.Images.{Scene, scene_of, flight_among, is_put, is_past_probe}
@@ -107,11 +107,11 @@ module _ (c : Config) (w : World) (n : NeverState) (known : KnownWorld c w) (mir
     | inl e ↦
         let f = flight_of w.now (Caller k) in
         ap (λ i. is_put (flight_among w.now.seats.flights i).stage) e ∙ turn_plain f.stage (of_turn f.stage f.op step.Release refl refl h.order)
-    | inr ne ↦ idle_plain _ (others_idle c (view_of w.now) k known.orderly (others_held c w.now (Caller k) h.gates) j ne)
+    | inr ne ↦ idle_plain _ (others_idle c (view_of w.now) k known.now.orderly (others_held c w.now (Caller k) h.gates) j ne)
   ]
   plain_at Host o h j = elim (cases_lt j c.callers) [
-    | inl lt ↦ idle_plain _ (others_idle c (view_of w.now) c.callers known.orderly (others_held c w.now Host h.gates) j (λ e. absurd (omega arith)))
-    | inr le ↦ ap (λ (f : Flight). is_put f.stage) (get_or_past w.now.seats.flights j at_rest (let e = known.orderly.flights in omega (arith, e)))
+    | inl lt ↦ idle_plain _ (others_idle c (view_of w.now) c.callers known.now.orderly (others_held c w.now Host h.gates) j (λ e. absurd (omega arith)))
+    | inr le ↦ ap (λ (f : Flight). is_put f.stage) (get_or_past w.now.seats.flights j at_rest (let e = known.now.orderly.flights in omega (arith, e)))
   ]
   plain_at (Marker k) o h j = absurd (false≢true o)
 
@@ -139,14 +139,14 @@ module _ (c : Config) (w : World) (n : NeverState) (known : KnownWorld c w) (mir
   )
 
   astray_not : (k : ℕ) → k < c.callers → is_astray (standing (flight_of w.now (Caller k))) ≡ false
-  astray_not k lt = not_astray c w.now known.orderly k lt
+  astray_not k lt = not_astray c w.now known.now.orderly k lt
 
   -- who is in a call finds freed runs gone
   gone_for : (k : ℕ) → k < c.callers → standing (flight_of w.now (Caller k)) ≡ InCall → is_run_gone w.now.words w.now.seats.holding.freed ≡ true
   gone_for k lt in_call = elim (cases_Bool (is_run_gone w.now.words w.now.seats.holding.freed)) [
     | inl e ↦ e
     | inr e ↦
-        let s : Shows w.now.words.turn (gate_in (view_of w.now) k) k InCall = subst (λ s. Shows w.now.words.turn (gate_in (view_of w.now) k) k s) in_call (known.orderly.each k lt) in
+        let s : Shows w.now.words.turn (gate_in (view_of w.now) k) k InCall = subst (λ s. Shows w.now.words.turn (gate_in (view_of w.now) k) k s) in_call (known.now.orderly.each k lt) in
         let g = others.gates e k lt s.1 in
         let one = s.0 in
         absurd (omega arith)
@@ -156,7 +156,7 @@ module _ (c : Config) (w : World) (n : NeverState) (known : KnownWorld c w) (mir
       → is_past_probe (flight_among w.now.seats.flights j).stage ≡ false
   quiet_at k p v h run j ne =
       let held : others_are_held c.callers w.now.words (Caller k) ≡ true = either_held (is_run_cell w.now.words (target c.pages w.now.words (flight_of w.now (Caller k)))) (others_are_held c.callers w.now.words (Caller k)) run h.gates in
-      ap is_past_probe (others_idle c (view_of w.now) k known.orderly (others_held c w.now (Caller k) held) j ne)
+      ap is_past_probe (others_idle c (view_of w.now) k known.now.orderly (others_held c w.now (Caller k) held) j ne)
     where
       either_held : (a b : Bool) → a ≡ true → (not a || b) ≡ true → b ≡ true
       either_held true b e g = g
@@ -192,7 +192,7 @@ module _ (c : Config) (w : World) (n : NeverState) (known : KnownWorld c w) (mir
       let f = flight_of w.now (Caller k) in
       let lt = ltb-true k c.callers h.seat in
       grant_by c w n known mirrors others safe ready st k lt f.stage f.op f.q f.p f.r f.loaded w.now.seats.holding.placing refl h.order (h.holder) refl
-      (lt, new_stands f.stage f.op (grants_new c w.now (Caller k) h)) (grant_phase (w.now.words.phase % 8) h.phase) (known.operands k)
+      (lt, new_stands f.stage f.op (grants_new c w.now (Caller k) h)) (grant_phase (w.now.words.phase % 8) h.phase) (known.now.operands k)
   caller_goes k step.Full h ad =
       let f = flight_of w.now (Caller k) in
       full_by c w n known mirrors others safe ready st k (ltb-true k c.callers h.seat) f.stage f.op f.q f.p f.r f.loaded refl h.order

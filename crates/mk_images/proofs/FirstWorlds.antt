@@ -6,7 +6,7 @@ use Rattle.std.proofs.lemmas.Nat.Bits.{bit_at-zero}
 use Rattle.mk_core.specs.declared.config.Config.{Config}
 use Rattle.mk_core.specs.Bits.{has_bit}
 use Rattle.mk_core.specs.History.{first_world}
-use Rattle.mk_protocol.proofs.Protocols.{at_first}
+use Rattle.mk_protocol.proofs.OrderlyLists.{at_first}
 use Rattle.mk_images.specs.OthersSay.{OthersSay}
 
 bare_word : (k : ℕ) → has_bit 0 k ≡ false

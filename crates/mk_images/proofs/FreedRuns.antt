@@ -56,7 +56,7 @@ use Rattle.mk_protocol.proofs.Views.{View, view_of, flight_in, HoldsTurn}
 use Rattle.mk_protocol.proofs.Moves.{Move as ProtocolMove, Stays, Enters, GoesOn, Leaves, Takes, Gives, Works, Holds, Opens, Phases, Attends, Quits, Scans}
 use Rattle.mk_protocol.proofs.Orderly.{turn_of}
 use Rattle.mk_protocol.proofs.Actors.{Meets}
-use Rattle.mk_protocol.proofs.Protocols.{not_astray, actor_of}
+use Rattle.mk_protocol.proofs.OrderlyLists.{not_astray, actor_of}
 use Rattle.mk_protocol.proofs.Stages.{turns_stand}
 use Rattle.mk_protocol.proofs.NextSteps.{of_turn}
 use Rattle.mk_protocol.proofs.Sorts.{moves}
@@ -255,7 +255,7 @@ module _ (c : Config) (w : World) (n : NeverState) (known : KnownWorld c w) (oth
   new_by k _ _ q p r l cell run undecided points heads car = absurd (false≢true undecided)
 
   turn_taken : (run : RunPages) → w.now.seats.holding.freed ≡ Some run → w.now.words.turn ≢ 0
-  turn_taken run old z = let e : None ≡ Some run = ap (λ (h : Holding). h.freed) (sym (known.orderly.free z)) ∙ old in cc
+  turn_taken run old z = let e : None ≡ Some run = ap (λ (h : Holding). h.freed) (sym (known.now.orderly.free z)) ∙ old in cc
 
   -- what the group says behind the step of a seat
   abbrev OwnsBehind : Seat → Step → RunPages → ℕ → Type 0
@@ -275,15 +275,15 @@ module _ (c : Config) (w : World) (n : NeverState) (known : KnownWorld c w) (oth
       let f = flight_of w.now (Caller k) in
       let behind = flight_of (world_behind c w e).now (Caller k) in
       let under = decided_free_stands behind.stage behind.op free in
-      let was = was_under c (view_of w.now) (Caller k) (view_of (world_behind c w e).now) k (moves c w.now (Caller k) x (not_astray c w.now known.orderly) (actor_of c w.now (Caller k) x known.orderly h) h)
+      let was = was_under c (view_of w.now) (Caller k) (view_of (world_behind c w e).now) k (moves c w.now (Caller k) x (not_astray c w.now known.now.orderly) (actor_of c w.now (Caller k) x known.now.orderly h) h)
       refl (turn_taken run old) under in
-      let was_free = frees_run c w.now k run known.orderly (lt, was) old in
+      let was_free = frees_run c w.now k run known.now.orderly (lt, was) old in
       let at_give = decided_free_gives f.stage f.op was_free in
       let lit = literal f stage.Give at_give in
       let any : is_of_any_holder x ≡ true = subst (λ (s : Stage). comes_next s f.op x ≡ true) at_give h.order in
       let stays : progress c w.now f (found c w.now e) x ≡ still f =
       subst (λ (y : Flight). progress c w.now y (found c w.now e) x ≡ still y) (sym lit) (give_still c w.now f.op f.q f.p f.r f.loaded (found c w.now e) x any g) in
-      let there : k < length w.now.seats.flights = (let l = known.orderly.flights in omega (arith, l)) in
+      let there : k < length w.now.seats.flights = (let l = known.now.orderly.flights in omega (arith, l)) in
       let same : behind ≡ f = get_or-set_same w.now.seats.flights k _ at_rest there ∙ ap (λ (y : Progress). y.flight) stays in
       let never : never_after c w n e ≡ n = ap (λ (y : Progress). after_calls n (asked (entry_of k f.op y.answer))) stays in
       subst (λ (y : Flight). PointsAtRun (world_behind c w e) (never_after c w n e) k (p_of y.op) run) (sym same)
@@ -310,7 +310,7 @@ module _ (c : Config) (w : World) (n : NeverState) (known : KnownWorld c w) (oth
       let f = flight_of w.now (Caller k) in
       let freed = freed_cell c.pages w.now.words f p v cell e in
       let new = new_by k f.stage f.op f.q f.p f.r f.loaded cell run freed.free freed.pointed heads (mirrors.images.carried k) in
-      let there : k < length w.now.seats.flights = (let l = known.orderly.flights in omega (arith, l)) in
+      let there : k < length w.now.seats.flights = (let l = known.now.orderly.flights in omega (arith, l)) in
       let same : (flight_of (world_behind c w ev).now (Caller k)).op ≡ f.op =
       ap (λ (y : Flight). y.op) (get_or-set_same w.now.seats.flights k _ at_rest there) ∙ ap (λ (y : Option Cell). (progress_freed f y).flight.op) e in
       let never : never_after c w n ev ≡ after_calls n (asked (entry_of k f.op (Some answer.Done))) = ap (λ (y : Option Cell). after_calls n (asked (entry_of k f.op (progress_freed f y).answer))) e in
@@ -325,14 +325,14 @@ module _ (c : Config) (w : World) (n : NeverState) (known : KnownWorld c w) (oth
       let same : flight_of (world_behind c w (event_of (Caller j) (step.Quar p v))).now (Caller k) ≡ flight_of w.now (Caller k) = get_or-set_other w.now.seats.flights j k _ at_rest (λ y. ne (sym y)) in
       let was : is_decided_free (flight_of w.now (Caller k)) ≡ true = subst (λ (y : Flight). is_decided_free y ≡ true) same free in
       let lk : k < c.callers = there k was in
-      let tj = turn_of c (view_of w.now) (Caller j) known.orderly (lj, turns_stand f.stage f.op (of_turn f.stage f.op (step.Quar p v) refl refl h.order) (not_astray c w.now known.orderly j lj)) in
-      let tk = turn_of c (view_of w.now) (Caller k) known.orderly (holds k lk was) in
+      let tj = turn_of c (view_of w.now) (Caller j) known.now.orderly (lj, turns_stand f.stage f.op (of_turn f.stage f.op (step.Quar p v) refl refl h.order) (not_astray c w.now known.now.orderly j lj)) in
+      let tk = turn_of c (view_of w.now) (Caller k) known.now.orderly (holds k lk was) in
       absurd (ne (omega arith))
     where
       there : (k : ℕ) → is_decided_free (flight_of w.now (Caller k)) ≡ true → k < c.callers
       there k free = elim (cases_lt k c.callers) [
         | inl lt ↦ lt
-        | inr le ↦ absurd (false≢true (ap (λ (y : Flight). is_decided_free y) (sym (get_or_past w.now.seats.flights k at_rest (let e = known.orderly.flights in omega (arith, e)))) ∙ free))
+        | inr le ↦ absurd (false≢true (ap (λ (y : Flight). is_decided_free y) (sym (get_or_past w.now.seats.flights k at_rest (let e = known.now.orderly.flights in omega (arith, e)))) ∙ free))
       ]
 
   caller_owns : (j : ℕ) (x : Step) → Meets c w.now (Caller j) x → GrowsBehind (Caller j) x → AreAdmitted c.globals n (asked (call_decided c w.now (event_of (Caller j) x)))

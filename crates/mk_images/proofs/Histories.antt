@@ -21,7 +21,7 @@ use Rattle.mk_core.specs.Image.{image_of, answer_of, answers_of}
 use Rattle.mk_core.specs.Decided.{Decided, asked, answered}
 use Rattle.mk_core.specs.History.{World, first_world, world_behind, left_from, left, AreEnabledFrom, AreEnabled, call_decided, calls_from, never_first, never_behind, bases_of, IsHistory}
 use Rattle.mk_core.proofs.Histories.{left_more, enabled_more}
-use Rattle.mk_protocol.proofs.Protocols.{at_first}
+use Rattle.mk_protocol.proofs.OrderlyLists.{at_first}
 use Rattle.mk_images.specs.Images.{shown, CarriesOwn, ProbedOwn}
 use Rattle.mk_images.specs.SafeSets.{IsSafe, HasSafeSet}
 use Rattle.mk_images.specs.OthersSay.{OthersSay}

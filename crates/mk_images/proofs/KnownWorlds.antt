@@ -6,18 +6,12 @@ use Rattle.mk_core.specs.Config.{IsWithinLimits}
 use Rattle.mk_core.specs.Layout.{AreOfPages}
 use Rattle.mk_core.specs.History.{World, left, AreEnabled}
 use Rattle.mk_core.proofs.Lengths.{histories_keep_lengths}
-use Rattle.mk_protocol.proofs.Views.{view_of}
-use Rattle.mk_protocol.proofs.Orderly.{Orderly}
-use Rattle.mk_protocol.proofs.Operands.{HaveOperands}
-use Rattle.mk_protocol.proofs.Known.{known_left}
+use Rattle.mk_protocol.proofs.Known.{Known, known_left}
 
 pub record KnownWorld (c : Config) (w : World) : Type 0 where
   pub limits : IsWithinLimits c
-  pub orderly : Orderly c (view_of w.now)
-  pub operands : HaveOperands c w.now.seats.flights
+  pub now : Known c w.now
   pub lengths : AreOfPages c.pages w.now.words
 
 pub known_world : (c : Config) (es : List Event) → IsWithinLimits c → AreEnabled c es → KnownWorld c (left c es)
-known_world c es limits on =
-    let k = known_left c es limits on in
-    record { limits = limits; orderly = k.orderly; operands = k.operands; lengths = histories_keep_lengths c es }
+known_world c es limits on = record { limits = limits; now = known_left c es limits on; lengths = histories_keep_lengths c es }

@@ -38,7 +38,8 @@ use Rattle.mk_core.proofs.StandingAllocations.{typed_size, run_begins, run_cell}
 use Rattle.mk_protocol.proofs.Standings.{standing_at, is_astray}
 use Rattle.mk_protocol.proofs.Stages.{is_call_stage}
 use Rattle.mk_protocol.proofs.NextSteps.{at_its_stage}
-use Rattle.mk_protocol.proofs.Protocols.{not_astray, protocol_of}
+use Rattle.mk_protocol.proofs.OrderlyLists.{not_astray}
+use Rattle.mk_protocol.proofs.Protocols.{protocol_of}
 use Rattle.mk_images.specs.Images.{scene_of, is_put, CarriesOwn, ProbedOwn}
 use Rattle.mk_images.specs.SafeSets.{IsSafe}
 use Rattle.mk_images.specs.OthersSay.{OthersSay}
@@ -95,7 +96,7 @@ module _ (c : Config) (w : World) (n : NeverState) (known : KnownWorld c w) (oth
 
   run_marked : phase_of w.now.words ≡ 3 → (run : RunPages) → w.now.seats.holding.freed ≡ Some run → is_marked w.now.words (record { page = run.page; index = 0 }) ≡ true
   run_marked phase run e =
-      let who = (protocol_of c w.now known.orderly).freed run e in
+      let who = (protocol_of c w.now known.now).freed run e in
       let k = who.caller in
       let f = flight_of w.now (Caller k) in
       let points = mirrors.freed_run run e k who.holds in
@@ -159,7 +160,7 @@ module _ (c : Config) (w : World) (n : NeverState) (known : KnownWorld c w) (oth
   stored_word k step.Write is h ad =
       let f = flight_of w.now (Caller k) in
       let at = at_its_stage f.stage f.op step.Write refl h.order in
-      let a = not_astray c w.now known.orderly k (ltb-true k c.callers h.seat) in
+      let a = not_astray c w.now known.now.orderly k (ltb-true k c.callers h.seat) in
       let lit = literal f stage.Write at in
       write_word k f.op f.q f.p f.r f.loaded (subst (λ (s : Stage). is_astray (standing_at s f.op) ≡ false) at a)
       (subst (λ (g : Flight). CarriesOwn (bases_of w.allocations) n k g) lit (ready.images.carried k)) (subst (λ (g : Flight). ProbedOwn n k g) lit (ready.images.probed k))
@@ -167,7 +168,7 @@ module _ (c : Config) (w : World) (n : NeverState) (known : KnownWorld c w) (oth
   stored_word k step.Cas is h ad =
       let f = flight_of w.now (Caller k) in
       let at = at_its_stage f.stage f.op step.Cas refl h.order in
-      let a = not_astray c w.now known.orderly k (ltb-true k c.callers h.seat) in
+      let a = not_astray c w.now known.now.orderly k (ltb-true k c.callers h.seat) in
       let lit = literal f stage.Cas at in
       cas_word k f.op f.q f.p f.r f.loaded (subst (λ (s : Stage). is_astray (standing_at s f.op) ≡ false) at a)
       (subst (λ (g : Flight). CarriesOwn (bases_of w.allocations) n k g) lit (ready.images.carried k)) (subst (λ (g : Flight). ProbedOwn n k g) lit (ready.images.probed k))

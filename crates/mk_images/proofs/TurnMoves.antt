@@ -94,7 +94,7 @@ module _ (c : Config) (w : World) (n : NeverState) (known : KnownWorld c w) (mir
       let inside = fills.inside in
       let pages = known.limits.pages.1 in
       let word : address_of (base_made o place) ≡ address_of (base_made o place) % 2 ^ 64 = omega arith in
-      let zero_there = place_is_zero c w n known mirrors others st a place (λ run. new_frees_none c w.now k run known.orderly hold new) phase refl taken fills in (
+      let zero_there = place_is_zero c w n known mirrors others st a place (λ run. new_frees_none c w.now k run known.now.orderly hold new) phase refl taken fills in (
         subst (λ x. Move safe (scene_of w) n (record {
           registers = slice_set w.now.words.registers (8 * k + d) x;
           globals = w.now.words.globals;
