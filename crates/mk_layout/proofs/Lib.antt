@@ -4,3 +4,8 @@ pub mod Readings
 pub mod Releasing
 pub mod Placing
 pub mod Unmapping
+pub mod Claims
+pub mod Fits
+pub mod StandingClaims
+pub mod Joined
+pub mod Serving

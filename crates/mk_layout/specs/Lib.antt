@@ -1,1 +1,3 @@
+pub mod Quarantine
 pub mod Scene
+pub mod Terrain
