@@ -9,3 +9,6 @@ pub mod Fits
 pub mod StandingClaims
 pub mod Joined
 pub mod Serving
+pub mod Released
+pub mod Dropped
+pub mod Modes

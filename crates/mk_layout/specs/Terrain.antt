@@ -1,5 +1,6 @@
 -- The scene of a world: what the allocations, the place of a New and the run of a Free claim.
 use Rattle.std.specs.Prelude.{◌≡◌, ℕ, ◌-◌, ◌/◌, ◌<◌, Bool, true, false, ◌&&◌, not, ◌==◌, List, [], ◌∷◌, ◌++◌, length, Option, Some, None, if◌then◌else◌}
+use Rattle.mk_geom.specs.declared.addresses.Cell.{Cell}
 use Rattle.mk_geom.specs.declared.pages.Page.{Page}
 use Rattle.mk_geom.specs.declared.pages.Place.{Place}
 use Rattle.mk_core.specs.declared.config.Config.{Config}
@@ -104,6 +105,12 @@ RunStands claims (Some run) = IsClaimedRun claims run
 pub record IsAtCell (c : Config) (a : PlacedAllocation) : Type 0 where
   pub typed : a.ty < length c.types
   pub begins : BeginsAtCell (object_placed c a) a.base
+
+-- The cell is that of an unreleased allocation.
+pub record IsCellOf (c : Config) (xs : List PlacedAllocation) (cell : Cell) : Type 0 where
+  pub number : ℕ
+  pub unreleased : (placed_at xs number).released ≡ false
+  pub is : cell_of_allocation c (placed_at xs number) ≡ cell
 
 -- A place that is chosen is cell 0 of its first page.
 abbrev pub IsFirst : Placing → Type 0
