@@ -12,3 +12,5 @@ pub mod Serving
 pub mod Released
 pub mod Dropped
 pub mod Modes
+pub mod Freed
+pub mod Granted
