@@ -12,7 +12,7 @@ use Rattle.mk_core.specs.Counts.{ends}
 use Rattle.mk_core.specs.Effects.{run_of_cell}
 use Rattle.mk_core.specs.History.{World}
 use Rattle.mk_core.specs.NewPlaces.{is_run_unmapped, is_small_object, pages_made, stands, unmapped_header}
-use Rattle.mk_core.specs.ObjectHeaders.{IsSized, OfBlock, OfLater, OfLeafBlock, OfLeafRun, OfRun, ShowsPart}
+use Rattle.mk_core.specs.ObjectHeaders.{IsSized, OfBlock, OfLater, OfLeafBlock, OfLeafRun, OfRun, ShowsPart, cells_made}
 use Rattle.mk_core.specs.StandingAllocations.{object_placed}
 use Rattle.mk_core.specs.Words.{Words, header_at}
 use Rattle.mk_core.specs.declared.config.Config.{Config}
@@ -26,7 +26,7 @@ use Rattle.mk_core.proofs.Schedules.{by}
 use Rattle.mk_core.proofs.Sizes.{pages_some}
 use Rattle.mk_core.proofs.SmallCycles.{small}
 use Rattle.mk_core.proofs.StandingAllocations.{first_page_shows}
-use Rattle.mk_layout.specs.Scene.{Among, Claim, HasHeader, IsUnmappedHeaderOf}
+use Rattle.mk_layout.specs.Scene.{Among, Claim, HasHeader, IsShown, IsUnmappedHeaderOf}
 use Rattle.mk_layout.specs.Terrain.{IsCellOf, IsClaimedRun, RunStands, claim_of, claims_of, claims_on, is_unmapping, mode_of, scene_of, terrain_of}
 use Rattle.mk_layout.proofs.Claims.{LeavesCells, changed_among, claim_among}
 use Rattle.mk_layout.proofs.Modes.{Remodes, remoded}
@@ -66,6 +66,28 @@ moves false true true false o d h stays starts has = absurd (true≢false (sym (
 pub freeing_leaves : (w : Words) (cell : Option Cell) → LeavesCells (freed_where_it_stands w cell)
 freeing_leaves w cell = record { places = freed_leaves w cell; released = λ a h. sym (freed_released w cell a) ∙ h }
 
+-- What stands in the cell of an unreleased allocation has that cell.
+pub standing_cell : (c : Config) (o : Object) (w : World) (cell : Cell) → length w.now.words.pages ≡ c.pages → IsCellOf c w.allocations cell → Laid c o false w (terrain_of w)
+    → (i : ℕ) → (placed_at w.allocations i).released ≡ false → stands_in w.now.words cell (placed_at w.allocations i) ≡ true
+    → cell_of_allocation c (placed_at w.allocations i) ≡ cell
+standing_cell c o w cell len own st i u h =
+    let x = shown own.number own.unreleased in
+    let a : PlacedAllocation = placed_at w.allocations own.number in
+    let page : a.base / 64 ≡ cell.page = ap (λ (y : Cell). y.page) own.is in
+    let part : ShowsPart (object_placed c a) 0 (header_in w.now.words cell.page) =
+    subst (λ p. ShowsPart (object_placed c a) 0 (header_in w.now.words p)) page
+    (first_page_shows c w.now.words a x.sized (all_stand c o false w len st own.number own.unreleased).headers) in
+    let cells = part_cells (object_placed c a) (header_in w.now.words cell.page) part in
+    let index : (cell_of_allocation c a).index ≡ cell.index = ap (λ (y : Cell). y.index) own.is in
+    let lt : (cell_of_allocation c a).index < cells_made (object_placed c a) = x.known in
+    let known : cell.index < cells_under (header_in w.now.words cell.page) = omega arith in
+    (stands_in_no_other c w.now.words (placed_at w.allocations i) cell (shown i u).sized (all_stand c o false w len st i u).headers known h).1
+  where
+    shown : (i : ℕ) → (placed_at w.allocations i).released ≡ false → IsShown w.now.words.pages (claim_of c w.now.seats.holding.freed (placed_at w.allocations i))
+    shown i u =
+        let x : Claim = claim_of c w.now.seats.holding.freed (placed_at w.allocations i) in
+        st.scene.shown x (own_claim c o (terrain_of w) x (claim_among c w.now.seats.holding.freed w.allocations i u))
+
 pub freed_terrain : (c : Config) (o : Object) (w : World) (cell : Cell) → IsWithinLimits c → length w.now.words.pages ≡ c.pages → w.now.seats.holding.freed ≡ None
     → IsCellOf c w.allocations cell → Laid c o false w (terrain_of w)
     → Laid c o false w (record (terrain_of w) { run = run_of_cell w.now.words (Some cell); allocations = map (freed_where_it_stands w.now.words (Some cell)) w.allocations })
@@ -91,17 +113,8 @@ freed_terrain c o w cell limits len none own st = by (cases_Bool (is_small_objec
         subst (λ p. ShowsPart (object_placed c (placed_at w.allocations own.number)) 0 (header_in w.now.words p)) page
         (first_page_shows c w.now.words (placed_at w.allocations own.number) sized (stand own.number own.unreleased).headers)
 
-    known : cell.index < cells_under (header_in w.now.words cell.page)
-    known =
-        let s = (st.scene.shown (claim_of c w.now.seats.holding.freed (placed_at w.allocations own.number)) (among own.number own.unreleased)).known in
-        let cells = part_cells (object_placed c (placed_at w.allocations own.number)) (header_in w.now.words cell.page) part in
-        let index : (cell_of_allocation c (placed_at w.allocations own.number)).index ≡ cell.index = ap (λ (x : Cell). x.index) own.is in
-        omega arith
-
-    -- what stands in the cell has it
     cell_of : (i : ℕ) → (placed_at w.allocations i).released ≡ false → stands_in w.now.words cell (placed_at w.allocations i) ≡ true → cell_of_allocation c (placed_at w.allocations i) ≡ cell
-    cell_of i u h =
-        (stands_in_no_other c w.now.words (placed_at w.allocations i) cell (st.scene.shown (claim_of c w.now.seats.holding.freed (placed_at w.allocations i)) (among i u)).sized (stand i u).headers known h).1
+    cell_of = standing_cell c o w cell len own st
 
     keeps : (b : PlacedAllocation) → b.released ≡ false → (freed_where_it_stands w.now.words (Some cell) b).released ≡ false
     keeps b u = freed_released w.now.words (Some cell) b ∙ u

@@ -14,3 +14,9 @@ pub mod Dropped
 pub mod Modes
 pub mod Freed
 pub mod Granted
+pub mod Holders
+pub mod Before
+pub mod PageKinds
+pub mod ByKind
+pub mod Behind
+pub mod QuarantineSteps

@@ -4,11 +4,10 @@ use Rattle.mk_geom.specs.declared.pages.Place.{Place}
 use Rattle.mk_core.specs.declared.config.Config.{Config}
 use Rattle.mk_core.specs.declared.seats.Placing.TheVariants.{Used}
 use Rattle.mk_core.specs.Bits.{has_bit}
-use Rattle.mk_core.specs.Cells.{cells_under}
 use Rattle.mk_core.specs.Moments.{is_phase}
 use Rattle.mk_core.specs.Allocations.{PlacedAllocation, placed_at, cell_of_allocation}
 use Rattle.mk_core.specs.History.{World}
-use Rattle.mk_layout.specs.Scene.{shows_on, is_released_in}
+use Rattle.mk_layout.specs.Scene.{is_released_in}
 use Rattle.mk_layout.specs.Terrain.{Terrain, terrain_of}
 
 -- The cell is that of an unreleased allocation that is freed.
@@ -27,9 +26,7 @@ pub record HasQuarantine (c : Config) (releasing : Bool) (marks : List ℕ) (t :
   pub small : (p : ℕ) → (slice_index t.freed p < 2 ^ 32) × (slice_index t.snapshot p < 2 ^ 32)
   -- The snapshot's bits are freed bits,
   pub within : (p k : ℕ) → has_bit (slice_index t.snapshot p) k ≡ true → has_bit (slice_index t.freed p) k ≡ true
-  -- each of which is that of a cell of its page,
-  pub known : (p k : ℕ) → has_bit (slice_index t.freed p) k ≡ true → k < cells_under (shows_on t.pages p)
-  -- a freed allocation's or a released one.
+  -- each of which is that of a freed allocation's cell or of a released one.
   pub owned : (p k : ℕ) → has_bit (slice_index t.freed p) k ≡ true
       → IsFreedCell c t.allocations p k ⊎ (is_released_in releasing t.snapshot marks p k ≡ true)
   -- A freed allocation has its freed bit.
@@ -40,9 +37,6 @@ pub record HasQuarantine (c : Config) (releasing : Bool) (marks : List ℕ) (t :
   -- No unreleased allocation's cell is released.
   pub kept : releasing ≡ true → (i : ℕ) → (placed_at t.allocations i).released ≡ false
       → is_released_in true t.snapshot marks (cell_of_allocation c (placed_at t.allocations i)).page (cell_of_allocation c (placed_at t.allocations i)).index ≡ false
-  -- A fresh allocation is freed, and not released.
-  pub fresh : (i : ℕ) → (placed_at t.allocations i).fresh ≡ true
-      → ((placed_at t.allocations i).freed ≡ true) × ((placed_at t.allocations i).released ≡ false)
 
 abbrev pub IsQuarantined : Config → World → Type 0
 IsQuarantined c w = HasQuarantine c (is_phase w.now.words 4) w.now.words.marks (terrain_of w)
