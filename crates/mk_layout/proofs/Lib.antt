@@ -20,3 +20,4 @@ pub mod PageKinds
 pub mod ByKind
 pub mod Behind
 pub mod QuarantineSteps
+pub mod QuarantineChanges
