@@ -21,3 +21,5 @@ pub mod ByKind
 pub mod Behind
 pub mod QuarantineSteps
 pub mod QuarantineChanges
+pub mod QuarantineByKind
+pub mod Histories
