@@ -1,0 +1,4 @@
+pub mod LayoutLaws
+pub mod Quarantine
+pub mod Scene
+pub mod Terrain
