@@ -20,11 +20,11 @@ pub record IsClaimOf (c : Config) (run : Option RunPages) (xs : List PlacedAlloc
   pub is : x ≡ claim_of c run (placed_at xs number)
 
 -- one allocation more at the front
-front : (c : Config) (run : Option RunPages) (a : PlacedAllocation) (xs : List PlacedAllocation) → a.released ≡ false
+pub front : (c : Config) (run : Option RunPages) (a : PlacedAllocation) (xs : List PlacedAllocation) → a.released ≡ false
     → claims_of c run (a ∷ xs) ≡ claim_of c run a ∷ claims_of c run xs
 front c run a xs u = cond-false a.released (claims_of c run xs) (claim_of c run a ∷ claims_of c run xs) u
 
-gone_front : (c : Config) (run : Option RunPages) (a : PlacedAllocation) (xs : List PlacedAllocation) → a.released ≡ true
+pub gone_front : (c : Config) (run : Option RunPages) (a : PlacedAllocation) (xs : List PlacedAllocation) → a.released ≡ true
     → claims_of c run (a ∷ xs) ≡ claims_of c run xs
 gone_front c run a xs r = cond-true a.released (claims_of c run xs) (claim_of c run a ∷ claims_of c run xs) r
 
