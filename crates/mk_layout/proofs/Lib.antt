@@ -26,3 +26,4 @@ pub mod Histories
 pub mod Apart
 pub mod OnClaims
 pub mod HeadersStand
+pub mod Settled
