@@ -18,7 +18,6 @@ use Rattle.mk_core.specs.StandingAllocations.{BeginsAtCell, object_placed}
 use Rattle.mk_core.specs.Words.{Words}
 use Rattle.mk_core.specs.declared.config.Config.{Config}
 use Rattle.mk_core.specs.declared.seats.Object.{Object}
-use Rattle.mk_core.proofs.Schedules.{by}
 use Rattle.mk_core.proofs.Sizes.{pages_some, small_pages, small_words, words_are_small, words_within}
 use Rattle.mk_core.proofs.StandingAllocations.{first_page_shows, placed_cell}
 use Rattle.mk_core.proofs.UnreleasedStorage.{released_front, storage_is_of, unreleased_front}

@@ -8,7 +8,6 @@ use Rattle.mk_geom.specs.declared.headers.Header.{Header}
 use Rattle.mk_core.specs.Allocations.{PlacedAllocation, cell_of_allocation, freed_where_it_stands, placed_at, stands_in}
 use Rattle.mk_core.specs.Cells.{cells_under, header_in, run_headed}
 use Rattle.mk_core.specs.Config.{IsWithinLimits}
-use Rattle.mk_core.specs.Counts.{ends}
 use Rattle.mk_core.specs.Effects.{run_of_cell}
 use Rattle.mk_core.specs.History.{World}
 use Rattle.mk_core.specs.NewPlaces.{is_run_unmapped, is_small_object, pages_made, stands, unmapped_header}
@@ -22,7 +21,6 @@ use Rattle.mk_core.proofs.AllBelow.{all_below-at}
 use Rattle.mk_core.proofs.CellsOfAllocations.{stands_in_its_cell, stands_in_no_other}
 use Rattle.mk_core.proofs.ChangedAllocations.{freed_leaves, freed_released}
 use Rattle.mk_core.proofs.ObjectHeaders.{part_cells}
-use Rattle.mk_core.proofs.Schedules.{by}
 use Rattle.mk_core.proofs.Sizes.{pages_some}
 use Rattle.mk_core.proofs.SmallCycles.{small}
 use Rattle.mk_core.proofs.StandingAllocations.{first_page_shows}

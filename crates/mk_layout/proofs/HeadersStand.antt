@@ -19,7 +19,6 @@ use Rattle.mk_geom.proofs.UsedWords.{bit_at-used_word}
 use Rattle.mk_core.specs.Allocations.{PlacedAllocation, cell_of_allocation, is_mapped, placed_at, storage_of, storage_words, unreleased_storage}
 use Rattle.mk_core.specs.Bits.{has_bit}
 use Rattle.mk_core.specs.Cells.{cells_under}
-use Rattle.mk_core.specs.Counts.{ends}
 use Rattle.mk_core.specs.Effects.{taken}
 use Rattle.mk_core.specs.NewPlaces.{class_made, header_made, is_small_object, pages_made, stands}
 use Rattle.mk_core.specs.ObjectHeaders.{ShowsPart}
@@ -28,7 +27,6 @@ use Rattle.mk_core.specs.Words.{Words, header_at, used_at}
 use Rattle.mk_core.specs.declared.config.Config.{Config}
 use Rattle.mk_core.specs.declared.seats.Object.{Object}
 use Rattle.mk_core.proofs.ObjectHeaders.{large_header, later_cells, small_header}
-use Rattle.mk_core.proofs.Schedules.{by}
 use Rattle.mk_core.proofs.Sizes.{class_known, large_cells, large_is_not_small, large_words, pages_some, small_cells, small_pages, small_words, words_within}
 use Rattle.mk_core.proofs.SmallCycles.{small}
 use Rattle.mk_core.proofs.StandingAllocations.{run_begins, standing_has_storage}

@@ -6,7 +6,6 @@ use Rattle.mk_never.specs.declared.operations.Op.{Op}
 use Rattle.mk_never.specs.declared.operations.Op.TheVariants as op
 use Rattle.mk_core.specs.Calls.{has_operands}
 use Rattle.mk_core.specs.Config.{IsWithinLimits}
-use Rattle.mk_core.specs.Effects.{decided}
 use Rattle.mk_core.specs.Moments.{Moment, flight_of}
 use Rattle.mk_core.specs.NewPlaces.{header_made, is_free_at, is_undecided_free, is_undecided_new, object_made}
 use Rattle.mk_core.specs.ObjectHeaders.{IsSized}
@@ -24,7 +23,6 @@ use Rattle.mk_core.specs.declared.seats.Stage.{Stage}
 use Rattle.mk_core.specs.declared.seats.Stage.TheVariants as stage
 use Rattle.mk_core.proofs.GrantedAllocations.{new_sized}
 use Rattle.mk_core.proofs.ObjectHeaders.{made_shows, part_not_free}
-use Rattle.mk_core.proofs.Schedules.{by}
 use Rattle.mk_core.proofs.Sizes.{pages_some}
 use Rattle.mk_protocol.specs.Protocol.{has_place, is_decided_free, is_decided_free_at}
 use Rattle.mk_protocol.proofs.Actors.{Actor, AsHolder, AsMarker, CallTakes, HostTakes, InCallOf, Meets}

@@ -1,5 +1,5 @@
 -- The steps of a New: its place is chosen, its pages get their headers one by one, and its cell is taken.
-use Rattle.std.proofs.Common.{Bool, List, [], ap, arith, false, inl, inr, length, length-set, refl, subst, sym, true, zero, ℕ, ◌++◌, ◌+◌, ◌-◌, ◌<◌, ◌^◌, ◌∙◌, ◌∷◌, ◌≡◌, ◌≢◌, ◌≤◌, ◌⊎◌}
+use Rattle.std.proofs.Common.{Bool, List, [], ap, arith, false, inl, inr, length, length-set, refl, subst, sym, true, ℕ, ◌++◌, ◌+◌, ◌-◌, ◌<◌, ◌^◌, ◌∙◌, ◌∷◌, ◌≡◌, ◌≢◌, ◌≤◌, ◌⊎◌}
 use Rattle.std.specs.Prelude.{Some}
 use Rattle.std.proofs.lemmas.Bool.{cases_eq, true≢false}
 use Rattle.mk_geom.specs.Addresses.{head_page_under}
@@ -10,7 +10,6 @@ use Rattle.mk_core.specs.Cells.{cells_under}
 use Rattle.mk_core.specs.NewPlaces.{header_made, pages_made, stands}
 use Rattle.mk_core.specs.ObjectHeaders.{IsSized, ShowsPart, cells_made}
 use Rattle.mk_core.specs.declared.seats.Object.{Object}
-use Rattle.mk_core.proofs.EvaluatedPlaces.{full}
 use Rattle.mk_core.proofs.ObjectHeaders.{made_shows, part_cells, shown_later}
 use Rattle.mk_core.proofs.Sizes.{pages_some}
 use Rattle.mk_core.proofs.WordBits.{added_here, added_other}

@@ -13,7 +13,6 @@ use Rattle.mk_core.specs.Bits.{has_bit}
 use Rattle.mk_core.specs.Cells.{cells_under}
 use Rattle.mk_core.specs.Counts.{ends}
 use Rattle.mk_core.specs.NewPlaces.{header_made, pages_made, stands}
-use Rattle.mk_core.proofs.Schedules.{by}
 use Rattle.mk_protocol.proofs.Kept.{kept}
 use Rattle.mk_layout.specs.Scene.{Among, AreApart, Claim, HasHeader, IsClaimed, IsLaidOn, IsShown, NoPlot, Plot, PlotStands, Plotted, Scene, head_on, header_on, is_released_in, is_released_on, run_count, shows_on, used_on}
 use Rattle.mk_layout.proofs.PageSets.{headed_here, headed_other, headed_used, used_header, used_here, used_other, with_header_on, with_used_on}

@@ -1,5 +1,5 @@
 -- The steps of a New and of a Free on the terrain: `head`, `used`, `mark`.
-use Rattle.std.proofs.Common.{Bool, List, [], ap, append-nil, arith, false, inl, inr, length, refl, subst, sym, true, zero, ℕ, ◌++◌, ◌+◌, ◌-◌, ◌<◌, ◌^◌, ◌∙◌, ◌∷◌, ◌≡◌, ◌≢◌, ◌≤◌}
+use Rattle.std.proofs.Common.{Bool, List, [], ap, append-nil, arith, false, inl, inr, length, refl, subst, sym, true, ℕ, ◌++◌, ◌+◌, ◌-◌, ◌<◌, ◌^◌, ◌∙◌, ◌∷◌, ◌≡◌, ◌≢◌, ◌≤◌}
 use Rattle.std.specs.Prelude.{Option, Some, not, slice_index, ◌&&◌}
 use Rattle.mk_geom.specs.declared.pages.Place.{Place}
 use Rattle.mk_core.specs.Bits.{has_bit}
@@ -16,7 +16,6 @@ use Rattle.mk_core.specs.declared.seats.Placing.TheVariants.{Chosen, Granted, Un
 use Rattle.mk_core.specs.declared.seats.RunPages.{RunPages}
 use Rattle.mk_core.proofs.PageSteps.{Empties, GivesBack, Unmaps}
 use Rattle.mk_core.proofs.PlacesNow.{AsChosen, AsUsed, ByFit, IsPlaced}
-use Rattle.mk_core.proofs.Schedules.{by}
 use Rattle.mk_core.proofs.ServingSteps.{IsCellTaken, IsNextHeader}
 use Rattle.mk_core.proofs.Sizes.{cells_some, pages_some, small_pages}
 use Rattle.mk_core.proofs.WordBits.{fewer_bits}

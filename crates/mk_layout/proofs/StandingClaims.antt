@@ -5,8 +5,7 @@ use Rattle.std.proofs.lemmas.Bool.{cases_Bool}
 use Rattle.mk_geom.specs.declared.addresses.Cell.{Cell}
 use Rattle.mk_geom.specs.declared.pages.Place.{Place}
 use Rattle.mk_core.specs.Allocations.{PlacedAllocation, cell_of_allocation, storage_words}
-use Rattle.mk_core.specs.Counts.{ends}
-use Rattle.mk_core.specs.NewPlaces.{base_made, is_small_object, pages_made, stands}
+use Rattle.mk_core.specs.NewPlaces.{base_made, is_small_object, pages_made}
 use Rattle.mk_core.specs.ObjectHeaders.{IsSized, cells_made, words_made}
 use Rattle.mk_core.specs.StandingAllocations.{BeginsAtCell, HasItsHeaders, StandsOnHeap, object_placed}
 use Rattle.mk_core.specs.Words.{Words, header_at}

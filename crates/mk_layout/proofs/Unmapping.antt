@@ -1,5 +1,5 @@
 -- The steps that unmap a run: it is freed, its pages get their headers, and the call that freed it ends.
-use Rattle.std.proofs.Common.{Bool, List, ap, arith, false, inl, inr, length, length-set, refl, subst, sym, true, zero, ℕ, ◌+◌, ◌-◌, ◌<◌, ◌∙◌, ◌≡◌, ◌≢◌, ◌⊎◌}
+use Rattle.std.proofs.Common.{Bool, List, ap, arith, false, inl, inr, length, length-set, subst, sym, true, ℕ, ◌+◌, ◌-◌, ◌<◌, ◌∙◌, ◌≡◌, ◌≢◌, ◌⊎◌}
 use Rattle.std.specs.Prelude.{Some}
 use Rattle.std.proofs.lemmas.Bool.{cases_eq}
 use Rattle.mk_geom.specs.Addresses.{head_page_under}
@@ -11,9 +11,7 @@ use Rattle.mk_core.specs.NewPlaces.{header_made, is_small_object, pages_made, st
 use Rattle.mk_core.specs.ObjectHeaders.{ShowsPart, cells_made}
 use Rattle.mk_core.specs.declared.seats.Object.{Object}
 use Rattle.mk_core.proofs.ObjectHeaders.{later_part, made_shows, part_cells, part_head, same_cells, shown_later, unmapped_shows}
-use Rattle.mk_core.proofs.Schedules.{by}
 use Rattle.mk_core.proofs.Sizes.{large_cells, pages_some}
-use Rattle.mk_protocol.proofs.Kept.{kept}
 use Rattle.mk_layout.specs.Scene.{Among, AreApart, Claim, HasHeader, HasItsHead, IsClaimed, IsLaidOn, IsOfOneCell, IsPlotShown, IsShown, Mode, NoPlot, Plot, PlotStands, Plotted, Scene, Unmapping, head_on, header_on, is_released_on, run_count, shows_on, used_on}
 use Rattle.mk_layout.proofs.PageSets.{headed_here, headed_other, headed_used, with_header_on}
 use Rattle.mk_layout.proofs.Readings.{claimed, claimed_head, claimed_some, none_set, one_claim}
