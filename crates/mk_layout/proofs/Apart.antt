@@ -111,7 +111,8 @@ lie_apart c w xs i j r u v other = by (is_small_object (object_placed c (placed_
     bb = (r.cells j v).begins
 
     -- where they share no page
-    far : ((d e : ℕ) → d < pages_made (object_placed c (placed_at xs i)) → e < pages_made (object_placed c (placed_at xs j)) → (placed_at xs i).base / 64 + d ≢ (placed_at xs j).base / 64 + e)
+    far : ((d e : ℕ) → d < pages_made (object_placed c (placed_at xs i)) → e < pages_made (object_placed c (placed_at xs j))
+        → (placed_at xs i).base / 64 + d ≢ (placed_at xs j).base / 64 + e)
         → LieApart (storage_of c (placed_at xs i)) (storage_of c (placed_at xs j))
     far none =
         let pa = pages_some (object_placed c a) sa.sized in
@@ -140,7 +141,8 @@ lie_apart c w xs i j r u v other = by (is_small_object (object_placed c (placed_
         }
 
     -- two cells of one page
-    near : is_small_object (object_placed c (placed_at xs i)) ≡ true → is_small_object (object_placed c (placed_at xs j)) ≡ true → (placed_at xs i).base / 64 ≡ (placed_at xs j).base / 64
+    near : is_small_object (object_placed c (placed_at xs i)) ≡ true → is_small_object (object_placed c (placed_at xs j)) ≡ true
+        → (placed_at xs i).base / 64 ≡ (placed_at xs j).base / 64
         → LieApart (storage_of c (placed_at xs i)) (storage_of c (placed_at xs j))
     near small_a small_b page =
         let same = same_block c w xs i j r u v small_a small_b page in

@@ -108,7 +108,8 @@ run_words c w xs i d p r u large ld at =
     used_by zero z =
         let first : (placed_at xs i).base / 64 ≡ p = omega arith in
         let cells : cells_under (shows_on w.pages p) ≡ 1 =
-        ap (λ q. cells_under (shows_on w.pages q)) (sym first) ∙ cells_at_claim (quiet_scene c w xs) (claim_of c None (placed_at xs i)) shown ∙ large_cells (object_placed c (placed_at xs i)) large in
+        ap (λ q. cells_under (shows_on w.pages q)) (sym first) ∙ cells_at_claim (quiet_scene c w xs) (claim_of c None (placed_at xs i)) shown
+        ∙ large_cells (object_placed c (placed_at xs i)) large in
         let low : (cell_of_allocation c (placed_at xs i)).index ≡ 0 = large_index c (placed_at xs i) shown.sized large in
         one_bit (used_at w p)
         (ap (λ q. has_bit (used_at w q) 0) (sym first) ∙ ap (λ k. has_bit (used_at w ((placed_at xs i).base / 64)) k) (sym low) ∙ shown.used)
@@ -155,7 +156,8 @@ alike_at c w xs i j p r u v small at page = elim (cases_Bool (is_small_object (o
 ]
 
 -- the header of a block's page
-block_shown : (c : Config) (w : Words) (xs : List PlacedAllocation) (i : ℕ) → Rests c w xs → (placed_at xs i).released ≡ false → is_small_object (object_placed c (placed_at xs i)) ≡ true
+block_shown : (c : Config) (w : Words) (xs : List PlacedAllocation) (i : ℕ) → Rests c w xs → (placed_at xs i).released ≡ false
+    → is_small_object (object_placed c (placed_at xs i)) ≡ true
     → header_at w ((placed_at xs i).base / 64) ≡ word_of (block_header (class_made (object_placed c (placed_at xs i))) (object_placed c (placed_at xs i)).leaf)
 block_shown c w xs i r u s =
     let a : PlacedAllocation = placed_at xs i in
@@ -241,7 +243,8 @@ block_words c w xs i p r u small at =
         let page : (placed_at xs j).base / 64 ≡ p = omega arith in
         let same = alike_at c w xs i j p r u h.unreleased small at page in
         let first = begins_at j h.unreleased same.0 same.1 in
-        let is_n : (cell_of_allocation c (placed_at xs j)).index ≡ n = same_index k (cell_of_allocation c (placed_at xs j)).index n (omega arith) (sym first ∙ (let rest : (placed_at xs j).base % 64 ≡ n * k = omega arith in rest)) in
+        let is_n : (cell_of_allocation c (placed_at xs j)).index ≡ n =
+        same_index k (cell_of_allocation c (placed_at xs j)).index n (omega arith) (sym first ∙ (let rest : (placed_at xs j).base % 64 ≡ n * k = omega arith in rest)) in
         ap (λ q. has_bit (used_at w q) n) (sym page) ∙ ap (λ m. has_bit (used_at w ((placed_at xs j).base / 64)) m) (sym is_n) ∙ (shown_of c w xs j r h.unreleased).used
 
     used : used_at w p ≡ used_word (taken_cells (unreleased_storage c xs) p (class_made (object_placed c (placed_at xs i))))
@@ -261,7 +264,8 @@ block_words c w xs i p r u small at =
 
 -- All pages.
 
-nothing_there : (c : Config) (w : Words) (xs : List PlacedAllocation) (p : ℕ) → Rests c w xs → header_at w p ≡ 0 → (s : Storage) → Contains (unreleased_storage c xs) s → stands_on p s ≡ true → ⊥
+nothing_there : (c : Config) (w : Words) (xs : List PlacedAllocation) (p : ℕ) → Rests c w xs → header_at w p ≡ 0 → (s : Storage) → Contains (unreleased_storage c xs) s
+    → stands_on p s ≡ true → ⊥
 nothing_there c w xs p r z s inside stands =
     let h = storage_is_of c xs s inside in
     let a : PlacedAllocation = placed_at xs h.number in

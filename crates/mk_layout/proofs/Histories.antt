@@ -41,7 +41,8 @@ laid_at_first c =
         used = λ p k h. absurd (none_set (slice_index_or (replicate c.pages free_page) p free_page).used k (ap (λ (x : Page). x.used) (free p)) h);
         plot = tt;
         occupied = λ p some empty. absurd (some (ap (λ (x : Page). x.header) (free p)));
-        later = λ p d m is. let e : header_of 0 ≡ Some (Later d m) = sym (ap (λ (x : Page). header_of x.header) (free p)) ∙ is in let y : true ≡ false = cc in absurd (true≢false y);
+        later = λ p d m is. let e : header_of 0 ≡ Some (Later d m) = sym (ap (λ (x : Page). header_of x.header) (free p))
+            ∙ is in let y : true ≡ false = cc in absurd (true≢false y);
       };
       gone = tt;
       first = tt;
@@ -75,7 +76,8 @@ before c w limits lengths known others q =
       unreleased = λ four. none_released c (object_now c w.now) w.now.words.marks (terrain_of w) (subst (λ b. HasQuarantine c b w.now.words.marks (terrain_of w)) four q);
     }
 
-quarantine_behind : (c : Config) (w : World) (seat : Seat) (x : Step) → Before c w → Meets c w.now seat x → IsLaidOut c w → IsQuarantined c w → IsQuarantined c (WorldBehind c w seat x)
+quarantine_behind : (c : Config) (w : World) (seat : Seat) (x : Step) → Before c w → Meets c w.now seat x → IsLaidOut c w → IsQuarantined c w
+    → IsQuarantined c (WorldBehind c w seat x)
 quarantine_behind c w seat x b h laid q =
     let v : World = WorldBehind c w seat x in
     let kind = quarantine_by_kind c w seat x b h laid q in

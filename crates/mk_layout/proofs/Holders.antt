@@ -86,7 +86,8 @@ none_on_its_way c m seat known t at = by m.seats.holding.freed (no_run c m seat 
     by None out = refl
     by (Some run) out = absurd (out run refl)
 
-pub placed_undecided : (c : Config) (m : Moment) (seat : Seat) → Known c m → HoldsTurn c (view_of m) seat → has_place m.seats.holding.placing ≡ true → is_undecided_new (flight_of m seat) ≡ true
+pub placed_undecided : (c : Config) (m : Moment) (seat : Seat) → Known c m → HoldsTurn c (view_of m) seat → has_place m.seats.holding.placing ≡ true
+    → is_undecided_new (flight_of m seat) ≡ true
 placed_undecided c m seat known t has = ap (λ (f : Flight). is_undecided_new f) (sym (holding_flight c m seat known t)) ∙ known.orderly.served.placed has
 
 -- The operands of a seat's call are in range, so a New makes an object of 1 to 4,096 words.

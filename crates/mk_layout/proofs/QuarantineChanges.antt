@@ -177,7 +177,8 @@ pub record FreesHere (c : Config) (w : World) (cell : Cell) (n : ℕ) : Type 0 w
   pub index : cell.index < 32
   pub own : IsCellOf c w.allocations cell
   pub stands : stands_in w.now.words cell (placed_at w.allocations own.number) ≡ true
-  pub others : (i : ℕ) → (placed_at w.allocations i).released ≡ false → stands_in w.now.words cell (placed_at w.allocations i) ≡ true → cell_of_allocation c (placed_at w.allocations i) ≡ cell
+  pub others : (i : ℕ) → (placed_at w.allocations i).released ≡ false → stands_in w.now.words cell (placed_at w.allocations i) ≡ true
+      → cell_of_allocation c (placed_at w.allocations i) ≡ cell
   pub unset : has_bit (slice_index w.now.words.freed cell.page) cell.index ≡ false
   pub value : n ≡ quarantine_word (slice_index w.now.words.freed cell.page + 2 ^ cell.index) (slice_index w.now.words.snapshot cell.page)
   pub unplaced : has_place w.now.seats.holding.placing ≡ false
@@ -221,7 +222,8 @@ free_kept c w cell run n x q =
     sum =
         let a = (q.small cell.page).0 in
         let lt = x.index in
-        let more : 2 * 2 ^ cell.index ≤ 2 ^ 32 = (let le : suc cell.index ≤ 32 = omega arith in let p : 2 ^ suc cell.index ≤ 2 ^ 32 = pow_mono le in let s = pow-suc 2 cell.index in omega arith) in
+        let more : 2 * 2 ^ cell.index ≤ 2 ^ 32 =
+        (let le : suc cell.index ≤ 32 = omega arith in let p : 2 ^ suc cell.index ≤ 2 ^ 32 = pow_mono le in let s = pow-suc 2 cell.index in omega arith) in
         let some : 1 ≤ 2 ^ cell.index = (let z : 0 ≤ cell.index = omega arith in let p : 2 ^ 0 ≤ 2 ^ cell.index = pow_mono z in omega arith) in
         let b = or_lt 32 (slice_index w.now.words.freed cell.page) (2 ^ cell.index) a (omega arith) in
         let e = sum_is_or (slice_index w.now.words.freed cell.page) cell.index x.unset in

@@ -96,7 +96,8 @@ released_terrain c o w limits len st kept =
     placed : List Claim
     placed = claims_placed o w.now.seats.holding.placing
 
-    was : (x : Claim) → Among x (claims_of c w.now.seats.holding.freed (map (with_released c w.now.words) w.allocations)) → Among x (claims_of c w.now.seats.holding.freed w.allocations)
+    was : (x : Claim) → Among x (claims_of c w.now.seats.holding.freed (map (with_released c w.now.words) w.allocations))
+        → Among x (claims_of c w.now.seats.holding.freed w.allocations)
     was x j =
         let n = was_claim c w.now.seats.holding.freed (with_released c w.now.words) w.allocations x (releasing_leaves c w.now.words) j in
         subst (λ (y : Claim). Among y (claims_of c w.now.seats.holding.freed w.allocations)) (sym n.is) (claim_among c w.now.seats.holding.freed w.allocations n.number n.was)

@@ -132,7 +132,8 @@ head_carves c o w place p n st sized placed next = by w.now.seats.holding.placin
     ]
     by (Chosen place) is AsChosen = carved_on c o w place p n (placed_as c o false w (terrain_of w) (Chosen place) is st) next
     by (Used place) is AsUsed =
-        let own : Among (place_claim o place) (claims_placed o w.now.seats.holding.placing) = subst (λ (x : Placing). Among (place_claim o place) (claims_placed o x)) (sym is) (inl refl) in
+        let own : Among (place_claim o place) (claims_placed o w.now.seats.holding.placing) =
+        subst (λ (x : Placing). Among (place_claim o place) (claims_placed o x)) (sym is) (inl refl) in
         let shown = st.scene.shown (place_claim o place) (placed_claim c o (terrain_of w) (place_claim o place) own) in
         let low = next.from in
         let there : place.page + (p - place.page) ≡ p = omega arith in
@@ -159,7 +160,8 @@ mark_places c o releasing w place st sized placed free made = by w.now.seats.hol
 no_claims : (xs : List Claim) (x : Claim) → (xs ++ []) ++ x ∷ [] ≡ xs ++ x ∷ []
 no_claims xs x = ap (λ (ys : List Claim). ys ++ x ∷ []) (append-nil xs)
 
-taken_at : (c : Config) (o : Object) (releasing : Bool) (w : World) (placing : Placing) (place : Place) (p n : ℕ) → Laid c o releasing w (record (terrain_of w) { placing = placing })
+taken_at : (c : Config) (o : Object) (releasing : Bool) (w : World) (placing : Placing) (place : Place) (p n : ℕ)
+    → Laid c o releasing w (record (terrain_of w) { placing = placing })
     → claims_placed o placing ≡ [] → IsCellTaken w.now.words o place p n → IsSized o → place.index < cells_made o → place.page + pages_made o ≤ length w.now.words.pages
     → ((q : ℕ) → InPlot (plot_of o placing) q → InPlot (Plotted place.page o) q)
     → Laid c o releasing w (record (terrain_of w) { pages = with_used_on w.now.words.pages p n; placing = Used place })

@@ -60,7 +60,8 @@ pub large_index : (c : Config) (a : PlacedAllocation) → IsSized (object_placed
 large_index c a sized large = ap (λ (x : Cell). x.index) (run_cell c a sized large)
 
 -- Its cell has the place's page and index, where it has the place's base.
-pub place_index : (c : Config) (a : PlacedAllocation) (place : Place) → IsSized (object_placed c a) → a.base ≡ base_made (object_placed c a) place → place.index < cells_made (object_placed c a)
+pub place_index : (c : Config) (a : PlacedAllocation) (place : Place) → IsSized (object_placed c a) → a.base ≡ base_made (object_placed c a) place
+    → place.index < cells_made (object_placed c a)
     → (a.base / 64 ≡ place.page) × ((cell_of_allocation c a).index ≡ place.index)
 place_index c a place sized base lt =
     let made = made_begins (object_placed c a) place sized lt in
