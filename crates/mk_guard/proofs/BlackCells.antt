@@ -22,7 +22,7 @@ use Rattle.mk_core.specs.History.{World}
 use Rattle.mk_core.proofs.AllBelow.{all_below-at}
 use Rattle.mk_core.proofs.WordBits.{no_bit, bit_of_power, bit_of_cell, more_bits}
 use Rattle.mk_protocol.proofs.Actors.{Meets}
-use Rattle.mk_protocol.proofs.Sorts.{Behind}
+use Rattle.mk_protocol.proofs.SameWords.{Behind}
 use Rattle.mk_protocol.proofs.Known.{Known}
 use Rattle.mk_protocol.proofs.IdleMarkers.{work_attends}
 use Rattle.mk_guard.specs.Guard.{ScanStands, Guard, IsMarking}

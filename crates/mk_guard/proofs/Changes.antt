@@ -35,8 +35,8 @@ use Rattle.mk_core.proofs.WordBits.{no_bit}
 use Rattle.mk_protocol.proofs.Standings.{standing_at, is_astray}
 use Rattle.mk_protocol.proofs.NextSteps.{at_its_stage}
 use Rattle.mk_protocol.proofs.Actors.{Meets}
-use Rattle.mk_protocol.proofs.Sorts.{Behind}
-use Rattle.mk_protocol.proofs.Protocols.{not_astray}
+use Rattle.mk_protocol.proofs.SameWords.{Behind}
+use Rattle.mk_protocol.proofs.OrderlyLists.{not_astray}
 use Rattle.mk_protocol.proofs.Known.{Known}
 use Rattle.mk_protocol.proofs.Growth.{grows_same, grows_more}
 use Rattle.mk_protocol.proofs.Colours.{Colours, colours_of, ColourStep, ClearsMarks, AddsMarks, MarksSeen, colour_step}

@@ -36,7 +36,7 @@ use Rattle.mk_protocol.proofs.Views.{view_of}
 use Rattle.mk_protocol.proofs.Orderly.{shows_at}
 use Rattle.mk_protocol.proofs.Actors.{Meets}
 use Rattle.mk_protocol.proofs.Asked.{others_held}
-use Rattle.mk_protocol.proofs.Protocols.{not_astray}
+use Rattle.mk_protocol.proofs.OrderlyLists.{not_astray}
 use Rattle.mk_protocol.proofs.Known.{Known}
 use Rattle.mk_guard.specs.Guard.{CellsAreClosed}
 use Rattle.mk_guard.proofs.Changes.{at_owed}

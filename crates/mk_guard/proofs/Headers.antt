@@ -2,7 +2,7 @@
 use Rattle.std.proofs.Common.{◌≡◌, ◌≢◌, ℕ, ◌+◌, ◌*◌, ◌<◌, Bool, true, false, refl, sym, ◌∙◌, ap, subst, inl, inr, arith}
 use Rattle.std.specs.Prelude.{Some, None, slice_index, slice_index_or, slice_set, if◌then◌else◌}
 use Rattle.std.proofs.lemmas.Option.{none-some}
-use Rattle.std.proofs.lemmas.Bool.{cases_eq, true≢false, ltb-true}
+use Rattle.std.proofs.lemmas.Bool.{cases_eq, ltb-true}
 use Rattle.std.proofs.lemmas.List.{get_or-set_same, get_or-set_other}
 use Rattle.mk_geom.specs.declared.addresses.Cell.{Cell}
 use Rattle.mk_geom.specs.declared.pages.Page.{Page}
@@ -19,7 +19,7 @@ use Rattle.mk_core.specs.Cells.{header_in, cells_under, words_under, is_marked}
 use Rattle.mk_core.specs.Moments.{Moment}
 use Rattle.mk_core.specs.ClosedMarks.{IsGuarded}
 use Rattle.mk_protocol.proofs.Actors.{Meets}
-use Rattle.mk_protocol.proofs.Sorts.{Behind}
+use Rattle.mk_protocol.proofs.SameWords.{Behind}
 use Rattle.mk_guard.specs.Guard.{GoesOn}
 use Rattle.mk_guard.proofs.Wells.{IsWell, bare_guarded}
 use Rattle.mk_guard.proofs.KeptGuard.{NewCellsAreGuarded, goes_same}

@@ -26,7 +26,7 @@ use Rattle.mk_core.specs.StopConditions.{is_attending}
 use Rattle.mk_core.proofs.PointedPages.{cell_within}
 use Rattle.mk_core.proofs.WordBits.{bit_for_has, bits_added}
 use Rattle.mk_protocol.proofs.Actors.{Meets}
-use Rattle.mk_protocol.proofs.Sorts.{Behind}
+use Rattle.mk_protocol.proofs.SameWords.{Behind}
 use Rattle.mk_protocol.proofs.Markers.{marker_set}
 use Rattle.mk_guard.specs.Guard.{MarkerStands}
 use Rattle.mk_guard.proofs.KeptGuard.{Keeps, marker_kept}

@@ -21,7 +21,7 @@ use Rattle.mk_core.proofs.AllBelow.{all_below-at}
 use Rattle.mk_core.proofs.WordBits.{no_bit}
 use Rattle.mk_protocol.proofs.Actors.{Meets}
 use Rattle.mk_protocol.proofs.Asked.{none_at}
-use Rattle.mk_protocol.proofs.Sorts.{Behind}
+use Rattle.mk_protocol.proofs.SameWords.{Behind}
 use Rattle.mk_protocol.proofs.Known.{Known}
 use Rattle.mk_guard.specs.Guard.{MarkerStands, Guard, IsMarking, MarksStand}
 use Rattle.mk_guard.specs.Kept.{OthersSay}

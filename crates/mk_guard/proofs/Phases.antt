@@ -10,7 +10,7 @@ use Rattle.mk_core.specs.Words.{phase_of}
 use Rattle.mk_core.specs.Moments.{Moment, is_phase}
 use Rattle.mk_core.specs.Order.{host_has_turn}
 use Rattle.mk_protocol.proofs.Actors.{Meets}
-use Rattle.mk_protocol.proofs.Sorts.{Behind}
+use Rattle.mk_protocol.proofs.SameWords.{Behind}
 use Rattle.mk_guard.proofs.Changes.{Table, reg_table, tally_table}
 
 pub either_phase : (n a b : ℕ) → ((n == a) || (n == b)) ≡ true → (n ≡ a) ⊎ (n ≡ b)

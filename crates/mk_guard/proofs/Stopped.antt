@@ -31,8 +31,8 @@ use Rattle.mk_protocol.proofs.NextSteps.{stage_of, has_stage_of_its_own, at_its_
 use Rattle.mk_protocol.proofs.Views.{view_of}
 use Rattle.mk_protocol.proofs.Orderly.{shows_at}
 use Rattle.mk_protocol.proofs.Actors.{Meets}
-use Rattle.mk_protocol.proofs.Sorts.{Behind}
-use Rattle.mk_protocol.proofs.Protocols.{not_astray}
+use Rattle.mk_protocol.proofs.SameWords.{Behind}
+use Rattle.mk_protocol.proofs.OrderlyLists.{not_astray}
 use Rattle.mk_protocol.proofs.Known.{Known}
 use Rattle.mk_protocol.proofs.IdleMarkers.{work_attends}
 use Rattle.mk_guard.specs.Guard.{CellsAreClosed}

@@ -1,5 +1,5 @@
 -- One event: what stands on the pages behind it.
-use Rattle.std.proofs.Common.{Bool, List, ap, arith, false, inl, inr, refl, subst, sym, true, zero, ℕ, ◌%◌, ◌+◌, ◌-◌, ◌^◌, ◌∙◌, ◌≡◌, ◌≢◌, ◌⊎◌}
+use Rattle.std.proofs.Common.{Bool, List, ap, arith, false, inl, inr, refl, subst, sym, true, ℕ, ◌%◌, ◌+◌, ◌-◌, ◌^◌, ◌∙◌, ◌≡◌, ◌≢◌, ◌⊎◌}
 use Rattle.std.specs.Prelude.{None, Option, Some, if◌then◌else◌, is_some, ◌==◌}
 use Rattle.std.proofs.lemmas.Bool.{and_parts, cases_Bool, eq-eqb, eqb-true, ne_eqb}
 use Rattle.mk_core.specs.Accesses.{caller_number, reg_access, register_met}
@@ -20,15 +20,15 @@ use Rattle.mk_core.specs.declared.seats.Object.{Object}
 use Rattle.mk_core.specs.declared.seats.Placing.{Placing}
 use Rattle.mk_core.specs.declared.seats.Placing.TheVariants.{Chosen}
 use Rattle.mk_core.specs.declared.seats.SeenHeader.{SeenHeader}
-use Rattle.mk_core.proofs.Schedules.{by}
 use Rattle.mk_protocol.specs.Protocol.{has_place}
 use Rattle.mk_protocol.proofs.Actors.{Meets}
 use Rattle.mk_protocol.proofs.Colours.{AddsMarks, ClearsMarks, ColourStep, Colours, MarksSeen, colour_step, colours_of}
 use Rattle.mk_protocol.proofs.Known.{Known}
 use Rattle.mk_protocol.proofs.NewPlace.{held_place, new_was}
 use Rattle.mk_protocol.proofs.OthersMoves.{WorldBehind}
-use Rattle.mk_protocol.proofs.Protocols.{actor_of, not_astray, orderly_behind}
-use Rattle.mk_protocol.proofs.Sorts.{moves, reg_keeps, tally_keeps}
+use Rattle.mk_protocol.proofs.OrderlyLists.{actor_of, not_astray, orderly_behind}
+use Rattle.mk_protocol.proofs.Sorts.{moves}
+use Rattle.mk_protocol.proofs.SameWords.{reg_keeps, tally_keeps}
 use Rattle.mk_protocol.proofs.Views.{view_of}
 use Rattle.mk_layout.specs.Terrain.{HasLayout, IsLaidOut, object_now, terrain_of}
 use Rattle.mk_layout.proofs.Before.{Before, is_releasing_behind}

@@ -31,7 +31,6 @@ use Rattle.mk_core.specs.declared.seats.Stage.{Stage}
 use Rattle.mk_core.proofs.ChangedAllocations.{fresh_leaves}
 use Rattle.mk_core.proofs.GrantedAllocations.{granted_base_is, granted_object, granted_type}
 use Rattle.mk_core.proofs.PlacesNow.{placed_now, undecided_new}
-use Rattle.mk_core.proofs.Schedules.{by}
 use Rattle.mk_core.proofs.ServingSteps.{marks_is}
 use Rattle.mk_protocol.specs.Protocol.{has_place}
 use Rattle.mk_protocol.proofs.Actors.{Meets, grants_new}

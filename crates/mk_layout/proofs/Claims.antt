@@ -9,7 +9,6 @@ use Rattle.mk_core.specs.declared.config.Config.{Config}
 use Rattle.mk_core.specs.declared.seats.Object.{Object}
 use Rattle.mk_core.specs.declared.seats.RunPages.{RunPages}
 use Rattle.mk_core.proofs.ChangedAllocations.{LeavesPlaces, changed_at}
-use Rattle.mk_core.proofs.Schedules.{by}
 use Rattle.mk_layout.specs.Scene.{Among, AreApart, Claim, IsOfOneCell}
 use Rattle.mk_layout.specs.Terrain.{IsAtCell, claim_of, claims_of}
 
@@ -20,11 +19,11 @@ pub record IsClaimOf (c : Config) (run : Option RunPages) (xs : List PlacedAlloc
   pub is : x ≡ claim_of c run (placed_at xs number)
 
 -- one allocation more at the front
-front : (c : Config) (run : Option RunPages) (a : PlacedAllocation) (xs : List PlacedAllocation) → a.released ≡ false
+pub front : (c : Config) (run : Option RunPages) (a : PlacedAllocation) (xs : List PlacedAllocation) → a.released ≡ false
     → claims_of c run (a ∷ xs) ≡ claim_of c run a ∷ claims_of c run xs
 front c run a xs u = cond-false a.released (claims_of c run xs) (claim_of c run a ∷ claims_of c run xs) u
 
-gone_front : (c : Config) (run : Option RunPages) (a : PlacedAllocation) (xs : List PlacedAllocation) → a.released ≡ true
+pub gone_front : (c : Config) (run : Option RunPages) (a : PlacedAllocation) (xs : List PlacedAllocation) → a.released ≡ true
     → claims_of c run (a ∷ xs) ≡ claims_of c run xs
 gone_front c run a xs r = cond-true a.released (claims_of c run xs) (claim_of c run a ∷ claims_of c run xs) r
 

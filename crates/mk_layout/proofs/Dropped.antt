@@ -13,7 +13,6 @@ use Rattle.mk_core.specs.declared.seats.Object.{Object}
 use Rattle.mk_core.proofs.AllBelow.{all_below-at}
 use Rattle.mk_core.proofs.BitsWithout.{has_bit_without}
 use Rattle.mk_core.proofs.PageSteps.{Drops}
-use Rattle.mk_core.proofs.Schedules.{by}
 use Rattle.mk_core.proofs.WordBits.{no_bit}
 use Rattle.mk_layout.specs.Scene.{IsClaimed, is_released_in}
 use Rattle.mk_layout.specs.Terrain.{HasLayout, Terrain, claims_on, scene_of, terrain_of}

@@ -8,7 +8,6 @@ use Rattle.mk_geom.specs.declared.headers.Header.{Header}
 use Rattle.mk_core.specs.Allocations.{PlacedAllocation, cell_of_allocation, freed_where_it_stands, placed_at, stands_in}
 use Rattle.mk_core.specs.Cells.{cells_under, header_in, run_headed}
 use Rattle.mk_core.specs.Config.{IsWithinLimits}
-use Rattle.mk_core.specs.Counts.{ends}
 use Rattle.mk_core.specs.Effects.{run_of_cell}
 use Rattle.mk_core.specs.History.{World}
 use Rattle.mk_core.specs.NewPlaces.{is_run_unmapped, is_small_object, pages_made, stands, unmapped_header}
@@ -22,7 +21,6 @@ use Rattle.mk_core.proofs.AllBelow.{all_below-at}
 use Rattle.mk_core.proofs.CellsOfAllocations.{stands_in_its_cell, stands_in_no_other}
 use Rattle.mk_core.proofs.ChangedAllocations.{freed_leaves, freed_released}
 use Rattle.mk_core.proofs.ObjectHeaders.{part_cells}
-use Rattle.mk_core.proofs.Schedules.{by}
 use Rattle.mk_core.proofs.Sizes.{pages_some}
 use Rattle.mk_core.proofs.SmallCycles.{small}
 use Rattle.mk_core.proofs.StandingAllocations.{first_page_shows}
@@ -113,7 +111,8 @@ freed_terrain c o w cell limits len none own st = by (cases_Bool (is_small_objec
         subst (λ p. ShowsPart (object_placed c (placed_at w.allocations own.number)) 0 (header_in w.now.words p)) page
         (first_page_shows c w.now.words (placed_at w.allocations own.number) sized (stand own.number own.unreleased).headers)
 
-    cell_of : (i : ℕ) → (placed_at w.allocations i).released ≡ false → stands_in w.now.words cell (placed_at w.allocations i) ≡ true → cell_of_allocation c (placed_at w.allocations i) ≡ cell
+    cell_of : (i : ℕ) → (placed_at w.allocations i).released ≡ false → stands_in w.now.words cell (placed_at w.allocations i) ≡ true
+        → cell_of_allocation c (placed_at w.allocations i) ≡ cell
     cell_of = standing_cell c o w cell len own st
 
     keeps : (b : PlacedAllocation) → b.released ≡ false → (freed_where_it_stands w.now.words (Some cell) b).released ≡ false
@@ -200,7 +199,8 @@ gone_terrain c o releasing w unmapped st =
     ends true false going o d h un has = has
     ends false large going o d h un has = has
 
-    by : (run : Option RunPages) → w.now.seats.holding.freed ≡ run → (i : ℕ) → (placed_at w.allocations i).released ≡ false → (d : ℕ) → d < pages_made (object_placed c (placed_at w.allocations i))
+    by : (run : Option RunPages) → w.now.seats.holding.freed ≡ run → (i : ℕ) → (placed_at w.allocations i).released ≡ false → (d : ℕ)
+        → d < pages_made (object_placed c (placed_at w.allocations i))
         → HasHeader (claim_of c w.now.seats.holding.freed (placed_at w.allocations i)).mode (object_placed c (placed_at w.allocations i)) d (header_at w.now.words ((placed_at w.allocations i).base / 64 + d))
         → RunStands (claims_of c w.now.seats.holding.freed w.allocations) w.now.seats.holding.freed
         → HasHeader (claim_of c None (placed_at w.allocations i)).mode (object_placed c (placed_at w.allocations i)) d (header_at w.now.words ((placed_at w.allocations i).base / 64 + d))
@@ -214,13 +214,15 @@ gone_terrain c o releasing w unmapped st =
         (λ f l g.
         let large = not-true (is_small_object ob) l in
         let page = eqb-true run.page (a.base / 64) g in
-        let x : IsClaimedRun (claims_of c w.now.seats.holding.freed w.allocations) run = subst (λ (y : Option RunPages). RunStands (claims_of c w.now.seats.holding.freed w.allocations) y) is r in
+        let x : IsClaimedRun (claims_of c w.now.seats.holding.freed w.allocations) run =
+        subst (λ (y : Option RunPages). RunStands (claims_of c w.now.seats.holding.freed w.allocations) y) is r in
         let ix = own_claim c o (terrain_of w) x.claim x.among in
         let ia = own_claim c o (terrain_of w) (claim_of c w.now.seats.holding.freed a) (claim_among c w.now.seats.holding.freed w.allocations i u) in
         let sx = st.scene.shown x.claim ix in
         let some = pages_some x.claim.object sx.sized in
         let xp = x.page in
-        let one = shares_run (scene_of c o releasing w.now.words.marks (terrain_of w)) (claim_of c w.now.seats.holding.freed a) x.claim 0 0 st.scene ia ix large (omega arith) (omega arith) (omega arith) in
+        let one =
+        shares_run (scene_of c o releasing w.now.words.marks (terrain_of w)) (claim_of c w.now.seats.holding.freed a) x.claim 0 0 st.scene ia ix large (omega arith) (omega arith) (omega arith) in
         let count : pages_made ob ≡ run.count = ap (λ (z : Claim). pages_made z.object) (sym one) ∙ x.count in
         let near : d < run.count = omega arith in (
           large,

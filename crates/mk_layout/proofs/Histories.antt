@@ -8,7 +8,6 @@ use Rattle.mk_geom.specs.declared.headers.Header.TheVariants.{Later}
 use Rattle.mk_geom.specs.declared.pages.Page.{Page}
 use Rattle.mk_core.specs.Accesses.{access, reached}
 use Rattle.mk_core.specs.Config.{IsWithinLimits}
-use Rattle.mk_core.specs.Effects.{taken}
 use Rattle.mk_core.specs.Enabled.{IsEnabled}
 use Rattle.mk_core.specs.History.{AreEnabledFrom, World, first_world, left, left_from, world_behind}
 use Rattle.mk_core.specs.Layout.{AreOfPages}
@@ -20,12 +19,10 @@ use Rattle.mk_core.specs.declared.events.Step.{Step}
 use Rattle.mk_core.proofs.Conditions.{enabled_meets}
 use Rattle.mk_core.proofs.EvaluatedHistories.{enabled}
 use Rattle.mk_core.proofs.Lengths.{accessed_lengths, histories_keep_lengths, zero_lengths}
-use Rattle.mk_core.proofs.SmallCycles.{small}
 use Rattle.mk_protocol.proofs.Actors.{Meets}
-use Rattle.mk_protocol.proofs.Kept.{kept}
 use Rattle.mk_protocol.proofs.Known.{Known, known_at_first, known_behind, known_left}
 use Rattle.mk_protocol.proofs.OthersMoves.{WorldBehind}
-use Rattle.mk_protocol.proofs.Protocols.{at_first}
+use Rattle.mk_protocol.proofs.OrderlyLists.{at_first}
 use Rattle.mk_layout.specs.LayoutLaws.{EventsKeepTheLayout, HistoriesAreLaidOut, OthersSay, OthersSayFrom, StandsInOrder}
 use Rattle.mk_layout.specs.Quarantine.{HasQuarantine, IsQuarantined}
 use Rattle.mk_layout.specs.Terrain.{IsLaidOut, object_now, terrain_of}
@@ -44,7 +41,8 @@ laid_at_first c =
         used = λ p k h. absurd (none_set (slice_index_or (replicate c.pages free_page) p free_page).used k (ap (λ (x : Page). x.used) (free p)) h);
         plot = tt;
         occupied = λ p some empty. absurd (some (ap (λ (x : Page). x.header) (free p)));
-        later = λ p d m is. let e : header_of 0 ≡ Some (Later d m) = sym (ap (λ (x : Page). header_of x.header) (free p)) ∙ is in let y : true ≡ false = cc in absurd (true≢false y);
+        later = λ p d m is. let e : header_of 0 ≡ Some (Later d m) = sym (ap (λ (x : Page). header_of x.header) (free p))
+            ∙ is in let y : true ≡ false = cc in absurd (true≢false y);
       };
       gone = tt;
       first = tt;
@@ -78,7 +76,8 @@ before c w limits lengths known others q =
       unreleased = λ four. none_released c (object_now c w.now) w.now.words.marks (terrain_of w) (subst (λ b. HasQuarantine c b w.now.words.marks (terrain_of w)) four q);
     }
 
-quarantine_behind : (c : Config) (w : World) (seat : Seat) (x : Step) → Before c w → Meets c w.now seat x → IsLaidOut c w → IsQuarantined c w → IsQuarantined c (WorldBehind c w seat x)
+quarantine_behind : (c : Config) (w : World) (seat : Seat) (x : Step) → Before c w → Meets c w.now seat x → IsLaidOut c w → IsQuarantined c w
+    → IsQuarantined c (WorldBehind c w seat x)
 quarantine_behind c w seat x b h laid q =
     let v : World = WorldBehind c w seat x in
     let kind = quarantine_by_kind c w seat x b h laid q in

@@ -6,7 +6,6 @@ use Rattle.mk_never.specs.declared.operations.Op.{Op}
 use Rattle.mk_never.specs.declared.operations.Op.TheVariants as op
 use Rattle.mk_core.specs.Calls.{has_operands}
 use Rattle.mk_core.specs.Config.{IsWithinLimits}
-use Rattle.mk_core.specs.Effects.{decided}
 use Rattle.mk_core.specs.Moments.{Moment, flight_of}
 use Rattle.mk_core.specs.NewPlaces.{header_made, is_free_at, is_undecided_free, is_undecided_new, object_made}
 use Rattle.mk_core.specs.ObjectHeaders.{IsSized}
@@ -24,14 +23,13 @@ use Rattle.mk_core.specs.declared.seats.Stage.{Stage}
 use Rattle.mk_core.specs.declared.seats.Stage.TheVariants as stage
 use Rattle.mk_core.proofs.GrantedAllocations.{new_sized}
 use Rattle.mk_core.proofs.ObjectHeaders.{made_shows, part_not_free}
-use Rattle.mk_core.proofs.Schedules.{by}
 use Rattle.mk_core.proofs.Sizes.{pages_some}
 use Rattle.mk_protocol.specs.Protocol.{has_place, is_decided_free, is_decided_free_at}
 use Rattle.mk_protocol.proofs.Actors.{Actor, AsHolder, AsMarker, CallTakes, HostTakes, InCallOf, Meets}
 use Rattle.mk_protocol.proofs.Known.{Known}
 use Rattle.mk_protocol.proofs.NextSteps.{is_take}
 use Rattle.mk_protocol.proofs.Orderly.{holders_flight}
-use Rattle.mk_protocol.proofs.Protocols.{actor_of}
+use Rattle.mk_protocol.proofs.OrderlyLists.{actor_of}
 use Rattle.mk_protocol.proofs.Stages.{new_stands}
 use Rattle.mk_protocol.proofs.Standings.{UnderTurn, standing_at}
 use Rattle.mk_protocol.proofs.Views.{HoldsTurn, flight_is, view_of}
@@ -88,7 +86,8 @@ none_on_its_way c m seat known t at = by m.seats.holding.freed (no_run c m seat 
     by None out = refl
     by (Some run) out = absurd (out run refl)
 
-pub placed_undecided : (c : Config) (m : Moment) (seat : Seat) → Known c m → HoldsTurn c (view_of m) seat → has_place m.seats.holding.placing ≡ true → is_undecided_new (flight_of m seat) ≡ true
+pub placed_undecided : (c : Config) (m : Moment) (seat : Seat) → Known c m → HoldsTurn c (view_of m) seat → has_place m.seats.holding.placing ≡ true
+    → is_undecided_new (flight_of m seat) ≡ true
 placed_undecided c m seat known t has = ap (λ (f : Flight). is_undecided_new f) (sym (holding_flight c m seat known t)) ∙ known.orderly.served.placed has
 
 -- The operands of a seat's call are in range, so a New makes an object of 1 to 4,096 words.

@@ -23,3 +23,7 @@ pub mod QuarantineSteps
 pub mod QuarantineChanges
 pub mod QuarantineByKind
 pub mod Histories
+pub mod Apart
+pub mod OnClaims
+pub mod HeadersStand
+pub mod Settled

@@ -6,13 +6,12 @@ use Rattle.mk_geom.specs.PageUses.{or_else}
 use Rattle.mk_geom.specs.declared.addresses.Cell.{Cell}
 use Rattle.mk_geom.specs.declared.pages.Place.{Place}
 use Rattle.mk_core.specs.Allocations.{PlacedAllocation, freed_where_it_stands}
-use Rattle.mk_core.specs.Calls.{still}
 use Rattle.mk_core.specs.Effects.{chosen, run_of_cell, taken}
 use Rattle.mk_core.specs.History.{World}
 use Rattle.mk_core.specs.Moments.{flight_of, is_phase}
 use Rattle.mk_core.specs.NewPlaces.{object_made}
 use Rattle.mk_core.specs.Order.{seat_exists}
-use Rattle.mk_core.specs.TurnConditions.{cell_freed, frees, place_now}
+use Rattle.mk_core.specs.TurnConditions.{cell_freed, place_now}
 use Rattle.mk_core.specs.Words.{phase_of}
 use Rattle.mk_core.specs.declared.config.Config.{Config}
 use Rattle.mk_core.specs.declared.events.Seat.{Seat}
@@ -25,7 +24,6 @@ use Rattle.mk_core.specs.declared.seats.RunPages.{RunPages}
 use Rattle.mk_core.proofs.ChangedAllocations.{none_freed}
 use Rattle.mk_core.proofs.PageSteps.{HeadStep, ItCarves, ItDrops, ItEmpties, ItFrees, ItGivesBack, ItTakes, ItTakesSnapshot, ItUnmaps, QuarantineStep, UsedStep, head_step, quarantine_step, used_step}
 use Rattle.mk_core.proofs.PlacesNow.{freed_cell, placed_now, undecided_free, undecided_new}
-use Rattle.mk_core.proofs.Schedules.{by}
 use Rattle.mk_protocol.proofs.Actors.{Meets}
 use Rattle.mk_protocol.proofs.OthersMoves.{WorldBehind}
 use Rattle.mk_layout.specs.Terrain.{IsLaidOut, Terrain, object_now, terrain_of}

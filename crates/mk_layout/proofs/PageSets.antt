@@ -21,7 +21,8 @@ headed_other pages p n q ne = ap (λ (x : Page). x.header) (get_or-set_other pag
 
 pub headed_used : (pages : List Page) (p n q : ℕ) → p < length pages → used_on (with_header_on pages p n) q ≡ used_on pages q
 headed_used pages p n q lt = elim (cases_eq q p) [
-  | inl e ↦ ap (λ i. used_on (with_header_on pages p n) i) e ∙ ap (λ (x : Page). x.used) (get_or-set_same pages p (record { header = n; used = used_on pages p }) free_page lt) ∙ ap (λ i. used_on pages i) (sym e)
+  | inl e ↦ ap (λ i. used_on (with_header_on pages p n) i) e ∙ ap (λ (x : Page). x.used) (get_or-set_same pages p (record { header = n; used = used_on pages p }) free_page lt)
+      ∙ ap (λ i. used_on pages i) (sym e)
   | inr ne ↦ ap (λ (x : Page). x.used) (get_or-set_other pages p q (record { header = n; used = used_on pages p }) free_page ne)
 ]
 
@@ -33,6 +34,7 @@ used_other pages p n q ne = ap (λ (x : Page). x.used) (get_or-set_other pages p
 
 pub used_header : (pages : List Page) (p n q : ℕ) → p < length pages → header_on (with_used_on pages p n) q ≡ header_on pages q
 used_header pages p n q lt = elim (cases_eq q p) [
-  | inl e ↦ ap (λ i. header_on (with_used_on pages p n) i) e ∙ ap (λ (x : Page). x.header) (get_or-set_same pages p (record { header = header_on pages p; used = n }) free_page lt) ∙ ap (λ i. header_on pages i) (sym e)
+  | inl e ↦ ap (λ i. header_on (with_used_on pages p n) i) e
+      ∙ ap (λ (x : Page). x.header) (get_or-set_same pages p (record { header = header_on pages p; used = n }) free_page lt) ∙ ap (λ i. header_on pages i) (sym e)
   | inr ne ↦ ap (λ (x : Page). x.header) (get_or-set_other pages p q (record { header = header_on pages p; used = n }) free_page ne)
 ]

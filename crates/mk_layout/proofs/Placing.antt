@@ -1,5 +1,5 @@
 -- The steps of a New: its place is chosen, its pages get their headers one by one, and its cell is taken.
-use Rattle.std.proofs.Common.{Bool, List, [], ap, arith, false, inl, inr, length, length-set, refl, subst, sym, true, zero, ℕ, ◌++◌, ◌+◌, ◌-◌, ◌<◌, ◌^◌, ◌∙◌, ◌∷◌, ◌≡◌, ◌≢◌, ◌≤◌, ◌⊎◌}
+use Rattle.std.proofs.Common.{Bool, List, [], ap, arith, false, inl, inr, length, length-set, refl, subst, sym, true, ℕ, ◌++◌, ◌+◌, ◌-◌, ◌<◌, ◌^◌, ◌∙◌, ◌∷◌, ◌≡◌, ◌≢◌, ◌≤◌, ◌⊎◌}
 use Rattle.std.specs.Prelude.{Some}
 use Rattle.std.proofs.lemmas.Bool.{cases_eq, true≢false}
 use Rattle.mk_geom.specs.Addresses.{head_page_under}
@@ -10,7 +10,6 @@ use Rattle.mk_core.specs.Cells.{cells_under}
 use Rattle.mk_core.specs.NewPlaces.{header_made, pages_made, stands}
 use Rattle.mk_core.specs.ObjectHeaders.{IsSized, ShowsPart, cells_made}
 use Rattle.mk_core.specs.declared.seats.Object.{Object}
-use Rattle.mk_core.proofs.EvaluatedPlaces.{full}
 use Rattle.mk_core.proofs.ObjectHeaders.{made_shows, part_cells, shown_later}
 use Rattle.mk_core.proofs.Sizes.{pages_some}
 use Rattle.mk_core.proofs.WordBits.{added_here, added_other}
@@ -109,16 +108,19 @@ layout_carved s first o d laid plotted off next =
     part : ShowsPart o d (header_of (header_made o d))
     part = made_shows o d plot.sized next.within
 
-    headed_later : (q e : ℕ) (m : Bool) → q ≡ first + d → shows_on (with_header_on s.pages (first + d) (header_made o d)) q ≡ Some (Later e m) → HasItsHead (with_header_on s.pages (first + d) (header_made o d)) s.releasing q e
+    headed_later : (q e : ℕ) (m : Bool) → q ≡ first + d → shows_on (with_header_on s.pages (first + d) (header_made o d)) q ≡ Some (Later e m)
+        → HasItsHead (with_header_on s.pages (first + d) (header_made o d)) s.releasing q e
     headed_later q e m same is =
-        let at = shown_later o d e m (header_of (header_made o d)) part (ap (λ h. header_of h) (sym (headed_here s.pages (first + d) (header_made o d) lt)) ∙ ap (λ i. shows_on (with_header_on s.pages (first + d) (header_made o d)) i) (sym same) ∙ is) in
+        let at =
+        shown_later o d e m (header_of (header_made o d)) part (ap (λ h. header_of h) (sym (headed_here s.pages (first + d) (header_made o d) lt)) ∙ ap (λ i. shows_on (with_header_on s.pages (first + d) (header_made o d)) i) (sym same) ∙ is) in
         let e_is : e ≡ d = at.0 in
         let some : 1 ≤ d = at.1 in
         let back : q - e ≡ first = omega arith in
         let zero : first + 0 ≡ first = omega arith in
         let w = next.within in
         let head : header_on (with_header_on s.pages (first + d) (header_made o d)) (q - e) ≡ header_made o 0 =
-        ap (λ i. header_on (with_header_on s.pages (first + d) (header_made o d)) i) back ∙ headed_other s.pages (first + d) (header_made o d) first (λ x. omega arith) ∙ ap (λ i. header_on s.pages i) (sym zero) ∙ next.before 0 (omega arith) in
+        ap (λ i. header_on (with_header_on s.pages (first + d) (header_made o d)) i) back ∙ headed_other s.pages (first + d) (header_made o d) first (λ x. omega arith)
+        ∙ ap (λ i. header_on s.pages i) (sym zero) ∙ next.before 0 (omega arith) in
         (omega arith, inl (subst (λ h. e < run_count (header_of h)) (sym head) (let count = part_count o (header_of (header_made o 0)) (made_shows o 0 plot.sized (omega arith)) at.2 in omega arith)))
 
 -- `used` (a): the cell of the place is taken, behind all its headers
@@ -191,7 +193,8 @@ layout_taken s x n laid t =
     same_bit : (q k : ℕ) → (q ≡ x.page → k ≢ x.index) → has_bit (used_on (with_used_on s.pages x.page n) q) k ≡ has_bit (used_on s.pages q) k
     same_bit q k other = elim (cases_eq q x.page) [
       | inr ne ↦ ap (λ u. has_bit u k) (used_other s.pages x.page n q ne)
-      | inl e ↦ ap (λ i. has_bit (used_on (with_used_on s.pages x.page n) i) k) e ∙ ap (λ u. has_bit u k) (used_here s.pages x.page n lt ∙ t.value) ∙ added_other (used_on s.pages x.page) x.index k t.unset (other e) ∙ ap (λ i. has_bit (used_on s.pages i) k) (sym e)
+      | inl e ↦ ap (λ i. has_bit (used_on (with_used_on s.pages x.page n) i) k) e ∙ ap (λ u. has_bit u k) (used_here s.pages x.page n lt ∙ t.value)
+          ∙ added_other (used_on s.pages x.page) x.index k t.unset (other e) ∙ ap (λ i. has_bit (used_on s.pages i) k) (sym e)
     ]
 
     grow : (q k : ℕ) → has_bit (used_on s.pages q) k ≡ true → has_bit (used_on (with_used_on s.pages x.page n) q) k ≡ true
@@ -221,7 +224,8 @@ layout_taken s x n laid t =
     cells_here =
         let zero : x.page + 0 ≡ x.page = omega arith in
         let o = some_pages in
-        ap (λ p. cells_under (shows_on s.pages p)) (sym zero) ∙ ap (λ h. cells_under (header_of h)) (t.headers 0 (omega arith)) ∙ part_cells x.object (header_of (header_made x.object 0)) (made_shows x.object 0 t.sized (omega arith))
+        ap (λ p. cells_under (shows_on s.pages p)) (sym zero) ∙ ap (λ h. cells_under (header_of h)) (t.headers 0 (omega arith))
+        ∙ part_cells x.object (header_of (header_made x.object 0)) (made_shows x.object 0 t.sized (omega arith))
 
     used : (p k : ℕ) → has_bit (used_on (with_used_on s.pages x.page n) p) k ≡ true → IsTakenCell (Taken s x n) p k
     used p k h = elim (both (cases_eq p x.page) (cases_eq k x.index)) [
@@ -256,5 +260,6 @@ layout_taken s x n laid t =
         let low = here.0 in
         let high = here.1 in
         let at : x.page + (q - x.page) ≡ q = omega arith in
-        let head : head_on (with_used_on s.pages x.page n) q ≡ x.page = ap (λ i. head_on (with_used_on s.pages x.page n) i) (sym at) ∙ claimed_head (with_used_on s.pages x.page n) x (q - x.page) own (omega arith) in
+        let head : head_on (with_used_on s.pages x.page n) q ≡ x.page =
+        ap (λ i. head_on (with_used_on s.pages x.page n) i) (sym at) ∙ claimed_head (with_used_on s.pages x.page n) x (q - x.page) own (omega arith) in
         none_set (used_on (with_used_on s.pages x.page n) x.page) x.index (ap (λ i. used_on (with_used_on s.pages x.page n) i) (sym head) ∙ empty) here_set

@@ -9,12 +9,9 @@ use Rattle.mk_geom.specs.declared.addresses.Cell.{Cell}
 use Rattle.mk_geom.proofs.ClassTable.{cell_ends, class_words_within}
 use Rattle.mk_core.specs.Allocations.{PlacedAllocation, cell_of_allocation, freed_where_it_stands, no_longer_fresh, placed_at, stands_in, with_released}
 use Rattle.mk_core.specs.Bits.{has_bit}
-use Rattle.mk_core.specs.Calls.{still}
 use Rattle.mk_core.specs.Config.{IsWithinLimits}
-use Rattle.mk_core.specs.Counts.{ends}
-use Rattle.mk_core.specs.Effects.{taken}
 use Rattle.mk_core.specs.History.{World}
-use Rattle.mk_core.specs.NewPlaces.{class_made, is_small_object, stands}
+use Rattle.mk_core.specs.NewPlaces.{class_made, is_small_object}
 use Rattle.mk_core.specs.ObjectHeaders.{IsSized, cells_made}
 use Rattle.mk_core.specs.Words.{Words, quarantine_word}
 use Rattle.mk_core.specs.declared.config.Config.{Config}
@@ -27,7 +24,6 @@ use Rattle.mk_core.proofs.Sizes.{class_known, large_cells, small_cells}
 use Rattle.mk_core.proofs.SmallCycles.{small}
 use Rattle.mk_core.proofs.WordBits.{added_here, added_other, sum_is_or}
 use Rattle.mk_protocol.specs.Protocol.{has_place}
-use Rattle.mk_protocol.proofs.Kept.{kept}
 use Rattle.mk_layout.specs.Quarantine.{HasQuarantine, IsFreedCell, has_bit_of}
 use Rattle.mk_layout.specs.Scene.{is_released_in}
 use Rattle.mk_layout.specs.Terrain.{IsCellOf, Terrain, terrain_of}
@@ -181,7 +177,8 @@ pub record FreesHere (c : Config) (w : World) (cell : Cell) (n : ℕ) : Type 0 w
   pub index : cell.index < 32
   pub own : IsCellOf c w.allocations cell
   pub stands : stands_in w.now.words cell (placed_at w.allocations own.number) ≡ true
-  pub others : (i : ℕ) → (placed_at w.allocations i).released ≡ false → stands_in w.now.words cell (placed_at w.allocations i) ≡ true → cell_of_allocation c (placed_at w.allocations i) ≡ cell
+  pub others : (i : ℕ) → (placed_at w.allocations i).released ≡ false → stands_in w.now.words cell (placed_at w.allocations i) ≡ true
+      → cell_of_allocation c (placed_at w.allocations i) ≡ cell
   pub unset : has_bit (slice_index w.now.words.freed cell.page) cell.index ≡ false
   pub value : n ≡ quarantine_word (slice_index w.now.words.freed cell.page + 2 ^ cell.index) (slice_index w.now.words.snapshot cell.page)
   pub unplaced : has_place w.now.seats.holding.placing ≡ false
@@ -225,7 +222,8 @@ free_kept c w cell run n x q =
     sum =
         let a = (q.small cell.page).0 in
         let lt = x.index in
-        let more : 2 * 2 ^ cell.index ≤ 2 ^ 32 = (let le : suc cell.index ≤ 32 = omega arith in let p : 2 ^ suc cell.index ≤ 2 ^ 32 = pow_mono le in let s = pow-suc 2 cell.index in omega arith) in
+        let more : 2 * 2 ^ cell.index ≤ 2 ^ 32 =
+        (let le : suc cell.index ≤ 32 = omega arith in let p : 2 ^ suc cell.index ≤ 2 ^ 32 = pow_mono le in let s = pow-suc 2 cell.index in omega arith) in
         let some : 1 ≤ 2 ^ cell.index = (let z : 0 ≤ cell.index = omega arith in let p : 2 ^ 0 ≤ 2 ^ cell.index = pow_mono z in omega arith) in
         let b = or_lt 32 (slice_index w.now.words.freed cell.page) (2 ^ cell.index) a (omega arith) in
         let e = sum_is_or (slice_index w.now.words.freed cell.page) cell.index x.unset in

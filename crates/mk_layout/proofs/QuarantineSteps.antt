@@ -9,10 +9,8 @@ use Rattle.std.specs.Int.{bit_at}
 use Rattle.mk_geom.specs.declared.addresses.Cell.{Cell}
 use Rattle.mk_geom.specs.declared.pages.Page.{Page}
 use Rattle.mk_geom.specs.declared.pages.Place.{Place}
-use Rattle.mk_core.specs.Accesses.{found}
 use Rattle.mk_core.specs.Allocations.{cell_of_allocation, placed_at}
 use Rattle.mk_core.specs.Bits.{has_bit, without}
-use Rattle.mk_core.specs.Effects.{taken}
 use Rattle.mk_core.specs.History.{World}
 use Rattle.mk_core.specs.declared.config.Config.{Config}
 use Rattle.mk_core.specs.declared.seats.Object.{Object}
@@ -21,10 +19,7 @@ use Rattle.mk_core.specs.declared.seats.Placing.TheVariants.{Chosen, Granted, Un
 use Rattle.mk_core.specs.declared.seats.RunPages.{RunPages}
 use Rattle.mk_core.proofs.BitsWithout.{has_bit_without}
 use Rattle.mk_core.proofs.PageSteps.{Drops, left_bits}
-use Rattle.mk_core.proofs.Schedules.{by}
-use Rattle.mk_core.proofs.SmallCycles.{small}
 use Rattle.mk_core.proofs.WordBits.{fewer_bits, rest_bits}
-use Rattle.mk_protocol.proofs.Kept.{kept}
 use Rattle.mk_layout.specs.Quarantine.{HasQuarantine, IsFreedCell}
 use Rattle.mk_layout.specs.Scene.{Among, Claim, is_released_in, used_on}
 use Rattle.mk_layout.specs.Terrain.{Terrain, claims_of, claims_on, claims_placed, terrain_of}

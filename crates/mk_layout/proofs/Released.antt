@@ -1,5 +1,5 @@
 -- `release` on the terrain: an allocation is released exactly where its cell is left unmarked.
-use Rattle.std.proofs.Common.{Bool, List, ap, arith, false, inl, inr, length, map, refl, subst, sym, true, zero, ℕ, ◌++◌, ◌/◌, ◌∙◌, ◌≡◌, ◌⊎◌}
+use Rattle.std.proofs.Common.{Bool, List, ap, arith, false, inl, inr, length, map, refl, subst, sym, true, ℕ, ◌++◌, ◌/◌, ◌∙◌, ◌≡◌, ◌⊎◌}
 use Rattle.std.specs.Prelude.{None, Option, Some, slice_index, ◌||◌}
 use Rattle.std.proofs.lemmas.Bool.{cases_Bool, true≢false}
 use Rattle.mk_geom.specs.Addresses.{address_of}
@@ -7,7 +7,7 @@ use Rattle.mk_core.specs.Allocations.{PlacedAllocation, cell_of_allocation, plac
 use Rattle.mk_core.specs.Bounded.{is_some_and}
 use Rattle.mk_core.specs.Cells.{is_left_unmarked, pointed_cell}
 use Rattle.mk_core.specs.Config.{IsWithinLimits}
-use Rattle.mk_core.specs.History.{World, left}
+use Rattle.mk_core.specs.History.{World}
 use Rattle.mk_core.specs.Words.{Words}
 use Rattle.mk_core.specs.declared.config.Config.{Config}
 use Rattle.mk_core.specs.declared.seats.Object.{Object}
@@ -15,7 +15,6 @@ use Rattle.mk_core.specs.declared.seats.RunPages.{RunPages}
 use Rattle.mk_core.proofs.BitsWithout.{has_bit_without}
 use Rattle.mk_core.proofs.ChangedAllocations.{released_leaves}
 use Rattle.mk_core.proofs.PointedAllocations.{released_where_left}
-use Rattle.mk_core.proofs.Schedules.{by}
 use Rattle.mk_core.proofs.Sizes.{large_cells}
 use Rattle.mk_protocol.proofs.Kept.{kept}
 use Rattle.mk_layout.specs.Scene.{Among, Claim, is_released_in}
@@ -97,7 +96,8 @@ released_terrain c o w limits len st kept =
     placed : List Claim
     placed = claims_placed o w.now.seats.holding.placing
 
-    was : (x : Claim) → Among x (claims_of c w.now.seats.holding.freed (map (with_released c w.now.words) w.allocations)) → Among x (claims_of c w.now.seats.holding.freed w.allocations)
+    was : (x : Claim) → Among x (claims_of c w.now.seats.holding.freed (map (with_released c w.now.words) w.allocations))
+        → Among x (claims_of c w.now.seats.holding.freed w.allocations)
     was x j =
         let n = was_claim c w.now.seats.holding.freed (with_released c w.now.words) w.allocations x (releasing_leaves c w.now.words) j in
         subst (λ (y : Claim). Among y (claims_of c w.now.seats.holding.freed w.allocations)) (sym n.is) (claim_among c w.now.seats.holding.freed w.allocations n.number n.was)

@@ -13,19 +13,20 @@ use Rattle.mk_core.specs.Bits.{has_bit}
 use Rattle.mk_core.specs.Cells.{cells_under}
 use Rattle.mk_core.specs.Counts.{ends}
 use Rattle.mk_core.specs.NewPlaces.{header_made, pages_made, stands}
-use Rattle.mk_core.proofs.Schedules.{by}
 use Rattle.mk_protocol.proofs.Kept.{kept}
 use Rattle.mk_layout.specs.Scene.{Among, AreApart, Claim, HasHeader, IsClaimed, IsLaidOn, IsShown, NoPlot, Plot, PlotStands, Plotted, Scene, head_on, header_on, is_released_in, is_released_on, run_count, shows_on, used_on}
 use Rattle.mk_layout.proofs.PageSets.{headed_here, headed_other, headed_used, used_header, used_here, used_other, with_header_on, with_used_on}
 use Rattle.mk_layout.proofs.Readings.{cellless_unused, claimed_used, free_unused, none_set, zero_where_none}
 
 -- a page with nothing on it is on no claim's pages
-unclaimed : (s : Scene) (p : ℕ) → IsLaidOn s → used_on s.pages (head_on s.pages p) ≡ 0 → (x : Claim) → Among x s.claims → (distance : ℕ) → distance < pages_made x.object → x.page + distance ≢ p
+unclaimed : (s : Scene) (p : ℕ) → IsLaidOn s → used_on s.pages (head_on s.pages p) ≡ 0 → (x : Claim) → Among x s.claims → (distance : ℕ) → distance < pages_made x.object
+    → x.page + distance ≢ p
 unclaimed s p laid z x among distance lt e =
     claimed_used s.pages x distance (laid.shown x among) lt (ap (λ q. used_on s.pages (head_on s.pages q)) e ∙ z)
 
 -- the pages of a claim are others
-pub shown_beside : (pages : List Page) (p n : ℕ) (x : Claim) → p < length pages → IsShown pages x → ((distance : ℕ) → distance < pages_made x.object → x.page + distance ≢ p) → IsShown (with_header_on pages p n) x
+pub shown_beside : (pages : List Page) (p n : ℕ) (x : Claim) → p < length pages → IsShown pages x → ((distance : ℕ) → distance < pages_made x.object → x.page + distance ≢ p)
+    → IsShown (with_header_on pages p n) x
 shown_beside pages p n x lt shown apart =
     record {
       sized = shown.sized;
@@ -102,7 +103,8 @@ pub record Gives (s : Scene) (p n : ℕ) : Type 0 where
   pub fewer : (k : ℕ) → has_bit n k ≡ true → has_bit (used_on s.pages p) k ≡ true
   pub gone : (k : ℕ) → has_bit (used_on s.pages p) k ≡ true → has_bit n k ≡ false → is_released_on s p k ≡ true
 
-pub layout_given_back : (s : Scene) (p n : ℕ) → IsLaidOn s → p < length s.pages → s.releasing ≡ true → Gives s p n → ((x : Claim) → Among x s.claims → is_released_on s x.page x.index ≡ false) → IsLaidOn (GivenBack s p n)
+pub layout_given_back : (s : Scene) (p n : ℕ) → IsLaidOn s → p < length s.pages → s.releasing ≡ true → Gives s p n
+    → ((x : Claim) → Among x s.claims → is_released_on s x.page x.index ≡ false) → IsLaidOn (GivenBack s p n)
 layout_given_back s p n laid lt on gives kept =
     record {
       shown = λ x among. shown x among (laid.shown x among);
@@ -120,17 +122,19 @@ layout_given_back s p n laid lt on gives kept =
 
     fewer : (q k : ℕ) → has_bit (used_on (with_used_on s.pages p n) q) k ≡ true → has_bit (used_on s.pages q) k ≡ true
     fewer q k h = elim (cases_eq q p) [
-      | inl e ↦ ap (λ i. has_bit (used_on s.pages i) k) e ∙ gives.fewer k (ap (λ u. has_bit u k) (sym (used_here s.pages p n lt)) ∙ ap (λ i. has_bit (used_on (with_used_on s.pages p n) i) k) (sym e) ∙ h)
+      | inl e ↦ ap (λ i. has_bit (used_on s.pages i) k) e
+          ∙ gives.fewer k (ap (λ u. has_bit u k) (sym (used_here s.pages p n lt)) ∙ ap (λ i. has_bit (used_on (with_used_on s.pages p n) i) k) (sym e) ∙ h)
       | inr ne ↦ ap (λ u. has_bit u k) (sym (used_other s.pages p n q ne)) ∙ h
     ]
 
     bit : (x : Claim) → Among x s.claims → has_bit (used_on s.pages x.page) x.index ≡ true → has_bit (used_on (with_used_on s.pages p n) x.page) x.index ≡ true
     bit x among was = elim (cases_eq x.page p) [
       | inr ne ↦ ap (λ u. has_bit u x.index) (used_other s.pages p n x.page ne) ∙ was
-      | inl e ↦ ap (λ i. has_bit (used_on (with_used_on s.pages p n) i) x.index) e ∙ ap (λ u. has_bit u x.index) (used_here s.pages p n lt) ∙ elim (cases_Bool (has_bit n x.index)) [
-        | inl stays ↦ stays
-        | inr goes ↦ absurd (true≢false (sym (gives.gone x.index (ap (λ i. has_bit (used_on s.pages i) x.index) (sym e) ∙ was) goes) ∙ ap (λ i. is_released_on s i x.index) (sym e) ∙ kept x among))
-      ]
+      | inl e ↦ ap (λ i. has_bit (used_on (with_used_on s.pages p n) i) x.index) e ∙ ap (λ u. has_bit u x.index) (used_here s.pages p n lt)
+          ∙ elim (cases_Bool (has_bit n x.index)) [
+            | inl stays ↦ stays
+            | inr goes ↦ absurd (true≢false (sym (gives.gone x.index (ap (λ i. has_bit (used_on s.pages i) x.index) (sym e) ∙ was) goes) ∙ ap (λ i. is_released_on s i x.index) (sym e) ∙ kept x among))
+          ]
     ]
 
     shown : (x : Claim) → Among x s.claims → IsShown s.pages x → IsShown (with_used_on s.pages p n) x

@@ -1,5 +1,5 @@
 -- The steps of a New and of a Free on the terrain: `head`, `used`, `mark`.
-use Rattle.std.proofs.Common.{Bool, List, [], ap, append-nil, arith, false, inl, inr, length, refl, subst, sym, true, zero, ℕ, ◌++◌, ◌+◌, ◌-◌, ◌<◌, ◌^◌, ◌∙◌, ◌∷◌, ◌≡◌, ◌≢◌, ◌≤◌}
+use Rattle.std.proofs.Common.{Bool, List, [], ap, append-nil, arith, false, inl, inr, length, refl, subst, sym, true, ℕ, ◌++◌, ◌+◌, ◌-◌, ◌<◌, ◌^◌, ◌∙◌, ◌∷◌, ◌≡◌, ◌≢◌, ◌≤◌}
 use Rattle.std.specs.Prelude.{Option, Some, not, slice_index, ◌&&◌}
 use Rattle.mk_geom.specs.declared.pages.Place.{Place}
 use Rattle.mk_core.specs.Bits.{has_bit}
@@ -16,7 +16,6 @@ use Rattle.mk_core.specs.declared.seats.Placing.TheVariants.{Chosen, Granted, Un
 use Rattle.mk_core.specs.declared.seats.RunPages.{RunPages}
 use Rattle.mk_core.proofs.PageSteps.{Empties, GivesBack, Unmaps}
 use Rattle.mk_core.proofs.PlacesNow.{AsChosen, AsUsed, ByFit, IsPlaced}
-use Rattle.mk_core.proofs.Schedules.{by}
 use Rattle.mk_core.proofs.ServingSteps.{IsCellTaken, IsNextHeader}
 use Rattle.mk_core.proofs.Sizes.{cells_some, pages_some, small_pages}
 use Rattle.mk_core.proofs.WordBits.{fewer_bits}
@@ -133,7 +132,8 @@ head_carves c o w place p n st sized placed next = by w.now.seats.holding.placin
     ]
     by (Chosen place) is AsChosen = carved_on c o w place p n (placed_as c o false w (terrain_of w) (Chosen place) is st) next
     by (Used place) is AsUsed =
-        let own : Among (place_claim o place) (claims_placed o w.now.seats.holding.placing) = subst (λ (x : Placing). Among (place_claim o place) (claims_placed o x)) (sym is) (inl refl) in
+        let own : Among (place_claim o place) (claims_placed o w.now.seats.holding.placing) =
+        subst (λ (x : Placing). Among (place_claim o place) (claims_placed o x)) (sym is) (inl refl) in
         let shown = st.scene.shown (place_claim o place) (placed_claim c o (terrain_of w) (place_claim o place) own) in
         let low = next.from in
         let there : place.page + (p - place.page) ≡ p = omega arith in
@@ -160,7 +160,8 @@ mark_places c o releasing w place st sized placed free made = by w.now.seats.hol
 no_claims : (xs : List Claim) (x : Claim) → (xs ++ []) ++ x ∷ [] ≡ xs ++ x ∷ []
 no_claims xs x = ap (λ (ys : List Claim). ys ++ x ∷ []) (append-nil xs)
 
-taken_at : (c : Config) (o : Object) (releasing : Bool) (w : World) (placing : Placing) (place : Place) (p n : ℕ) → Laid c o releasing w (record (terrain_of w) { placing = placing })
+taken_at : (c : Config) (o : Object) (releasing : Bool) (w : World) (placing : Placing) (place : Place) (p n : ℕ)
+    → Laid c o releasing w (record (terrain_of w) { placing = placing })
     → claims_placed o placing ≡ [] → IsCellTaken w.now.words o place p n → IsSized o → place.index < cells_made o → place.page + pages_made o ≤ length w.now.words.pages
     → ((q : ℕ) → InPlot (plot_of o placing) q → InPlot (Plotted place.page o) q)
     → Laid c o releasing w (record (terrain_of w) { pages = with_used_on w.now.words.pages p n; placing = Used place })

@@ -5,8 +5,7 @@ use Rattle.std.proofs.lemmas.Bool.{cases_Bool}
 use Rattle.mk_geom.specs.declared.addresses.Cell.{Cell}
 use Rattle.mk_geom.specs.declared.pages.Place.{Place}
 use Rattle.mk_core.specs.Allocations.{PlacedAllocation, cell_of_allocation, storage_words}
-use Rattle.mk_core.specs.Counts.{ends}
-use Rattle.mk_core.specs.NewPlaces.{base_made, is_small_object, pages_made, stands}
+use Rattle.mk_core.specs.NewPlaces.{base_made, is_small_object, pages_made}
 use Rattle.mk_core.specs.ObjectHeaders.{IsSized, cells_made, words_made}
 use Rattle.mk_core.specs.StandingAllocations.{BeginsAtCell, HasItsHeaders, StandsOnHeap, object_placed}
 use Rattle.mk_core.specs.Words.{Words, header_at}
@@ -61,7 +60,8 @@ pub large_index : (c : Config) (a : PlacedAllocation) → IsSized (object_placed
 large_index c a sized large = ap (λ (x : Cell). x.index) (run_cell c a sized large)
 
 -- Its cell has the place's page and index, where it has the place's base.
-pub place_index : (c : Config) (a : PlacedAllocation) (place : Place) → IsSized (object_placed c a) → a.base ≡ base_made (object_placed c a) place → place.index < cells_made (object_placed c a)
+pub place_index : (c : Config) (a : PlacedAllocation) (place : Place) → IsSized (object_placed c a) → a.base ≡ base_made (object_placed c a) place
+    → place.index < cells_made (object_placed c a)
     → (a.base / 64 ≡ place.page) × ((cell_of_allocation c a).index ≡ place.index)
 place_index c a place sized base lt =
     let made = made_begins (object_placed c a) place sized lt in

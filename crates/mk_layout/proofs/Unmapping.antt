@@ -1,5 +1,5 @@
 -- The steps that unmap a run: it is freed, its pages get their headers, and the call that freed it ends.
-use Rattle.std.proofs.Common.{Bool, List, ap, arith, false, inl, inr, length, length-set, refl, subst, sym, true, zero, ℕ, ◌+◌, ◌-◌, ◌<◌, ◌∙◌, ◌≡◌, ◌≢◌, ◌⊎◌}
+use Rattle.std.proofs.Common.{Bool, List, ap, arith, false, inl, inr, length, length-set, subst, sym, true, ℕ, ◌+◌, ◌-◌, ◌<◌, ◌∙◌, ◌≡◌, ◌≢◌, ◌⊎◌}
 use Rattle.std.specs.Prelude.{Some}
 use Rattle.std.proofs.lemmas.Bool.{cases_eq}
 use Rattle.mk_geom.specs.Addresses.{head_page_under}
@@ -11,9 +11,7 @@ use Rattle.mk_core.specs.NewPlaces.{header_made, is_small_object, pages_made, st
 use Rattle.mk_core.specs.ObjectHeaders.{ShowsPart, cells_made}
 use Rattle.mk_core.specs.declared.seats.Object.{Object}
 use Rattle.mk_core.proofs.ObjectHeaders.{later_part, made_shows, part_cells, part_head, same_cells, shown_later, unmapped_shows}
-use Rattle.mk_core.proofs.Schedules.{by}
 use Rattle.mk_core.proofs.Sizes.{large_cells, pages_some}
-use Rattle.mk_protocol.proofs.Kept.{kept}
 use Rattle.mk_layout.specs.Scene.{Among, AreApart, Claim, HasHeader, HasItsHead, IsClaimed, IsLaidOn, IsOfOneCell, IsPlotShown, IsShown, Mode, NoPlot, Plot, PlotStands, Plotted, Scene, Unmapping, head_on, header_on, is_released_on, run_count, shows_on, used_on}
 use Rattle.mk_layout.proofs.PageSets.{headed_here, headed_other, headed_used, with_header_on}
 use Rattle.mk_layout.proofs.Readings.{claimed, claimed_head, claimed_some, none_set, one_claim}
@@ -24,10 +22,12 @@ use Rattle.mk_layout.proofs.RunCounts.{same_count}
 pub cells_at_claim : (s : Scene) (x : Claim) → IsShown s.pages x → cells_under (shows_on s.pages x.page) ≡ cells_made x.object
 cells_at_claim s x shown =
     let zero : x.page + 0 ≡ x.page = omega arith in
-    ap (λ p. cells_under (shows_on s.pages p)) (sym zero) ∙ part_cells x.object (shows_on s.pages (x.page + 0)) (claimed s.pages x 0 shown (let some = pages_some x.object shown.sized in omega arith))
+    ap (λ p. cells_under (shows_on s.pages p)) (sym zero)
+    ∙ part_cells x.object (shows_on s.pages (x.page + 0)) (claimed s.pages x 0 shown (let some = pages_some x.object shown.sized in omega arith))
 
 -- a claim that shares a page with a run's is the run's
-pub shares_run : (s : Scene) (x y : Claim) (d e : ℕ) → IsLaidOn s → Among x s.claims → Among y s.claims → is_small_object x.object ≡ false → d < pages_made x.object → e < pages_made y.object → y.page + e ≡ x.page + d → y ≡ x
+pub shares_run : (s : Scene) (x y : Claim) (d e : ℕ) → IsLaidOn s → Among x s.claims → Among y s.claims → is_small_object x.object ≡ false → d < pages_made x.object
+    → e < pages_made y.object → y.page + e ≡ x.page + d → y ≡ x
 shares_run s x y d e laid ix iy large ld le at =
     let sx = laid.shown x ix in
     let sy = laid.shown y iy in
@@ -40,7 +40,8 @@ shares_run s x y d e laid ix iy large ld le at =
     one_claim s.claims y x laid.apart iy ix (page, omega arith)
 
 -- and the page isn't one of a plot
-pub apart_of_plot : (s : Scene) (x : Claim) (d first e : ℕ) (o : Object) → IsLaidOn s → Among x s.claims → d < pages_made x.object → IsPlotShown s.pages first o → e < pages_made o → first + e ≢ x.page + d
+pub apart_of_plot : (s : Scene) (x : Claim) (d first e : ℕ) (o : Object) → IsLaidOn s → Among x s.claims → d < pages_made x.object → IsPlotShown s.pages first o
+    → e < pages_made o → first + e ≢ x.page + d
 apart_of_plot s x d first e o laid ix ld plot le at =
     let sx = laid.shown x ix in
     let head : head_on s.pages (first + e) ≡ x.page = ap (λ q. head_on s.pages q) at ∙ claimed_head s.pages x d sx ld in
@@ -49,7 +50,8 @@ apart_of_plot s x d first e o laid ix ld plot le at =
     by : head_on s.pages (first + e) ≡ x.page → (header_on s.pages (first + e) ≡ 0) ⊎ (header_on s.pages (first + e) ≡ header_made o e) → ⊥
     by head (inl z) = claimed_some s.pages x d (laid.shown x ix) ld (ap (λ q. header_on s.pages q) (sym at) ∙ z)
     by head (inr is) =
-        let own : head_on s.pages (first + e) ≡ first = ap (λ h. head_page_under (header_of h) (first + e)) is ∙ part_head o e first (header_of (header_made o e)) (made_shows o e plot.sized le) in
+        let own : head_on s.pages (first + e) ≡ first =
+        ap (λ h. head_page_under (header_of h) (first + e)) is ∙ part_head o e first (header_of (header_made o e)) (made_shows o e plot.sized le) in
         let zero : first + 0 ≡ first = omega arith in
         none_set (used_on s.pages x.page) x.index (ap (λ p. used_on s.pages p) (sym head ∙ own ∙ sym zero) ∙ plot.used 0 (let some = pages_some o plot.sized in omega arith)) (laid.shown x ix).used
 
@@ -57,7 +59,8 @@ apart_of_plot s x d first e o laid ix ld plot le at =
 abbrev pub PageUnmapped : Scene → Claim → ℕ → Scene
 PageUnmapped s x d = record s { pages = with_header_on s.pages (x.page + d) (unmapped_header (pages_made x.object) d) }
 
-pub layout_page_unmapped : (s : Scene) (x : Claim) (d : ℕ) → IsLaidOn s → Among x s.claims → x.mode ≡ Unmapping → is_small_object x.object ≡ false → d < pages_made x.object → IsLaidOn (PageUnmapped s x d)
+pub layout_page_unmapped : (s : Scene) (x : Claim) (d : ℕ) → IsLaidOn s → Among x s.claims → x.mode ≡ Unmapping → is_small_object x.object ≡ false → d < pages_made x.object
+    → IsLaidOn (PageUnmapped s x d)
 layout_page_unmapped s x d laid ix mode large ld =
     record {
       shown = λ y iy. elim (same_or_not y x) [
@@ -104,7 +107,8 @@ layout_page_unmapped s x d laid ix mode large ld =
     here : header_on (with_header_on s.pages (x.page + d) (unmapped_header (pages_made x.object) d)) (x.page + d) ≡ unmapped_header (pages_made x.object) d
     here = headed_here s.pages (x.page + d) (unmapped_header (pages_made x.object) d) lt
 
-    header_of_run : (e : ℕ) → e < pages_made x.object → HasHeader Unmapping x.object e (header_on (with_header_on s.pages (x.page + d) (unmapped_header (pages_made x.object) d)) (x.page + e))
+    header_of_run : (e : ℕ) → e < pages_made x.object
+        → HasHeader Unmapping x.object e (header_on (with_header_on s.pages (x.page + d) (unmapped_header (pages_made x.object) d)) (x.page + e))
     header_of_run e le = elim (cases_eq e d) [
       | inl same ↦ inr (large, ap (λ i. header_on (with_header_on s.pages (x.page + d) (unmapped_header (pages_made x.object) d)) (x.page + i)) same ∙ here ∙ ap (λ i. unmapped_header (pages_made x.object) i) (sym same))
       | inr ne ↦ subst (λ h. HasHeader Unmapping x.object e h) (sym (headed_other s.pages (x.page + d) (unmapped_header (pages_made x.object) d) (x.page + e) (λ is. ne (omega arith))))
@@ -133,7 +137,8 @@ layout_page_unmapped s x d laid ix mode large ld =
     counts q = elim (cases_eq q (x.page + d)) [
       | inl e ↦
           ap (λ i. run_count (shows_on (with_header_on s.pages (x.page + d) (unmapped_header (pages_made x.object) d)) i)) e ∙ ap (λ h. run_count (header_of h)) here
-          ∙ same_count x.object d (header_of (unmapped_header (pages_made x.object) d)) (shows_on s.pages (x.page + d)) new old large ∙ ap (λ i. run_count (shows_on s.pages i)) (sym e)
+          ∙ same_count x.object d (header_of (unmapped_header (pages_made x.object) d)) (shows_on s.pages (x.page + d)) new old large
+          ∙ ap (λ i. run_count (shows_on s.pages i)) (sym e)
       | inr ne ↦ ap (λ h. run_count (header_of h)) (headed_other s.pages (x.page + d) (unmapped_header (pages_made x.object) d) q ne)
     ]
 
@@ -141,7 +146,8 @@ layout_page_unmapped s x d laid ix mode large ld =
     head q = elim (cases_eq q (x.page + d)) [
       | inl e ↦
           ap (λ i. head_on (with_header_on s.pages (x.page + d) (unmapped_header (pages_made x.object) d)) i) e ∙ ap (λ h. head_page_under (header_of h) (x.page + d)) here
-          ∙ part_head x.object d x.page (header_of (unmapped_header (pages_made x.object) d)) new ∙ sym (part_head x.object d x.page (shows_on s.pages (x.page + d)) old) ∙ ap (λ i. head_on s.pages i) (sym e)
+          ∙ part_head x.object d x.page (header_of (unmapped_header (pages_made x.object) d)) new ∙ sym (part_head x.object d x.page (shows_on s.pages (x.page + d)) old)
+          ∙ ap (λ i. head_on s.pages i) (sym e)
       | inr ne ↦ head_of_other s.pages (x.page + d) (unmapped_header (pages_made x.object) d) q ne
     ]
 
@@ -174,9 +180,11 @@ layout_page_unmapped s x d laid ix mode large ld =
       ],
     )
 
-    own_later : (q e : ℕ) (m : Bool) → q ≡ x.page + d → shows_on (with_header_on s.pages (x.page + d) (unmapped_header (pages_made x.object) d)) q ≡ Some (Later e m) → HasItsHead (with_header_on s.pages (x.page + d) (unmapped_header (pages_made x.object) d)) s.releasing q e
+    own_later : (q e : ℕ) (m : Bool) → q ≡ x.page + d → shows_on (with_header_on s.pages (x.page + d) (unmapped_header (pages_made x.object) d)) q ≡ Some (Later e m)
+        → HasItsHead (with_header_on s.pages (x.page + d) (unmapped_header (pages_made x.object) d)) s.releasing q e
     own_later q e m same is =
-        let at = shown_later x.object d e m (header_of (unmapped_header (pages_made x.object) d)) new (ap header_of (sym here) ∙ ap (λ i. shows_on (with_header_on s.pages (x.page + d) (unmapped_header (pages_made x.object) d)) i) (sym same) ∙ is) in
+        let at =
+        shown_later x.object d e m (header_of (unmapped_header (pages_made x.object) d)) new (ap header_of (sym here) ∙ ap (λ i. shows_on (with_header_on s.pages (x.page + d) (unmapped_header (pages_made x.object) d)) i) (sym same) ∙ is) in
         let was = later_part x.object d (shows_on s.pages (x.page + d)) old at.1 in
         kept q e m (laid.later q e was.0 (ap (λ i. shows_on s.pages i) same ∙ was.1 ∙ ap (λ i. Some (Later i was.0)) (sym at.0)))
 

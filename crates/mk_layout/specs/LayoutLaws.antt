@@ -1,5 +1,5 @@
 -- What stands on the pages stays laid out behind each event, and the quarantine with it.
-use Rattle.std.specs.Prelude.{◌≡◌, true, false, List, [], ◌∷◌, ⊤, slice_index, Some}
+use Rattle.std.specs.Prelude.{◌≡◌, true, List, [], ◌∷◌, ⊤, slice_index, Some}
 use Rattle.mk_geom.specs.declared.addresses.Cell.{Cell}
 use Rattle.mk_core.specs.declared.config.Config.{Config}
 use Rattle.mk_core.specs.declared.events.Seat.{Seat}

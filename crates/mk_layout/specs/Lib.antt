@@ -1,4 +1,5 @@
 pub mod LayoutLaws
 pub mod Quarantine
 pub mod Scene
+pub mod SettledPages
 pub mod Terrain

@@ -2,6 +2,7 @@
 #![tactic(auto)]
 
 ghost use Rattle.mk_layout.specs.LayoutLaws.{EventsKeepTheLayout, HistoriesAreLaidOut};
+ghost use Rattle.mk_layout.specs.SettledPages.{FirstFitIsThePlace, HeadersStand, UnreleasedAreApart, UnreleasedStand};
 
 /// Whatever the event, what stands on the pages stays laid out, and the quarantine in order, where the other
 /// groups say what it asks.
@@ -12,4 +13,20 @@ pub fn events_keep_the_layout()
 /// So all is laid out behind every list of enabled events along which the other groups say so.
 pub fn histories_are_laid_out()
     ensures { HistoriesAreLaidOut }
+{}
+
+/// In a laid out world each unreleased allocation stands on the heap, in a cell of its own.
+pub fn unreleased_allocations_stand()
+    ensures stand { UnreleasedStand }
+    ensures apart { UnreleasedAreApart }
+{}
+
+/// While nothing is on its way, the headers and used bits are those of the unreleased storage.
+pub fn headers_stand()
+    ensures { HeadersStand }
+{}
+
+/// And first fit over the words finds the place among the allocations.
+pub fn first_fit_is_the_place()
+    ensures { FirstFitIsThePlace }
 {}
