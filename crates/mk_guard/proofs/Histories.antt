@@ -14,7 +14,7 @@ use Rattle.mk_core.proofs.Conditions.{enabled_meets}
 use Rattle.mk_core.proofs.Lengths.{histories_keep_lengths, zero_lengths, accessed_lengths}
 use Rattle.mk_protocol.proofs.Known.{Known, known_behind, known_at_first, known_left}
 use Rattle.mk_guard.specs.Guard.{MarksStand}
-use Rattle.mk_guard.specs.Kept.{OthersSay, OthersSayFrom, EventsKeepTheMarks, MarksStandBehindLists, CloseFindsMarksClosed, StoppedMarksAreClosed, MarkingGuards}
+use Rattle.mk_guard.specs.Kept.{OthersSayFrom, OthersSayAtFirst, EventsKeepTheMarks, MarksStandBehindLists, CloseFindsMarksClosed, StoppedMarksAreClosed, MarkingGuards}
 use Rattle.mk_guard.proofs.Closing.{closed}
 use Rattle.mk_guard.proofs.ClosedAllocations.{closed_allocations}
 use Rattle.mk_guard.proofs.OneEvent.{marks_behind}
@@ -50,8 +50,7 @@ stopped_marks_are_closed c w limits say g three = closed_allocations c w limits 
 pub marking_guards : MarkingGuards
 marking_guards c m g early = (g.guarded (elim early [ inl e ↦ inl (eqb-true (phase_of m.words) 1 e) | inr e ↦ inr (eqb-true (phase_of m.words) 2 e) ])).black
 
--- The premises aren't empty.
-pub others_at_first : (c : Config) → OthersSay c (first_world c)
+pub others_at_first : OthersSayAtFirst
 others_at_first c =
     record {
       place = λ early seat place now. absurd (not_early early);

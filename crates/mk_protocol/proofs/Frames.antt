@@ -74,12 +74,12 @@ still_holds c (Marker k) w v flight turn h = h
 still_holds c Host w v flight turn h = turn ∙ h
 
 -- what is left, by worlds
-record Left (c : Config) (s : Seat) (w v : World) : Type 0 where
-  own : OwnIsLeft c s w v
-  mapped : IsInCall w.now s → (p : ℕ) → is_unmapped_header (header_in w.now.words p) ≡ false → is_unmapped_header (header_in v.now.words p) ≡ false
-  turn : Holds c w.now s → TurnIsLeft w v
-  stop : HoldsAll c w.now s → written_of v ≡ written_of w
-  scan : Attends w.now s → OnlyGrow w.now.words.marks v.now.words.marks × OnlyGrow w.now.words.blacks v.now.words.blacks
+pub record Left (c : Config) (s : Seat) (w v : World) : Type 0 where
+  pub own : OwnIsLeft c s w v
+  pub mapped : IsInCall w.now s → (p : ℕ) → is_unmapped_header (header_in w.now.words p) ≡ false → is_unmapped_header (header_in v.now.words p) ≡ false
+  pub turn : Holds c w.now s → TurnIsLeft w v
+  pub stop : HoldsAll c w.now s → written_of v ≡ written_of w
+  pub scan : Attends w.now s → OnlyGrow w.now.words.marks v.now.words.marks × OnlyGrow w.now.words.blacks v.now.words.blacks
 
 own_after : (c : Config) (w : World) (seat s : Seat) (x : Step) → Known c w.now → Meets c w.now seat x → seat ≢ s → OwnIsLeft c s w (WorldBehind c w seat x)
 own_after c w seat s x known h ne =
@@ -136,7 +136,7 @@ scan_after c w seat (Caller k) x known h a = absurd a
 scan_after c w seat Host x known h a = absurd a
 
 -- one event of another seat
-left_after : (c : Config) (w : World) (seat s : Seat) (x : Step) → Known c w.now → Meets c w.now seat x → seat ≢ s → Left c s w (WorldBehind c w seat x)
+pub left_after : (c : Config) (w : World) (seat s : Seat) (x : Step) → Known c w.now → Meets c w.now seat x → seat ≢ s → Left c s w (WorldBehind c w seat x)
 left_after c w seat s x known h ne =
     record {
       own = own_after c w seat s x known h ne;
@@ -163,7 +163,7 @@ still_calls c (Caller k) w u l call = ap (λ (f : Flight). is_in_call f) l.fligh
 still_calls c (Marker k) w u l call = call
 still_calls c Host w u l call = call
 
-still_attends : (c : Config) (s : Seat) (w u : World) → OwnIsLeft c s w u → Attends w.now s → Attends u.now s
+pub still_attends : (c : Config) (s : Seat) (w u : World) → OwnIsLeft c s w u → Attends w.now s → Attends u.now s
 still_attends c (Marker k) w u l a = ap (λ (y : MarkerState). is_attending y.presence) l.marker ∙ a
 still_attends c (Caller k) w u l a = a
 still_attends c Host w u l a = a
@@ -204,7 +204,7 @@ same_seat (Caller k) = eq-eqb k k refl
 same_seat (Marker k) = eq-eqb k k refl
 same_seat Host = refl
 
-other_seat : (s seat : Seat) → is_one_of (s ∷ []) seat ≡ false → seat ≢ s
+pub other_seat : (s seat : Seat) → is_one_of (s ∷ []) seat ≡ false → seat ≢ s
 other_seat s seat h e =
     let f : true ≡ false = sym (ap (λ b. b || false) (same_seat s)) ∙ ap (λ (t : Seat). is_one_of (s ∷ []) t) (sym e) ∙ h in
     cc
