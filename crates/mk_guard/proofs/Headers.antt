@@ -116,5 +116,5 @@ head_keeps c m seat p n len h finds =
 
 -- no other kind makes cells
 pub no_new_cells : (c : Config) (m : Moment) (seat : Seat) (x : Step) → is_head x ≡ false → NewCellsAreGuarded c m (Behind c m seat x)
-no_new_cells c m seat x nh p k i none lt li =
-    let bad : k < 0 = subst (λ n. k < n) (ap (λ n. cells_under (header_of n)) (headers_kind c m seat x nh p) ∙ none) lt in absurd (omega arith)
+no_new_cells c m seat x no_head p k i none lt li =
+    let bad : k < 0 = subst (λ n. k < n) (ap (λ n. cells_under (header_of n)) (headers_kind c m seat x no_head p) ∙ none) lt in absurd (omega arith)

@@ -24,7 +24,7 @@ events_keep_the_marks c es e limits on enabled say g =
     marks_behind c (left c es) e.seat e.step limits (known_left c es limits on) (histories_keep_lengths c es) say (enabled_meets c (left c es).now e enabled) g
 
 -- nothing stands at first: the phase is 0
-marks_at_first : (c : Config) → MarksStand c (first_moment c)
+pub marks_at_first : (c : Config) → MarksStand c (first_moment c)
 marks_at_first c = record { guarded = λ early. absurd (elim early [ inl e ↦ omega arith | inr e ↦ omega arith ]); closed = λ three. absurd (omega arith) }
 
 marks_from : (c : Config) (w : World) (es : List Event) → IsWithinLimits c → AreOfPages c.pages w.now.words → Known c w.now → AreEnabledFrom c w es

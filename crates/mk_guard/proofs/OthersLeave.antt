@@ -71,8 +71,8 @@ attended c m (Marker k) known a = known.orderly.attends k a
 attended c m (Caller k) known a = absurd a
 attended c m Host known a = absurd a
 
-headers_from : (c : Config) (w : World) (s : Seat) (es : List Event) → IsWithinLimits c → Known c w.now → AreOfPages c.pages w.now.words → AreEnabledFrom c w es → AreOfOthers (s ∷ []) es
-    → OthersSayFrom c w es → Attends w.now s → HeadersAreLeft c w (left_from c w es)
+headers_from : (c : Config) (w : World) (s : Seat) (es : List Event) → IsWithinLimits c → Known c w.now → AreOfPages c.pages w.now.words → AreEnabledFrom c w es
+    → AreOfOthers (s ∷ []) es → OthersSayFrom c w es → Attends w.now s → HeadersAreLeft c w (left_from c w es)
 unfolding left_from AreEnabledFrom AreOfOthers OthersSayFrom
 headers_from c w s [] limits known len on others say a = headers_same c w
 headers_from c w s (e ∷ es) limits known len on others say a =
