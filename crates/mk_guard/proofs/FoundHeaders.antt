@@ -29,7 +29,7 @@ use Rattle.mk_core.specs.Moments.{flight_of, is_phase}
 use Rattle.mk_core.specs.TurnConditions.{place_now, is_marked_first}
 use Rattle.mk_core.specs.History.{World}
 use Rattle.mk_core.proofs.Sizes.{small_cells, large_cells, small_pages, small_words, large_words, class_known, large_count}
-use Rattle.mk_core.proofs.ObjectHeaders.{made_shows, header_shows, part_head, part_cells, part_words, later_cells, same_cells, same_words, unmapped_is_unmapped}
+use Rattle.mk_core.proofs.ObjectHeaders.{made_shows, header_shows, part_head, part_not_free, part_cells, part_words, later_cells, same_cells, same_words, unmapped_is_unmapped}
 use Rattle.mk_core.proofs.PlacesNow.{NewAtTurn, undecided_new, placed_now}
 use Rattle.mk_core.proofs.PointedPages.{lies_under, found_under}
 use Rattle.mk_core.proofs.ServingSteps.{Carves}
@@ -84,7 +84,8 @@ unmapped_goes pages before after distance o large b a unmapped =
 unmaps_find : (c : Config) (w : Words) (freed : Option RunPages) (p n : ℕ) → ((run : RunPages) → freed ≡ Some run → RunHasObject w run)
     → Unmaps w freed p n → HeadFinds c.pages w p n
 unmaps_find c w freed p n runs u =
-    Unmapped (unmapped_goes c.pages (header_at w p) n distance o.object o.large before after unmapped)
+    Unmapped (part_not_free o.object distance n after)
+    (unmapped_goes c.pages (header_at w p) n distance o.object o.large before after unmapped)
     (λ v y on is. run_cell_at c.pages (header_at w p) v distance o.object before o.large ∙ sym (run_cell_at c.pages n v distance o.object after o.large) ∙ is)
     (λ none. same_cells o.object distance (header_of n) (header_in w p) after before ∙ none)
   where

@@ -32,7 +32,7 @@ pub data HeadFinds (pages : ℕ) (w : Words) (p header : ℕ) : Type 0 where
       → ((k i : ℕ) → k < cells_under (header_of header) → i < words_under (header_of header)
       → slice_index w.heap (64 * p + k * words_under (header_of header) + i) ≡ 0)
       → HeadFinds pages w p header
-  Unmapped : GoesOn pages (header_at w p) header
+  Unmapped : header ≢ 0 → GoesOn pages (header_at w p) header
       → ((value : ℕ) (x : Cell) → page_at_address value ≡ p → cell_at pages header value ≡ Some x → cell_at pages (header_at w p) value ≡ Some x)
       → (cells_under (header_in w p) ≡ 0 → cells_under (header_of header) ≡ 0)
       → HeadFinds pages w p header
@@ -54,6 +54,7 @@ from_free pages n =
     }
 
 pub record HeadKeeps (c : Config) (m n : Moment) : Type 0 where
+  pub some : (p : ℕ) → header_at m.words p ≢ 0 → header_at n.words p ≢ 0
   pub wells : (value : ℕ) → IsWell c m.words value → IsWell c n.words value
   pub headers : (p : ℕ) → GoesOn c.pages (header_at m.words p) (header_at n.words p)
   pub new : NewCellsAreGuarded c m n
@@ -62,6 +63,10 @@ pub head_keeps : (c : Config) (m : Moment) (seat : Seat) (p n : ℕ) → AreOfPa
     → HeadFinds c.pages m.words p n → HeadKeeps c m (Behind c m seat (step.Head p n))
 head_keeps c m seat p n len h finds =
     record {
+      some = λ q not_free. elim (cases_eq q p) [
+        | inl e ↦ λ z. filled finds (subst (λ j. header_at m.words j ≢ 0) e not_free) (sym (here q e) ∙ z)
+        | inr ne ↦ λ z. not_free (sym (other q ne) ∙ z)
+      ];
       wells = λ v is y at. elim (cases_eq (page_at_address v) p) [
         | inl e ↦ well finds v e is y (subst (λ a. cell_at c.pages a v ≡ Some y) (here (page_at_address v) e) at)
         | inr ne ↦ is y (subst (λ a. cell_at c.pages a v ≡ Some y) (other (page_at_address v) ne) at)
@@ -87,14 +92,18 @@ head_keeps c m seat p n len h finds =
     other : (q : ℕ) → q ≢ p → header_at (Behind c m seat (step.Head p n)).words q ≡ header_at m.words q
     other q ne = ap (λ (y : Page). y.header) (get_or-set_other m.words.pages p q (record { header = n; used = used_at m.words p }) free_page ne)
 
+    filled : HeadFinds c.pages m.words p n → header_at m.words p ≢ 0 → n ≢ 0
+    filled (Carved free marked bare) not_free z = not_free free
+    filled (Unmapped some on back still) not_free z = some z
+
     goes : HeadFinds c.pages m.words p n → GoesOn c.pages (header_at m.words p) n
     goes (Carved free marked bare) = subst (λ a. GoesOn c.pages a n) (sym free) (from_free c.pages n)
-    goes (Unmapped on back still) = on
+    goes (Unmapped some on back still) = on
 
     well : HeadFinds c.pages m.words p n → (v : ℕ) → page_at_address v ≡ p → IsWell c m.words v → (y : Cell) → cell_at c.pages n v ≡ Some y
         → is_marked m.words y ≡ true
     well (Carved free marked bare) v e is y at = marked v y e at
-    well (Unmapped on back still) v e is y at = is y (subst (λ j. cell_at c.pages (header_at m.words j) v ≡ Some y) (sym e) (back v y e at))
+    well (Unmapped some on back still) v e is y at = is y (subst (λ j. cell_at c.pages (header_at m.words j) v ≡ Some y) (sym e) (back v y e at))
 
     made : HeadFinds c.pages m.words p n → (q k i : ℕ) → q ≡ p → cells_under (header_in m.words p) ≡ 0 → k < cells_under (header_of n)
         → i < words_under (header_of n)
@@ -103,9 +112,9 @@ head_keeps c m seat p n len h finds =
         let first : 64 * q + k * words_under (header_in (Behind c m seat (step.Head p n)).words q) + i ≡ 64 * p + k * words_under (header_of n) + i
         = ap (λ a. 64 * q + k * words_under (header_of a) + i) (here q e) ∙ ap (λ j. 64 * j + k * words_under (header_of n) + i) e in
         bare_guarded c (Behind c m seat (step.Head p n)) _ (ap (λ j. slice_index m.words.heap j) first ∙ bare k i lt li)
-    made (Unmapped on back still) q k i e none lt li = let z = still none in absurd (omega arith)
+    made (Unmapped some on back still) q k i e none lt li = let z = still none in absurd (omega arith)
 
 -- no other kind makes cells
 pub no_new_cells : (c : Config) (m : Moment) (seat : Seat) (x : Step) → is_head x ≡ false → NewCellsAreGuarded c m (Behind c m seat x)
-no_new_cells c m seat x nh p k i none lt li =
-    let bad : k < 0 = subst (λ n. k < n) (ap (λ n. cells_under (header_of n)) (headers_kind c m seat x nh p) ∙ none) lt in absurd (omega arith)
+no_new_cells c m seat x no_head p k i none lt li =
+    let bad : k < 0 = subst (λ n. k < n) (ap (λ n. cells_under (header_of n)) (headers_kind c m seat x no_head p) ∙ none) lt in absurd (omega arith)

@@ -14,7 +14,7 @@ use Rattle.mk_core.proofs.Conditions.{enabled_meets}
 use Rattle.mk_core.proofs.Lengths.{histories_keep_lengths, zero_lengths, accessed_lengths}
 use Rattle.mk_protocol.proofs.Known.{Known, known_behind, known_at_first, known_left}
 use Rattle.mk_guard.specs.Guard.{MarksStand}
-use Rattle.mk_guard.specs.Kept.{OthersSay, OthersSayFrom, EventsKeepTheMarks, MarksStandBehindLists, CloseFindsMarksClosed, StoppedMarksAreClosed, MarkingGuards}
+use Rattle.mk_guard.specs.Kept.{OthersSayFrom, OthersSayAtFirst, EventsKeepTheMarks, MarksStandBehindLists, CloseFindsMarksClosed, StoppedMarksAreClosed, MarkingGuards}
 use Rattle.mk_guard.proofs.Closing.{closed}
 use Rattle.mk_guard.proofs.ClosedAllocations.{closed_allocations}
 use Rattle.mk_guard.proofs.OneEvent.{marks_behind}
@@ -24,7 +24,7 @@ events_keep_the_marks c es e limits on enabled say g =
     marks_behind c (left c es) e.seat e.step limits (known_left c es limits on) (histories_keep_lengths c es) say (enabled_meets c (left c es).now e enabled) g
 
 -- nothing stands at first: the phase is 0
-marks_at_first : (c : Config) → MarksStand c (first_moment c)
+pub marks_at_first : (c : Config) → MarksStand c (first_moment c)
 marks_at_first c = record { guarded = λ early. absurd (elim early [ inl e ↦ omega arith | inr e ↦ omega arith ]); closed = λ three. absurd (omega arith) }
 
 marks_from : (c : Config) (w : World) (es : List Event) → IsWithinLimits c → AreOfPages c.pages w.now.words → Known c w.now → AreEnabledFrom c w es
@@ -50,8 +50,7 @@ stopped_marks_are_closed c w limits say g three = closed_allocations c w limits 
 pub marking_guards : MarkingGuards
 marking_guards c m g early = (g.guarded (elim early [ inl e ↦ inl (eqb-true (phase_of m.words) 1 e) | inr e ↦ inr (eqb-true (phase_of m.words) 2 e) ])).black
 
--- The premises aren't empty.
-pub others_at_first : (c : Config) → OthersSay c (first_world c)
+pub others_at_first : OthersSayAtFirst
 others_at_first c =
     record {
       place = λ early seat place now. absurd (not_early early);

@@ -9,6 +9,7 @@ pub mod Histories
 pub mod KeptGuard
 pub mod Markers
 pub mod OneEvent
+pub mod OthersLeave
 pub mod Phases
 pub mod Scans
 pub mod Stopped

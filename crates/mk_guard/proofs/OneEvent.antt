@@ -41,13 +41,13 @@ use Rattle.mk_guard.proofs.Stopped.{stays_closed, leaves_closed}
 keeps_of : (c : Config) (m : Moment) (seat : Seat) (x : Step) → Known c m → AreOfPages c.pages m.words → IsMarking m.words → Meets c m seat x
     → is_head x ≡ false → is_undirty x ≡ false
     → Keeps c m (Behind c m seat x)
-keeps_of c m seat x known len early h nh nu =
+keeps_of c m seat x known len early h no_head no_clean =
     record {
-      wells = wells_from c m.words (Behind c m seat x).words (headers_kind c m seat x nh) (marks_kind c m seat x early h);
+      wells = wells_from c m.words (Behind c m seat x).words (headers_kind c m seat x no_head) (marks_kind c m seat x early h);
       heap = heap_kind c m seat x known h;
-      dirty = dirty_kind c m seat x nu;
+      dirty = dirty_kind c m seat x no_clean;
       owed = owed_kind c m seat x len h;
-      headers = λ p. goes_equal c.pages (header_at m.words p) (header_at (Behind c m seat x).words p) (headers_kind c m seat x nh p);
+      headers = λ p. goes_equal c.pages (header_at m.words p) (header_at (Behind c m seat x).words p) (headers_kind c m seat x no_head p);
       marks = marks_kind c m seat x early h;
     }
 
@@ -83,9 +83,9 @@ black_behind c w seat x limits known len early say h g = rest x h refl refl refl
   where
     rest : (x : Step) → Meets c w.now seat x → is_head x ≡ false → is_undirty x ≡ false → is_blackening x ≡ false
         → BlackIsGuarded c (Behind c w.now seat x)
-    rest x h nh nu nb =
-        black_kept c w.now (Behind c w.now seat x) (keeps_of c w.now seat x known len early h nh nu) (no_new_cells c w.now seat x nh)
-        (λ p k is. inl (blacks_kind c w.now seat x nb p k is)) g.black
+    rest x h no_head no_clean no_black =
+        black_kept c w.now (Behind c w.now seat x) (keeps_of c w.now seat x known len early h no_head no_clean) (no_new_cells c w.now seat x no_head)
+        (λ p k is. inl (blacks_kind c w.now seat x no_black p k is)) g.black
 
 same_markers : (c : Config) (m : Moment) (seat : Seat) (q j : ℕ) → Meets c m seat (step.Undirty q)
     → marker_of (Behind c m seat (step.Undirty q)) j ≡ marker_of m j
@@ -106,7 +106,7 @@ markers_behind c w seat x limits known len early say h g j at = rest x h refl re
     rest : (x : Step) → Meets c w.now seat x → is_head x ≡ false → is_undirty x ≡ false
         → is_attending (marker_of (Behind c w.now seat x) j).presence ≡ true
         → MarkerStands c (Behind c w.now seat x) (marker_of (Behind c w.now seat x) j)
-    rest x h nh nu at = markers_stand c w.now seat x len h (keeps_of c w.now seat x known len early h nh nu) g.markers j at
+    rest x h no_head no_clean at = markers_stand c w.now seat x len h (keeps_of c w.now seat x known len early h no_head no_clean) g.markers j at
 
 guard_behind : (c : Config) (w : World) (seat : Seat) (x : Step) → IsWithinLimits c → Known c w.now → AreOfPages c.pages w.now.words
     → IsMarking w.now.words → OthersSay c w → Meets c w.now seat x → Guard c w.now → Guard c (Behind c w.now seat x)

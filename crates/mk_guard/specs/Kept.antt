@@ -62,6 +62,10 @@ unfoldable pub OthersSayFrom : Config → World → List Event → Type 0
 OthersSayFrom c w [] = ⊤
 OthersSayFrom c w (e ∷ es) = OthersSay c w × OthersSayFrom c (world_behind c w e) es
 
+-- Of the first world they do.
+abbrev pub OthersSayAtFirst : Type 0
+OthersSayAtFirst = (c : Config) → OthersSay c (first_world c)
+
 -- One event, whatever it is, keeps what stands while a cycle marks and stops.
 abbrev pub EventsKeepTheMarks : Type 0
 EventsKeepTheMarks =
