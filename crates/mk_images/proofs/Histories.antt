@@ -103,7 +103,8 @@ first_mirrors c =
       typed = start_is_typed c.globals c.types c.callers;
       twins = record { count = refl; ty = λ a lt. absurd (omega arith); freed = λ a lt. absurd (omega arith) };
       images = record {
-        registers = λ k. subst (λ (f : Flight). shown f (k % 8) (slice_index (replicate 128 0) k) ≡ image_of [] (slice_index_or (replicate (8 * c.callers) Null) k Null)) (sym (at_first c.callers (k / 8) at_rest))
+        registers = λ k. subst (λ (f : Flight). shown f (k % 8) (slice_index (replicate 128 0) k) ≡ image_of [] (slice_index_or (replicate (8 * c.callers) Null) k Null))
+            (sym (at_first c.callers (k / 8) at_rest))
             (at_first 128 k 0 ∙ sym (ap (image_of []) (at_first (8 * c.callers) k Null)));
         globals = λ g. at_first 64 g 0 ∙ sym (ap (image_of []) (at_first 64 g Null));
         heap = λ a i u m lt. absurd (omega arith);

@@ -68,7 +68,8 @@ pub stands_of : (c : Config) (w : World) → IsWithinLimits c → OthersSay c w 
 stands_of c w limits others =
     record {
       cell = λ a i u lt.
-          let h = others.laid_out a u in word_points c w.now.words (placed_at w.allocations a) limits h.stands h.headers ((placed_at w.allocations a).base + i) (omega arith, omega arith);
+          let h = others.laid_out a u in word_points c w.now.words (placed_at w.allocations a) limits h.stands h.headers ((placed_at w.allocations a).base + i)
+          (omega arith, omega arith);
       first = λ a u. let h = others.laid_out a u in (cells_begin c w.now.words (placed_at w.allocations a) limits h.stands h.headers).0;
       inside = λ a u. (others.laid_out a u).stands.within;
       apart = others.apart;
