@@ -158,7 +158,7 @@ module _ (c : Config) (w : World) (n : NeverState) (known : KnownWorld c w) (mir
     | inr e ↦
         let s : Shows w.now.words.turn (gate_in (view_of w.now) k) k InCall =
         subst (λ s. Shows w.now.words.turn (gate_in (view_of w.now) k) k s) in_call (known.now.orderly.each k lt) in
-        let g = others.gates e k lt s.1 in
+        let g = mirrors.alone e k lt s.1 in
         let one = s.0 in
         absurd (omega arith)
   ]

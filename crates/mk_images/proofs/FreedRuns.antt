@@ -79,19 +79,19 @@ use Rattle.mk_images.proofs.CallSorts.{literal}
 abbrev pub never_after : Config → World → NeverState → Event → NeverState
 never_after c w n e = after_calls n (asked (call_decided c w.now e))
 
-abbrev event_of : Seat → Step → Event
+abbrev pub event_of : Seat → Step → Event
 event_of seat x = record { seat = seat; step = x }
 
 -- the run that is freed behind a step
-abbrev freed_behind : Config → World → Seat → Flight → Step → Option RunPages
+abbrev pub freed_behind : Config → World → Seat → Flight → Step → Option RunPages
 freed_behind c w seat f x = (holding_behind c w.now seat f (found c w.now (event_of seat x)) x w.now.seats.holding).freed
 
-abbrev gives : Step → Bool
+abbrev pub gives : Step → Bool
 gives step.Give = true
 gives _ = false
 
 -- It was freed before, or is freed by this step.
-data WasFreed (c : Config) (w : World) (f : Flight) (run : RunPages) : Step → Type 0 where
+pub data WasFreed (c : Config) (w : World) (f : Flight) (run : RunPages) : Step → Type 0 where
   Before : {x : Step} → w.now.seats.holding.freed ≡ Some run → gives x ≡ false → WasFreed c w f run x
   Now : (p v : ℕ) → run_of_cell w.now.words (cell_freed c.pages w.now.words f p v) ≡ Some run → WasFreed c w f run (step.Quar p v)
 
@@ -103,7 +103,7 @@ else_freed : (x y : Option RunPages) (run : RunPages) → or_else x y ≡ Some r
 else_freed None y run e = inr e
 else_freed (Some r) y run e = inl e
 
-was_freed : (c : Config) (w : World) (seat : Seat) (f : Flight) (x : Step) (run : RunPages) → freed_behind c w seat f x ≡ Some run → WasFreed c w f run x
+pub was_freed : (c : Config) (w : World) (seat : Seat) (f : Flight) (x : Step) (run : RunPages) → freed_behind c w seat f x ≡ Some run → WasFreed c w f run x
 was_freed c w seat f (step.Take o) run e = Before (take_freed _ w.now.seats.holding run e) refl
 was_freed c w seat f step.Give run e = cc
 was_freed c w seat f (step.Quar p v) run e = elim (else_freed (run_of_cell w.now.words (cell_freed c.pages w.now.words f p v)) w.now.seats.holding.freed run e) [
@@ -182,7 +182,7 @@ page_in (Some r) = r.page
 page_in None = 0
 
 -- what heads a run
-headed : (h : Option Header) (page : ℕ) (run : RunPages) → run_headed h page ≡ Some run → (run.page ≡ page) × (heads_run h ≡ true)
+pub headed : (h : Option Header) (page : ℕ) (run : RunPages) → run_headed h page ≡ Some run → (run.page ≡ page) × (heads_run h ≡ true)
 headed (Some (Run count mapped)) page run e = (sym (ap page_in e), refl)
 headed (Some (LeafRun count)) page run e = (sym (ap page_in e), refl)
 headed None page run e = cc

@@ -1,6 +1,7 @@
 -- All histories: the answers are the images of the replies, and what is reached isn't released.
 use Rattle.std.proofs.Common.{◌≡◌, ℕ, ◌*◌, ◌/◌, ◌%◌, Bool, true, false, List, [], ◌∷◌, ◌++◌, replicate, refl, sym, ap, subst, ◌∙◌, append-nil, append_assoc, arith}
 use Rattle.std.specs.Prelude.{slice_index, slice_index_or}
+use Rattle.std.proofs.lemmas.Bool.{true≢false}
 use Rattle.std.proofs.lemmas.List.{map-append, length-replicate}
 use Rattle.mk_never.specs.declared.values.Value.{Value}
 use Rattle.mk_never.specs.declared.values.Value.TheVariants.{Null, Num, Ptr}
@@ -112,6 +113,7 @@ first_mirrors c =
         probed = λ j. subst (λ (f : Flight). ProbedOwn (never_first c) j f) (sym (at_first c.callers j at_rest)) (λ past. cc);
       };
       freed_run = λ run e. cc;
+      alone = λ e. absurd (true≢false e);
       safe = first_safe c;
     }
 

@@ -26,3 +26,4 @@ pub mod Bases
 pub mod Freeing
 pub mod FreedRuns
 pub mod Saying
+pub mod RunGates

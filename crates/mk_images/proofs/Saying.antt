@@ -161,7 +161,7 @@ module _ (c : Config) (w : World) (n : NeverState) (known : KnownWorld c w) (oth
   cas_word k (op.New d ty full) q p r l a car pro ad = cc
   cas_word k _ q p r l a car pro ad = cc
 
-  stored_word : (k : ℕ) (x : Step) → (x ≡ step.Write) ⊎ (x ≡ step.Cas) → MeetsAll c w.now (record { seat = Caller k; step = x })
+  pub stored_word : (k : ℕ) (x : Step) → (x ≡ step.Write) ⊎ (x ≡ step.Cas) → MeetsAll c w.now (record { seat = Caller k; step = x })
       → AreAdmitted c.globals n (asked (call_decided c w.now (record { seat = Caller k; step = x }))) → IsMappedWord c w (word_met (flight_of w.now (Caller k)))
   stored_word k step.Write is h ad =
       let f = flight_of w.now (Caller k) in

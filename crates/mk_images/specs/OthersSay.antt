@@ -10,9 +10,9 @@ use Rattle.mk_core.specs.declared.seats.Object.{Object}
 use Rattle.mk_core.specs.declared.seats.Placing.TheVariants.{Used}
 use Rattle.mk_core.specs.declared.seats.RunPages.{RunPages}
 use Rattle.mk_core.specs.Words.{Words, header_at, phase_of}
-use Rattle.mk_core.specs.Cells.{pointed_cell, is_freed, is_released, is_in_run}
+use Rattle.mk_core.specs.Cells.{pointed_cell, is_used, is_freed, is_released, is_in_run}
 use Rattle.mk_core.specs.Moments.{flight_of}
-use Rattle.mk_core.specs.NewPlaces.{object_made, pages_made, header_made, unmapped_header, base_made, place_stands, is_run_gone, is_undecided_new, is_small_object}
+use Rattle.mk_core.specs.NewPlaces.{object_made, pages_made, header_made, unmapped_header, base_made, place_stands, is_undecided_new, is_small_object}
 use Rattle.mk_core.specs.ObjectHeaders.{cells_made}
 use Rattle.mk_core.specs.Allocations.{PlacedAllocation, placed_at, is_mapped, storage_of, cell_of_allocation}
 use Rattle.mk_core.specs.StandingAllocations.{object_placed, StandsOnHeap, HasItsHeaders}
@@ -47,6 +47,7 @@ pub record IsFreedRun (c : Config) (w : World) (run : RunPages) : Type 0 where
   pub large : is_small_object (object_placed c (placed_at w.allocations number)) ≡ false
   pub freed : (placed_at w.allocations number).freed ≡ true
   pub is : run ≡ run_of_allocation c (placed_at w.allocations number)
+  pub used : is_used w.now.words (record { page = run.page; index = 0 }) ≡ true
 
 -- The cell is that of a freed allocation that isn't released.
 pub record IsCellOfFreed (c : Config) (w : World) (x : Cell) : Type 0 where
@@ -71,10 +72,8 @@ pub record OthersSay (c : Config) (w : World) : Type 0 where
   -- The cell that an undecided New has taken is nobody else's.
   pub taken : (place : Place) (k : ℕ) → w.now.seats.holding.placing ≡ Used place → k < c.callers
       → is_undecided_new (flight_of w.now (Caller k)) ≡ true → IsPlaceOfNone c w (object_made c (flight_of w.now (Caller k)).op) place
-  -- The run that a Free unmaps is a freed allocation's; up to its end the gates of the others are held.
+  -- The run that a Free unmaps is a freed allocation's.
   pub freed_run : (run : RunPages) → w.now.seats.holding.freed ≡ Some run → IsFreedRun c w run
-  pub gates : is_run_gone w.now.words w.now.seats.holding.freed ≡ false → (k : ℕ) → k < c.callers → w.now.words.turn ≢ 1 + k
-      → slice_index w.now.words.gates k ≡ 2
   -- A freed bit stands for a freed allocation, but in released cells, which are no unreleased allocation's.
   pub shown : (i : ℕ) → (placed_at w.allocations i).released ≡ false → (placed_at w.allocations i).freed ≡ true
       → is_freed w.now.words (cell_of_allocation c (placed_at w.allocations i)) ≡ true
