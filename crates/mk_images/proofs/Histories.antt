@@ -114,6 +114,7 @@ first_mirrors c =
       };
       freed_run = λ run e. cc;
       alone = λ e. absurd (true≢false e);
+      zero_words = λ m ne. absurd (ne (at_first (64 * c.pages) m 0));
       safe = first_safe c;
     }
 

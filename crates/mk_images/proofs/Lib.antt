@@ -27,3 +27,4 @@ pub mod Freeing
 pub mod FreedRuns
 pub mod Saying
 pub mod RunGates
+pub mod ZeroWords

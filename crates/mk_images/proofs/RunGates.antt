@@ -27,7 +27,7 @@ use Rattle.mk_core.specs.Bits.{has_bit}
 use Rattle.mk_core.specs.Bounded.{all_below}
 use Rattle.mk_core.specs.Words.{Words, header_at, used_at}
 use Rattle.mk_core.specs.Calls.{word_met}
-use Rattle.mk_core.specs.Cells.{header_in, head_page, is_unmapped_header, words_are_zero}
+use Rattle.mk_core.specs.Cells.{is_used, header_in, head_page, is_unmapped_header, words_are_zero}
 use Rattle.mk_core.specs.Decided.{asked}
 use Rattle.mk_core.specs.Moments.{Moment, flight_of, holder_number, others_are_held, is_phase}
 use Rattle.mk_core.specs.NewPlaces.{object_made, pages_made, stands, unmapped_header, target, is_run_unmapped, is_run_gone, is_undecided_new}
@@ -35,7 +35,7 @@ use Rattle.mk_core.specs.Order.{group_of, is_open_to}
 use Rattle.mk_core.specs.Ranges.{is_run_cell}
 use Rattle.mk_core.specs.TurnConditions.{place_now, carves, unmaps, empties, cell_freed}
 use Rattle.mk_core.specs.Accesses.{caller_number, register_met, reg_access}
-use Rattle.mk_core.specs.Allocations.{placed_at, is_mapped}
+use Rattle.mk_core.specs.Allocations.{placed_at, cell_of_allocation}
 use Rattle.mk_core.specs.StandingAllocations.{object_placed}
 use Rattle.mk_core.specs.Effects.{run_of_cell}
 use Rattle.mk_core.specs.History.{World, world_behind, call_decided}
@@ -44,7 +44,7 @@ use Rattle.mk_core.proofs.PlacesNow.{freed_cell}
 use Rattle.mk_core.proofs.Sizes.{large_count}
 use Rattle.mk_core.proofs.ObjectHeaders.{part_head, unmapped_shows, unmapped_is_unmapped}
 use Rattle.mk_core.proofs.RegisterAccesses.{register_leaves, tally_leaves}
-use Rattle.mk_core.proofs.StandingAllocations.{typed_size}
+use Rattle.mk_core.proofs.StandingAllocations.{typed_size, run_cell}
 use Rattle.mk_protocol.proofs.Standings.{InCall}
 use Rattle.mk_protocol.proofs.Views.{view_of, HoldsTurn}
 use Rattle.mk_protocol.proofs.Orderly.{turn_of, shows_at}
@@ -91,7 +91,7 @@ gone_from w run h =
     (all_below_from run.count (stands w run.page (unmapped_header run.count)) (λ d lt. eq-eqb _ _ (h.headers d lt)))
     (all_below_from (64 * run.count) (λ j. slice_index w.heap (64 * run.page + j) == 0) (λ i lt. eq-eqb _ _ (h.words i lt)))
 
-bare_word : (k : ℕ) → has_bit 0 k ≡ false
+pub bare_word : (k : ℕ) → has_bit 0 k ≡ false
 bare_word k = ap (λ x. x == 1) (bit_at-zero k)
 
 -- who takes a step of the holder's holds the turn
@@ -118,7 +118,7 @@ module _ (c : Config) (w : World) (n : NeverState) (known : KnownWorld c w) (oth
   st = stands_of c w known.limits others
 
   -- the seat of a step that only the holder takes
-  holds : (seat : Seat) (x : Step) → Meets c w.now seat x → group_of x ≡ group.Turn → is_take x ≡ false → HoldsTurn c (view_of w.now) seat
+  pub holds : (seat : Seat) (x : Step) → Meets c w.now seat x → group_of x ≡ group.Turn → is_take x ≡ false → HoldsTurn c (view_of w.now) seat
   holds seat x h t not_take = holder_at c w.now seat x (actor_of c w.now seat x known.now.orderly h) t not_take
 
   -- A page of the run is the run's, and unmapped; no word of a mapped allocation lies there.
@@ -209,8 +209,12 @@ module _ (c : Config) (w : World) (n : NeverState) (known : KnownWorld c w) (oth
           (slice_index w.now.words.snapshot (head_page w.now.words p) == 0) k in
           let b = and_parts ((v == 0) && (used_at w.now.words (head_page w.now.words p) == 0)) (slice_index w.now.words.freed (head_page w.now.words p) == 0) a.0 in
           let unused = eqb-true (used_at w.now.words (head_page w.now.words p)) 0 (and_parts (v == 0) (used_at w.now.words (head_page w.now.words p) == 0) b.0).1 in
+          let x = placed_at w.allocations owner.number in
+          let laid = others.laid_out owner.number owner.unreleased in
+          let cell : cell_of_allocation c x ≡ record { page = run.page; index = 0 } =
+          run_cell c x (typed_size c x known.limits laid.stands.typed) owner.large ∙ ap (λ (r : RunPages). record { page = r.page; index = 0 }) (sym owner.is) in
           let head : head_page w.now.words p ≡ run.page = ap (head_page w.now.words) (sym at) ∙ page_head run e gone d lt in
-          false≢true (sym (bare_word 0) ∙ ap (λ x. has_bit x 0) (sym (ap (used_at w.now.words) (sym head) ∙ unused)) ∙ owner.used)
+          false≢true (sym (bare_word 0) ∙ ap (λ x. has_bit x 0) (sym (ap (used_at w.now.words) (sym head) ∙ unused)) ∙ ap (is_used w.now.words) (sym cell) ∙ laid.used)
 
       by : (b : Bool)
           → (if b then empties w.now.words p v else carves w.now.words (object_made c f.op) (place_now c w.now f) p v || unmaps w.now.words w.now.seats.holding.freed p v) ≡ true → ⊥
@@ -220,7 +224,7 @@ module _ (c : Config) (w : World) (n : NeverState) (known : KnownWorld c w) (oth
         | inr a ↦ unmapped a
       ]
 
-  stored_at : (seat : Seat) (x : Step) → (x ≡ step.Write) ⊎ (x ≡ step.Cas) → group_of x ≡ group.Callers → Meets c w.now seat x → AreAdmitted c.globals n (asked (call_decided c w.now (event_of seat x)))
+  pub stored_at : (seat : Seat) (x : Step) → (x ≡ step.Write) ⊎ (x ≡ step.Cas) → group_of x ≡ group.Callers → Meets c w.now seat x → AreAdmitted c.globals n (asked (call_decided c w.now (event_of seat x)))
       → IsMappedWord c w (word_met (flight_of w.now seat))
   stored_at (Caller k) x is g h ad = stored_word c w n known others mirrors k x is h ad
   stored_at (Marker k) x is g h ad = let e : false ≡ true = ap (is_open_to (Marker k)) (sym g) ∙ h.kind in cc

@@ -85,7 +85,7 @@ module _ (c : Config) (w : World) (n : NeverState) (known : KnownWorld c w) (oth
       value_cell (register_at n k p') p cell (own_sound k p') (own_safe k p') (car.p refl) (car.some_p refl) points
   free_target k _ _ q p r l cell undecided points car = absurd (false≢true undecided)
 
-  target_cell : (seat : Seat) (cell : Cell) → target c.pages w.now.words (flight_of w.now seat) ≡ Some cell → IsCellOfUnreleased c w cell
+  pub target_cell : (seat : Seat) (cell : Cell) → target c.pages w.now.words (flight_of w.now seat) ≡ Some cell → IsCellOfUnreleased c w cell
   target_cell (Caller k) cell e =
       let f = flight_of w.now (Caller k) in
       let is = target_is c.pages w.now.words f cell e in

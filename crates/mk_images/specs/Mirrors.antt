@@ -14,6 +14,7 @@ use Rattle.mk_core.specs.History.{World}
 use Rattle.mk_protocol.specs.Protocol.{is_decided_free}
 use Rattle.mk_images.specs.Images.{scene_of, AreImages, AreTwins}
 use Rattle.mk_images.specs.SafeSets.{HasSafeSet}
+use Rattle.mk_images.specs.ZeroWords.{MayHold}
 
 -- The register points into the allocation of the run.
 pub record PointsAtRun (w : World) (n : NeverState) (k r : ℕ) (run : RunPages) : Type 0 where
@@ -48,5 +49,7 @@ pub record Mirrors (c : Config) (w : World) (n : NeverState) : Type 0 where
   -- A call keeps the pointer to the run that it unmaps, and nobody else is in a call.
   pub freed_run : OwnsFreedRun w n
   pub alone : RunIsAlone c w
+  -- All words of the heap are 0 but those that may hold something.
+  pub zero_words : (m : ℕ) → slice_index w.now.words.heap m ≢ 0 → MayHold c w m
   -- What a program can get to isn't released.
   pub safe : HasSafeSet w.allocations n
