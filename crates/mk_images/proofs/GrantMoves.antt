@@ -29,7 +29,7 @@ use Rattle.mk_images.specs.OthersSay.{IsPlaceOfNone, OthersSay}
 use Rattle.mk_images.specs.ZeroWords.{MayHold, OfMapped, OfReleased, OfFreedRun}
 use Rattle.mk_images.proofs.KnownWorlds.{KnownWorld}
 use Rattle.mk_images.proofs.Kept.{exists_placed}
-use Rattle.mk_images.proofs.Stands.{is_gone, Stands}
+use Rattle.mk_images.proofs.Stands.{unreleased_of, is_gone, Stands}
 use Rattle.mk_images.proofs.Before.{words_fit, unmapped_is}
 
 -- the cell of a place, by the allocation that is granted there
@@ -72,10 +72,6 @@ module _ (c : Config) (w : World) (n : NeverState) (known : KnownWorld c w) (mir
           let cells : Some (cell_of_allocation c x) ≡ Some (cell_of_allocation c a) =
           sym (st.cell j (a.base + i - x.base) u (let high = is.1 in omega arith)) ∙ ap (λ y. pointed_cell c.pages w.now.words.pages (address_of y)) there ∙ fills.cell i lt in
           h.alone j u (sym (st.first j u) ∙ ap (first_in w.now.words) cells ∙ fills.first ∙ base)
-        where
-          unreleased_of : (r g : Bool) → (not r && not g) ≡ true → r ≡ false
-          unreleased_of false g e = refl
-          unreleased_of true g e = cc
       by (OfReleased cell r) = phase (eqb-true (phase_of w.now.words) 4 (and_parts (is_phase w.now.words 4) (is_left_unmarked w.now.words cell) r.released).0)
       by (OfFreedRun run e is) = no_run run e
 

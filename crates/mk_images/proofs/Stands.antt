@@ -1,5 +1,5 @@
 -- What stands where, as lookups show it.
-use Rattle.std.proofs.Common.{◌≡◌, ◌≢◌, ℕ, ◌+◌, ◌*◌, ◌/◌, ◌<◌, ◌≤◌, Bool, true, false, List, sym, ap, subst, ◌∙◌, inl, inr, arith}
+use Rattle.std.proofs.Common.{refl, ◌≡◌, ◌≢◌, ℕ, ◌+◌, ◌*◌, ◌/◌, ◌<◌, ◌≤◌, Bool, true, false, List, sym, ap, subst, ◌∙◌, inl, inr, arith}
 use Rattle.std.specs.Prelude.{◌&&◌, ◌==◌, not, Option, Some, None}
 use Rattle.std.proofs.lemmas.Bool.{cases_Bool, and_parts, and_from, eqb-true, eq-eqb, not-true, true≢false}
 use Rattle.mk_never.specs.Types.{kinds_of, is_large}
@@ -25,6 +25,17 @@ use Rattle.mk_images.specs.OthersSay.{run_of_allocation, IsLaidOut, OthersSay}
 -- A large allocation that was freed is unmapped.
 abbrev pub is_gone : Config → PlacedAllocation → Bool
 is_gone c a = a.freed && is_large (kinds_of c.types a.ty)
+
+-- what is mapped is unreleased, and not gone
+
+pub unreleased_of : (r g : Bool) → (not r && not g) ≡ true → r ≡ false
+unreleased_of false g e = refl
+unreleased_of true g e = cc
+
+pub kept_of : (r g : Bool) → (not r && not g) ≡ true → g ≡ false
+kept_of false false e = refl
+kept_of false true e = cc
+kept_of true g e = cc
 
 -- of the unreleased allocations
 pub record Stands (c : Config) (w : Words) (xs : List PlacedAllocation) : Type 0 where
