@@ -68,7 +68,8 @@ compares_values c w n k q i p r number place known others mirrors h is ad target
     let o = op.CasPtr q i p r in
     let lit : f ≡ flight stage.Cas o f.q f.p f.r f.loaded = ap (λ s. flight s f.op f.q f.p f.r f.loaded) st ∙ ap (λ (y : Op). flight stage.Cas y f.q f.p f.r f.loaded) is in
     let admitted : IsAdmitted c.globals n k o = subst (λ (y : Op). IsAdmitted c.globals n k y) is (admitted_call c.globals n k f.op _ (ap is_under_turn is) ad) in
-    let compared = cas_compares c.globals safe.0 (scene_of w) n k ready (there_is c w n known mirrors safe.0 ready k lt) (own_registers c w n known mirrors safe.0 ready k lt) q i p r f.q f.p f.r f.loaded x
+    let compared = cas_compares c.globals safe.0 (scene_of w) n k ready (there_is c w n known mirrors safe.0 ready k lt)
+    (own_registers c w n known mirrors safe.0 ready k lt) q i p r f.q f.p f.r f.loaded x
     (subst (λ (g : Flight). CarriesOwn (bases_of w.allocations) n k g) lit (ready.images.carried k)) (subst (λ (g : Flight). ProbedOwn n k g) lit (ready.images.probed k))
     (ap (λ (g : Flight). slice_index w.now.words.heap (word_met g)) lit) admitted in
     let word : word_at n compared.0.number compared.0.place ≡ word_at n number place = ap (word_of_target n) (sym compared.0.target ∙ target) in

@@ -79,19 +79,19 @@ use Rattle.mk_images.proofs.CallSorts.{literal}
 abbrev pub never_after : Config → World → NeverState → Event → NeverState
 never_after c w n e = after_calls n (asked (call_decided c w.now e))
 
-abbrev event_of : Seat → Step → Event
+abbrev pub event_of : Seat → Step → Event
 event_of seat x = record { seat = seat; step = x }
 
 -- the run that is freed behind a step
-abbrev freed_behind : Config → World → Seat → Flight → Step → Option RunPages
+abbrev pub freed_behind : Config → World → Seat → Flight → Step → Option RunPages
 freed_behind c w seat f x = (holding_behind c w.now seat f (found c w.now (event_of seat x)) x w.now.seats.holding).freed
 
-abbrev gives : Step → Bool
+abbrev pub gives : Step → Bool
 gives step.Give = true
 gives _ = false
 
 -- It was freed before, or is freed by this step.
-data WasFreed (c : Config) (w : World) (f : Flight) (run : RunPages) : Step → Type 0 where
+pub data WasFreed (c : Config) (w : World) (f : Flight) (run : RunPages) : Step → Type 0 where
   Before : {x : Step} → w.now.seats.holding.freed ≡ Some run → gives x ≡ false → WasFreed c w f run x
   Now : (p v : ℕ) → run_of_cell w.now.words (cell_freed c.pages w.now.words f p v) ≡ Some run → WasFreed c w f run (step.Quar p v)
 
@@ -103,7 +103,7 @@ else_freed : (x y : Option RunPages) (run : RunPages) → or_else x y ≡ Some r
 else_freed None y run e = inr e
 else_freed (Some r) y run e = inl e
 
-was_freed : (c : Config) (w : World) (seat : Seat) (f : Flight) (x : Step) (run : RunPages) → freed_behind c w seat f x ≡ Some run → WasFreed c w f run x
+pub was_freed : (c : Config) (w : World) (seat : Seat) (f : Flight) (x : Step) (run : RunPages) → freed_behind c w seat f x ≡ Some run → WasFreed c w f run x
 was_freed c w seat f (step.Take o) run e = Before (take_freed _ w.now.seats.holding run e) refl
 was_freed c w seat f step.Give run e = cc
 was_freed c w seat f (step.Quar p v) run e = elim (else_freed (run_of_cell w.now.words (cell_freed c.pages w.now.words f p v)) w.now.seats.holding.freed run e) [
@@ -182,7 +182,7 @@ page_in (Some r) = r.page
 page_in None = 0
 
 -- what heads a run
-headed : (h : Option Header) (page : ℕ) (run : RunPages) → run_headed h page ≡ Some run → (run.page ≡ page) × (heads_run h ≡ true)
+pub headed : (h : Option Header) (page : ℕ) (run : RunPages) → run_headed h page ≡ Some run → (run.page ≡ page) × (heads_run h ≡ true)
 headed (Some (Run count mapped)) page run e = (sym (ap page_in e), refl)
 headed (Some (LeafRun count)) page run e = (sym (ap page_in e), refl)
 headed None page run e = cc
@@ -275,7 +275,8 @@ module _ (c : Config) (w : World) (n : NeverState) (known : KnownWorld c w) (oth
       let f = flight_of w.now (Caller k) in
       let behind = flight_of (world_behind c w e).now (Caller k) in
       let under = decided_free_stands behind.stage behind.op free in
-      let was = was_under c (view_of w.now) (Caller k) (view_of (world_behind c w e).now) k (moves c w.now (Caller k) x (not_astray c w.now known.now.orderly) (actor_of c w.now (Caller k) x known.now.orderly h) h)
+      let was = was_under c (view_of w.now) (Caller k) (view_of (world_behind c w e).now) k
+      (moves c w.now (Caller k) x (not_astray c w.now known.now.orderly) (actor_of c w.now (Caller k) x known.now.orderly h) h)
       refl (turn_taken run old) under in
       let was_free = frees_run c w.now k run known.now.orderly (lt, was) old in
       let at_give = decided_free_gives f.stage f.op was_free in
@@ -297,7 +298,8 @@ module _ (c : Config) (w : World) (n : NeverState) (known : KnownWorld c w) (oth
       let same : flight_of (world_behind c w e).now (Caller k) ≡ flight_of w.now (Caller k) = get_or-set_other w.now.seats.flights j k _ at_rest (λ y. ne (sym y)) in
       subst (λ (y : Flight). PointsAtRun (world_behind c w e) (never_after c w n e) k (p_of y.op) run) (sym same)
       (points_on e k (p_of (flight_of w.now (Caller k)).op) run grows
-      (admitted_keep c.globals n k (asked (call_decided c w.now e)) ad (not_by j k (flight_of w.now (Caller j)).op (answer_decided c w.now e) ne) (p_of (flight_of w.now (Caller k)).op) (ready.small k).1)
+      (admitted_keep c.globals n k (asked (call_decided c w.now e)) ad (not_by j k (flight_of w.now (Caller j)).op (answer_decided c w.now e) ne)
+      (p_of (flight_of w.now (Caller k)).op) (ready.small k).1)
       (mirrors.freed_run run old k (subst (λ (y : Flight). is_decided_free y ≡ true) same free)))
 
   -- a run that is freed by this step
@@ -313,7 +315,8 @@ module _ (c : Config) (w : World) (n : NeverState) (known : KnownWorld c w) (oth
       let there : k < length w.now.seats.flights = (let l = known.now.orderly.flights in omega (arith, l)) in
       let same : (flight_of (world_behind c w ev).now (Caller k)).op ≡ f.op =
       ap (λ (y : Flight). y.op) (get_or-set_same w.now.seats.flights k _ at_rest there) ∙ ap (λ (y : Option Cell). (progress_freed f y).flight.op) e in
-      let never : never_after c w n ev ≡ after_calls n (asked (entry_of k f.op (Some answer.Done))) = ap (λ (y : Option Cell). after_calls n (asked (entry_of k f.op (progress_freed f y).answer))) e in
+      let never : never_after c w n ev ≡ after_calls n (asked (entry_of k f.op (Some answer.Done))) =
+      ap (λ (y : Option Cell). after_calls n (asked (entry_of k f.op (progress_freed f y).answer))) e in
       subst (λ (o : Op). PointsAtRun (world_behind c w ev) (never_after c w n ev) k (p_of o) run) (sym same)
       (points_on ev k (p_of f.op) run grows (ap (λ m. register_at m k (p_of f.op)) never ∙ new.1) new.0)
 
@@ -322,17 +325,20 @@ module _ (c : Config) (w : World) (n : NeverState) (known : KnownWorld c w) (oth
   other_new j k p v run ne h free =
       let f = flight_of w.now (Caller j) in
       let lj = ltb-true j c.callers h.seat in
-      let same : flight_of (world_behind c w (event_of (Caller j) (step.Quar p v))).now (Caller k) ≡ flight_of w.now (Caller k) = get_or-set_other w.now.seats.flights j k _ at_rest (λ y. ne (sym y)) in
+      let same : flight_of (world_behind c w (event_of (Caller j) (step.Quar p v))).now (Caller k) ≡ flight_of w.now (Caller k) =
+      get_or-set_other w.now.seats.flights j k _ at_rest (λ y. ne (sym y)) in
       let was : is_decided_free (flight_of w.now (Caller k)) ≡ true = subst (λ (y : Flight). is_decided_free y ≡ true) same free in
       let lk : k < c.callers = there k was in
-      let tj = turn_of c (view_of w.now) (Caller j) known.now.orderly (lj, turns_stand f.stage f.op (of_turn f.stage f.op (step.Quar p v) refl refl h.order) (not_astray c w.now known.now.orderly j lj)) in
+      let tj = turn_of c (view_of w.now) (Caller j) known.now.orderly
+      (lj, turns_stand f.stage f.op (of_turn f.stage f.op (step.Quar p v) refl refl h.order) (not_astray c w.now known.now.orderly j lj)) in
       let tk = turn_of c (view_of w.now) (Caller k) known.now.orderly (holds k lk was) in
       absurd (ne (omega arith))
     where
       there : (k : ℕ) → is_decided_free (flight_of w.now (Caller k)) ≡ true → k < c.callers
       there k free = elim (cases_lt k c.callers) [
         | inl lt ↦ lt
-        | inr le ↦ absurd (false≢true (ap (λ (y : Flight). is_decided_free y) (sym (get_or_past w.now.seats.flights k at_rest (let e = known.now.orderly.flights in omega (arith, e)))) ∙ free))
+        | inr le ↦ absurd (false≢true
+            (ap (λ (y : Flight). is_decided_free y) (sym (get_or_past w.now.seats.flights k at_rest (let e = known.now.orderly.flights in omega (arith, e)))) ∙ free))
       ]
 
   caller_owns : (j : ℕ) (x : Step) → Meets c w.now (Caller j) x → GrowsBehind (Caller j) x → AreAdmitted c.globals n (asked (call_decided c w.now (event_of (Caller j) x)))

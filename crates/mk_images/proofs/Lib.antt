@@ -26,3 +26,8 @@ pub mod Bases
 pub mod Freeing
 pub mod FreedRuns
 pub mod Saying
+pub mod GoneRuns
+pub mod RunGates
+pub mod MappedWords
+pub mod ReleasedWords
+pub mod ZeroWords

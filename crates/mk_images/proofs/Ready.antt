@@ -63,7 +63,8 @@ image_same listed safe s n h (Ptr a t o) (Ptr b u i) su sv fu fv e =
           let oi : o ≡ i = omega arith in
           let tu : t ≡ u = su.1 ∙ ap (λ x. (allocation_at n x).ty) ab ∙ sym sv.1 in
           cc
-      | inr ne ↦ absurd (h.apart a b o i (h.set.unreleased a fu) (h.set.unreleased b fv) (pointed_word listed safe s n h a t o su) (pointed_word listed safe s n h b u i sv) ne places)
+      | inr ne ↦ absurd (h.apart a b o i (h.set.unreleased a fu) (h.set.unreleased b fv) (pointed_word listed safe s n h a t o su)
+          (pointed_word listed safe s n h b u i sv) ne places)
     ]
 
 pub image_test : (listed : List ℕ) (safe : ℕ → Bool) (s : Scene) (n : NeverState) → Ready listed safe s n → (u v : Value) → IsSound n u → IsSound n v → IsSafe safe u

@@ -1,6 +1,7 @@
 pub mod Images
 pub mod SafeSets
 pub mod OthersSay
+pub mod ZeroWords
 pub mod Mirrors
 pub mod ImagesSay
 pub mod Laws
