@@ -1,5 +1,5 @@
 -- What the images need of the layout, of the quarantine and of the marks, in one world.
-use Rattle.std.specs.Prelude.{◌≡◌, ◌≢◌, ◌⊎◌, ℕ, ◌+◌, ◌/◌, ◌<◌, ◌≤◌, true, false, slice_index, Option, Some}
+use Rattle.std.specs.Prelude.{◌≡◌, ◌≢◌, ◌⊎◌, ℕ, ◌+◌, ◌/◌, ◌<◌, ◌≤◌, true, false, Option, Some}
 use Rattle.mk_geom.specs.declared.addresses.Cell.{Cell}
 use Rattle.mk_geom.specs.declared.pages.Place.{Place}
 use Rattle.mk_core.specs.declared.config.Config.{Config}
@@ -12,7 +12,7 @@ use Rattle.mk_core.specs.Cells.{is_used, is_freed, is_in_snapshot, is_released}
 use Rattle.mk_core.specs.Moments.{flight_of}
 use Rattle.mk_core.specs.NewPlaces.{object_made, pages_made, header_made, unmapped_header, base_made, place_stands, is_undecided_new, is_small_object}
 use Rattle.mk_core.specs.ObjectHeaders.{cells_made}
-use Rattle.mk_core.specs.Allocations.{PlacedAllocation, placed_at, is_mapped, storage_of, cell_of_allocation}
+use Rattle.mk_core.specs.Allocations.{PlacedAllocation, placed_at, is_mapped, cell_of_allocation}
 use Rattle.mk_core.specs.StandingAllocations.{object_placed, StandsOnHeap, HasItsHeaders}
 use Rattle.mk_core.specs.ClosedMarks.{MarksAreClosed}
 use Rattle.mk_core.specs.History.{World}
