@@ -22,6 +22,9 @@ pub mod Behind
 pub mod QuarantineSteps
 pub mod QuarantineChanges
 pub mod QuarantineByKind
+pub mod KnownCells
+pub mod OneCell
+pub mod Snapshots
 pub mod Histories
 pub mod Apart
 pub mod OnClaims
