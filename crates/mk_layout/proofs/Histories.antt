@@ -35,7 +35,7 @@ use Rattle.mk_layout.proofs.KnownCells.{cells_known_behind}
 use Rattle.mk_layout.proofs.QuarantineByKind.{quarantine_by_kind}
 use Rattle.mk_layout.proofs.QuarantineSteps.{none_released, unmarked}
 use Rattle.mk_layout.proofs.Readings.{none_set}
-use Rattle.mk_layout.proofs.Snapshots.{snapshot_behind}
+use Rattle.mk_layout.proofs.SnapshotKinds.{snapshot_behind}
 
 laid_at_first : (c : Config) → IsLaidOut c (first_world c)
 laid_at_first c =
@@ -71,7 +71,7 @@ quarantined_at_first c =
     zero_at : (p : ℕ) → slice_index (replicate c.pages 0) p ≡ 0
     zero_at p = at_first c.pages p 0
 
-in_order_at_first : (c : Config) → StandsInOrder c (first_world c)
+pub in_order_at_first : (c : Config) → StandsInOrder c (first_world c)
 in_order_at_first c =
     record {
       laid = laid_at_first c;
@@ -80,7 +80,7 @@ in_order_at_first c =
       snapshot = record { fresh = λ i f. absurd (true≢false (sym f)); quarantined = λ on. absurd (true≢false (sym on)) };
     }
 
-before : (c : Config) (w : World) → IsWithinLimits c → AreOfPages c.pages w.now.words → Known c w.now → OthersSay c w → IsQuarantined c w → Before c w
+pub before : (c : Config) (w : World) → IsWithinLimits c → AreOfPages c.pages w.now.words → Known c w.now → OthersSay c w → IsQuarantined c w → Before c w
 before c w limits lengths known others q =
     record {
       limits = limits;

@@ -24,8 +24,9 @@ pub mod QuarantineChanges
 pub mod QuarantineByKind
 pub mod KnownCells
 pub mod OneCell
-pub mod Snapshots
+pub mod SnapshotKinds
 pub mod Histories
+pub mod CycleSnapshots
 pub mod Apart
 pub mod OnClaims
 pub mod HeadersStand
