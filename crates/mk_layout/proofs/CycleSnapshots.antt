@@ -13,7 +13,7 @@ use Rattle.mk_core.specs.Cycles.{is_begin, is_quarantined}
 use Rattle.mk_core.specs.History.{AreEnabledFrom, World, first_world, left, left_from, world_behind}
 use Rattle.mk_core.specs.Layout.{AreOfPages}
 use Rattle.mk_core.specs.Moments.{flight_of}
-use Rattle.mk_core.specs.TurnConditions.{cell_freed, frees}
+use Rattle.mk_core.specs.TurnConditions.{cell_freed}
 use Rattle.mk_core.specs.declared.config.Config.{Config}
 use Rattle.mk_core.specs.declared.events.Event.{Event}
 use Rattle.mk_core.specs.declared.events.Seat.{Seat}
@@ -21,11 +21,9 @@ use Rattle.mk_core.specs.declared.events.Step.{Step}
 use Rattle.mk_core.specs.declared.events.Step.TheVariants as step
 use Rattle.mk_core.proofs.ChangedAllocations.{none_freed}
 use Rattle.mk_core.proofs.Conditions.{enabled_meets}
-use Rattle.mk_core.proofs.EvaluatedHistories.{enabled}
 use Rattle.mk_core.proofs.Histories.{left_append}
 use Rattle.mk_core.proofs.Lengths.{accessed_lengths, zero_lengths}
 use Rattle.mk_core.proofs.PlacesNow.{freed_cell}
-use Rattle.mk_core.proofs.Schedules.{by}
 use Rattle.mk_protocol.proofs.Actors.{Meets}
 use Rattle.mk_protocol.proofs.Known.{Known, known_at_first, known_behind}
 use Rattle.mk_protocol.proofs.OthersMoves.{WorldBehind}

@@ -10,7 +10,6 @@ use Rattle.mk_core.specs.declared.config.Config.{Config}
 use Rattle.mk_core.specs.declared.seats.Placing.{Placing}
 use Rattle.mk_core.specs.declared.seats.Placing.TheVariants.{Granted, Used}
 use Rattle.mk_core.specs.declared.seats.RunPages.{RunPages}
-use Rattle.mk_core.proofs.Schedules.{by}
 use Rattle.mk_core.proofs.StandingAllocations.{made_begins}
 use Rattle.mk_layout.specs.Scene.{Among, Claim, IsLaidOn, IsShown, NoPlot}
 use Rattle.mk_layout.specs.Terrain.{HasLayout, IsAtCell, RunStands, Terrain, claim_of, claims_of, is_unmapping, mode_of, place_claim, scene_of}

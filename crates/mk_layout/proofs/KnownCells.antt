@@ -23,7 +23,6 @@ use Rattle.mk_core.specs.declared.events.Step.TheVariants as step
 use Rattle.mk_core.specs.declared.seats.Flight.{Flight}
 use Rattle.mk_core.proofs.BitsWithout.{has_bit_without}
 use Rattle.mk_core.proofs.PageSteps.{Empties, HeadStep, ItCarves, ItDrops, ItEmpties, ItFrees, ItTakesSnapshot, ItUnmaps, QuarantineStep, head_step, quarantine_step}
-use Rattle.mk_core.proofs.Schedules.{by}
 use Rattle.mk_protocol.proofs.Actors.{Meets}
 use Rattle.mk_protocol.proofs.Ground.{reg_ground, tally_ground}
 use Rattle.mk_protocol.proofs.OthersMoves.{WorldBehind}

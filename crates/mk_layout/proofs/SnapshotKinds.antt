@@ -9,9 +9,8 @@ use Rattle.mk_core.specs.Allocations.{PlacedAllocation, cell_of_allocation, free
 use Rattle.mk_core.specs.Bits.{has_bit}
 use Rattle.mk_core.specs.Bounded.{all_below}
 use Rattle.mk_core.specs.Cells.{first_word}
-use Rattle.mk_core.specs.Effects.{taken}
 use Rattle.mk_core.specs.History.{World}
-use Rattle.mk_core.specs.Moments.{flight_of, is_phase, outside}
+use Rattle.mk_core.specs.Moments.{flight_of, is_phase}
 use Rattle.mk_core.specs.NewPlaces.{base_made, is_undecided_new, pages_made}
 use Rattle.mk_core.specs.StandingAllocations.{object_placed}
 use Rattle.mk_core.specs.StopConditions.{has_clean_page, may_begin}
@@ -30,13 +29,12 @@ use Rattle.mk_core.proofs.ChangedAllocations.{changed_at, freed_leaves, none_fre
 use Rattle.mk_core.proofs.GrantedAllocations.{granted_base_is, granted_object}
 use Rattle.mk_core.proofs.PageSteps.{Drops, ItDrops, ItFrees, ItTakesSnapshot, QuarantineStep, quarantine_step}
 use Rattle.mk_core.proofs.PlacesNow.{freed_cell}
-use Rattle.mk_core.proofs.Schedules.{by}
 use Rattle.mk_core.proofs.Sizes.{pages_some}
 use Rattle.mk_core.proofs.WordBits.{fewer_bits}
 use Rattle.mk_protocol.proofs.Actors.{Meets, grants_new}
 use Rattle.mk_protocol.proofs.Ground.{reg_ground, tally_ground}
 use Rattle.mk_protocol.proofs.OthersMoves.{WorldBehind}
-use Rattle.mk_protocol.proofs.Sorts.{reg_keeps, tally_keeps}
+use Rattle.mk_protocol.proofs.SameWords.{reg_keeps, tally_keeps}
 use Rattle.mk_layout.specs.Quarantine.{HasQuarantine, HasSnapshot, IsQuarantined, KeepsSnapshot, has_bit_of, is_cycling}
 use Rattle.mk_layout.specs.Scene.{Among, is_released_in}
 use Rattle.mk_layout.specs.Terrain.{IsLaidOut, Terrain, claims_of, claims_placed, object_now, place_claim, terrain_of}
