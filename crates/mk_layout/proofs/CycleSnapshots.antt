@@ -36,7 +36,7 @@ use Rattle.mk_layout.specs.Terrain.{IsLaidOut}
 use Rattle.mk_layout.proofs.Before.{Before}
 use Rattle.mk_layout.proofs.ByKind.{fresh_cells}
 use Rattle.mk_layout.proofs.Freed.{freeing_leaves}
-use Rattle.mk_layout.proofs.Histories.{before, in_order_at_first, order_behind}
+use Rattle.mk_layout.proofs.Histories.{in_order_at_first, known_before, order_behind}
 use Rattle.mk_layout.proofs.QuarantineByKind.{frees_here}
 use Rattle.mk_layout.proofs.QuarantineChanges.{FreesHere, before_change}
 use Rattle.mk_layout.proofs.Released.{releasing_leaves}
@@ -155,7 +155,7 @@ record Along (c : Config) (w : World) (es : List Event) : Type 0 where
 along_next : (c : Config) (w : World) (e : Event) (es : List Event) → Along c w (e ∷ es) → Before c w × Meets c w.now e.seat e.step × Along c (world_behind c w e) es
 unfolding AreEnabledFrom OthersSayFrom
 along_next c w e es a = (
-  before c w a.limits a.lengths a.known a.others.0 a.order.quarantined,
+  known_before c w a.limits a.lengths a.known a.others.0 a.order.quarantined,
   enabled_meets c w.now e a.enabled.0,
   record {
     limits = a.limits;

@@ -80,8 +80,8 @@ in_order_at_first c =
       snapshot = record { fresh = λ i f. absurd (true≢false (sym f)); quarantined = λ on. absurd (true≢false (sym on)) };
     }
 
-pub before : (c : Config) (w : World) → IsWithinLimits c → AreOfPages c.pages w.now.words → Known c w.now → OthersSay c w → IsQuarantined c w → Before c w
-before c w limits lengths known others q =
+pub known_before : (c : Config) (w : World) → IsWithinLimits c → AreOfPages c.pages w.now.words → Known c w.now → OthersSay c w → IsQuarantined c w → Before c w
+known_before c w limits lengths known others q =
     record {
       limits = limits;
       lengths = lengths;
@@ -107,7 +107,7 @@ pub order_behind : (c : Config) (w : World) (e : Event) → IsWithinLimits c →
     → StandsInOrder c w → StandsInOrder c (world_behind c w e)
 order_behind c w e limits lengths known on others all =
     let h = enabled_meets c w.now e on in
-    let b = before c w limits lengths known others all.quarantined in
+    let b = known_before c w limits lengths known others all.quarantined in
     let laid = layout_behind c w e.seat e.step b h all.laid in
     let quarantined = quarantine_behind c w e.seat e.step b h all.laid all.quarantined in
     record {

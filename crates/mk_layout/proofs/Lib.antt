@@ -25,6 +25,9 @@ pub mod QuarantineByKind
 pub mod KnownCells
 pub mod OneCell
 pub mod SnapshotKinds
+pub mod HeaderWords
+pub mod Counts
+pub mod Rooms
 pub mod Histories
 pub mod CycleSnapshots
 pub mod Apart

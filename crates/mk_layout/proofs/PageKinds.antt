@@ -35,7 +35,7 @@ use Rattle.mk_layout.proofs.PageSets.{with_header_on, with_used_on}
 use Rattle.mk_layout.proofs.Serving.{Laid, head_carves, head_empties, head_unmaps, used_gives_back, used_takes}
 
 -- `head`
-none_chosen : (placing : Placing) → chosen placing None ≡ placing
+pub none_chosen : (placing : Placing) → chosen placing None ≡ placing
 none_chosen Unplaced = refl
 none_chosen _ = refl
 

@@ -83,7 +83,7 @@ head_unmaps c o releasing w p n st h =
 
 -- The place is chosen, where its pages are free.
 chosen_free : (c : Config) (o : Object) (releasing : Bool) (w : World) (place : Place) → Laid c o releasing w (terrain_of w) → w.now.seats.holding.placing ≡ Unplaced → IsSized o
-    → FitsOnFreePages w.now.words.pages o place → Laid c o releasing w (record (terrain_of w) { placing = Chosen place })
+    → FitsOnFreePages c.resident w.now.words.pages o place → Laid c o releasing w (record (terrain_of w) { placing = Chosen place })
 chosen_free c o releasing w place st is sized fit =
     let was = placed_as c o releasing w (terrain_of w) Unplaced is st in
     record {

@@ -1,0 +1,328 @@
+-- No more pages are resident than may be, behind each event.
+use Rattle.std.proofs.Common.{Bool, List, ap, arith, false, inl, inr, length, refl, subst, sym, true, ℕ, ◌+◌, ◌-◌, ◌<◌, ◌∙◌, ◌≡◌, ◌≢◌, ◌≤◌}
+use Rattle.std.specs.Prelude.{None, Option, Some, if◌then◌else◌, nat_le, nat_lt, ◌==◌, ◌||◌}
+use Rattle.std.proofs.lemmas.Bool.{and_from, cases_Bool, cases_eq, cases_lt, le-leb, lt-ltb, or_cases, true≢false}
+use Rattle.std.proofs.lemmas.List.{get_or-set_other, get_or-set_same, set_past}
+use Rattle.mk_geom.specs.Headers.{header_of}
+use Rattle.mk_geom.specs.PageUses.{is_resident_page, resident_pages}
+use Rattle.mk_geom.specs.PageWords.{use_of_page, use_under, uses_of_pages}
+use Rattle.mk_geom.specs.StorageWords.{page_in}
+use Rattle.mk_geom.specs.Storages.{free_page}
+use Rattle.mk_geom.specs.declared.headers.Header.{Header}
+use Rattle.mk_geom.specs.declared.headers.Header.TheVariants.{Block, Free, Later, LeafBlock, LeafRun, Run}
+use Rattle.mk_geom.specs.declared.pages.Page.{Page}
+use Rattle.mk_geom.specs.declared.pages.Place.{Place}
+use Rattle.mk_core.specs.Accesses.{caller_number, found, reg_access, register_met}
+use Rattle.mk_core.specs.Cells.{is_unmapped_header}
+use Rattle.mk_core.specs.Effects.{chosen, taken}
+use Rattle.mk_core.specs.History.{World}
+use Rattle.mk_core.specs.Moments.{flight_of, is_phase, nothing_done}
+use Rattle.mk_core.specs.NewPlaces.{header_made, object_made, pages_made}
+use Rattle.mk_core.specs.ObjectHeaders.{IsSized}
+use Rattle.mk_core.specs.Order.{seat_exists}
+use Rattle.mk_core.specs.StopConditions.{marks_place}
+use Rattle.mk_core.specs.TurnConditions.{place_now}
+use Rattle.mk_core.specs.Words.{header_at}
+use Rattle.mk_core.specs.declared.config.Config.{Config}
+use Rattle.mk_core.specs.declared.events.Seat.{Seat}
+use Rattle.mk_core.specs.declared.events.Step.{Step}
+use Rattle.mk_core.specs.declared.events.Step.TheVariants as step
+use Rattle.mk_core.specs.declared.seats.Object.{Object}
+use Rattle.mk_core.specs.declared.seats.Placing.{Placing}
+use Rattle.mk_core.specs.declared.seats.Placing.TheVariants.{Chosen, Granted, Unplaced, Used}
+use Rattle.mk_core.specs.declared.seats.RunPages.{RunPages}
+use Rattle.mk_core.proofs.ObjectHeaders.{unmapped_is_unmapped}
+use Rattle.mk_core.proofs.PageSteps.{HeadStep, ItCarves, ItEmpties, ItUnmaps, head_step}
+use Rattle.mk_core.proofs.PlacesNow.{AsChosen, AsUsed, ByFit, IsPlaced, placed_now, undecided_new}
+use Rattle.mk_core.proofs.Schedules.{by}
+use Rattle.mk_core.proofs.ServingSteps.{IsNextHeader, marks_is}
+use Rattle.mk_core.proofs.Sizes.{large_count, small_pages}
+use Rattle.mk_protocol.specs.Protocol.{has_place}
+use Rattle.mk_protocol.proofs.Actors.{Meets}
+use Rattle.mk_protocol.proofs.Ground.{reg_ground, tally_ground}
+use Rattle.mk_protocol.proofs.OthersMoves.{WorldBehind}
+use Rattle.mk_layout.specs.Room.{HasRoom, count_below, in_plot, is_taken_page}
+use Rattle.mk_layout.specs.Scene.{Among, NoPlot, Plot, Plotted, header_on, shows_on, used_on}
+use Rattle.mk_layout.specs.Terrain.{IsClaimedRun, IsLaidOut, RunStands, claims_of, claims_placed, object_now, place_claim, plot_of, terrain_of}
+use Rattle.mk_layout.proofs.Before.{Before, page_within}
+use Rattle.mk_layout.proofs.Behind.{object_kind}
+use Rattle.mk_layout.proofs.Counts.{count_fewer, count_list, count_range}
+use Rattle.mk_layout.proofs.Fits.{FitsOnFreePages, fits}
+use Rattle.mk_layout.proofs.Holders.{first_header, holding_object, made_sized, new_has_turn, no_run}
+use Rattle.mk_layout.proofs.PageKinds.{none_chosen}
+use Rattle.mk_layout.proofs.PageSets.{with_header_on, with_used_on}
+use Rattle.mk_layout.proofs.Serving.{Laid, own_claim, placed_claim}
+use Rattle.mk_books.proofs.PlaceLemmas.{count_by-map}
+
+abbrev pub RoomOn : Config → Object → List Page → Placing → Type 0
+RoomOn c o pages placing = count_below c.pages (is_taken_page pages (plot_of o placing)) ≤ c.resident
+
+abbrev is_resident : List Page → ℕ → Bool
+is_resident pages p = is_resident_page (use_of_page (page_in pages p))
+
+-- as few pages are taken as before
+room_fewer : (c : Config) (o u : Object) (pages others : List Page) (placing other : Placing)
+    → ((q : ℕ) → q < c.pages → is_taken_page others (plot_of u other) q ≡ true → is_taken_page pages (plot_of o placing) q ≡ true)
+    → RoomOn c o pages placing → RoomOn c u others other
+room_fewer c o u pages others placing other fewer room =
+    let less = count_fewer c.pages (is_taken_page others (plot_of u other)) (is_taken_page pages (plot_of o placing)) fewer in
+    omega arith
+
+or_left : (a b : Bool) → a ≡ true → (a || b) ≡ true
+or_left a b h = ap (λ x. x || b) h
+
+or_right : (a b : Bool) → b ≡ true → (a || b) ≡ true
+or_right true b h = refl
+or_right false b h = h
+
+-- without a plot fewer are
+room_unplaced : (c : Config) (o u : Object) (pages others : List Page) (placing other : Placing) → plot_of u other ≡ NoPlot
+    → ((q : ℕ) → q < c.pages → is_resident others q ≡ true → is_resident pages q ≡ true) → RoomOn c o pages placing → RoomOn c u others other
+room_unplaced c o u pages others placing other none fewer room =
+    room_fewer c o u pages others placing other
+    (λ q lt t. or_left (is_resident pages q) (in_plot (plot_of o placing) q)
+    (elim (or_cases (is_resident others q) (in_plot (plot_of u other) q) t) [
+      | inl r ↦ fewer q lt r
+      | inr i ↦ absurd (true≢false (sym i ∙ ap (λ (x : Plot). in_plot x q) none))
+    ])) room
+
+-- with the same plot, where fewer pages are resident
+room_same : (c : Config) (o : Object) (pages others : List Page) (placing : Placing) → ((q : ℕ) → q < c.pages → is_resident others q ≡ true → is_taken_page pages (plot_of o placing) q ≡ true)
+    → RoomOn c o pages placing → RoomOn c o others placing
+room_same c o pages others placing fewer room =
+    room_fewer c o o pages others placing placing
+    (λ q lt t. elim (or_cases (is_resident others q) (in_plot (plot_of o placing) q) t) [
+      | inl r ↦ fewer q lt r
+      | inr i ↦ or_right (is_resident pages q) (in_plot (plot_of o placing) q) i
+    ]) room
+
+-- whether a page is resident is told by its header
+resident_use : (x : Option Header) (u v : ℕ) → is_resident_page (use_under x u) ≡ is_resident_page (use_under x v)
+resident_use None u v = refl
+resident_use (Some Free) u v = refl
+resident_use (Some (Block k)) u v = refl
+resident_use (Some (LeafBlock k)) u v = refl
+resident_use (Some (Run n m)) u v = refl
+resident_use (Some (LeafRun n)) u v = refl
+resident_use (Some (Later d m)) u v = refl
+
+unmapped_use : (x : Option Header) (u : ℕ) → is_unmapped_header x ≡ true → is_resident_page (use_under x u) ≡ false
+unmapped_use None u h = refl
+unmapped_use (Some Free) u h = refl
+unmapped_use (Some (Block k)) u h = cc
+unmapped_use (Some (LeafBlock k)) u h = cc
+unmapped_use (Some (Run n true)) u h = cc
+unmapped_use (Some (Run n false)) u h = refl
+unmapped_use (Some (LeafRun n)) u h = cc
+unmapped_use (Some (Later d true)) u h = cc
+unmapped_use (Some (Later d false)) u h = refl
+
+resident_used : (pages : List Page) (p n q : ℕ) → is_resident (with_used_on pages p n) q ≡ true → is_resident pages q ≡ true
+resident_used pages p n q h = elim (cases_eq q p) [
+  | inr ne ↦ ap (λ (x : Page). is_resident_page (use_of_page x)) (sym (get_or-set_other pages p q (record { header = header_on pages p; used = n }) free_page ne)) ∙ h
+  | inl e ↦ elim (cases_lt p (length pages)) [
+    | inl lt ↦
+        let page : page_in (with_used_on pages p n) q ≡ record { header = header_on pages p; used = n } =
+        ap (λ i. page_in (with_used_on pages p n) i) e ∙ get_or-set_same pages p (record { header = header_on pages p; used = n }) free_page lt in
+        ap (λ i. is_resident pages i) e ∙ resident_use (shows_on pages p) (used_on pages p) n ∙ ap (λ (x : Page). is_resident_page (use_of_page x)) (sym page) ∙ h
+    | inr past ↦ ap (λ (xs : List Page). is_resident xs q) (sym (set_past pages p (record { header = header_on pages p; used = n }) past)) ∙ h
+  ]
+]
+
+-- another page than the one whose header changes
+resident_other : (pages : List Page) (p n q : ℕ) → q ≢ p → is_resident (with_header_on pages p n) q ≡ true → is_resident pages q ≡ true
+resident_other pages p n q ne h = ap (λ (x : Page). is_resident_page (use_of_page x)) (sym (get_or-set_other pages p q (record { header = n; used = used_on pages p }) free_page ne)) ∙ h
+
+-- where the header that it gets isn't that of a resident page
+resident_gone : (pages : List Page) (p n q : ℕ) → p < length pages → is_resident_page (use_under (header_of n) (used_on pages p)) ≡ false
+    → is_resident (with_header_on pages p n) q ≡ true → is_resident pages q ≡ true
+resident_gone pages p n q lt out h = elim (cases_eq q p) [
+  | inr ne ↦ resident_other pages p n q ne h
+  | inl e ↦
+      let page : page_in (with_header_on pages p n) q ≡ record { header = n; used = used_on pages p } =
+      ap (λ i. page_in (with_header_on pages p n) i) e ∙ get_or-set_same pages p (record { header = n; used = used_on pages p }) free_page lt in
+      absurd (true≢false (sym h ∙ ap (λ (x : Page). is_resident_page (use_of_page x)) page ∙ out))
+]
+
+resident_count : (pages : List Page) → count_below (length pages) (is_resident pages) ≡ resident_pages (uses_of_pages pages)
+resident_count pages = count_list pages free_page (λ (x : Page). is_resident_page (use_of_page x)) ∙ sym (count_by-map is_resident_page use_of_page pages)
+
+-- The place is chosen, where so many pages are free.
+chosen_room : (c : Config) (o : Object) (pages : List Page) (place : Place) → length pages ≡ c.pages → FitsOnFreePages c.resident pages o place → RoomOn c o pages (Chosen place)
+chosen_room c o pages place len fit =
+    let range = count_range c.pages place.page (pages_made o) (is_resident pages) in
+    let count : count_below c.pages (is_resident pages) ≡ resident_pages (uses_of_pages pages) =
+    ap (λ n. count_below n (is_resident pages)) (sym len) ∙ resident_count pages in
+    let room = fit.room in
+    omega arith
+
+-- A page of the plot gets its header.
+carved_room : (c : Config) (o : Object) (w : World) (place : Place) (p n : ℕ) → IsNextHeader w.now.words place.page (pages_made o) (header_made o) p n
+    → RoomOn c o w.now.words.pages (Chosen place) → RoomOn c o (with_header_on w.now.words.pages p n) (Chosen place)
+carved_room c o w place p n next room =
+    room_same c o w.now.words.pages (with_header_on w.now.words.pages p n) (Chosen place)
+    (λ q lt r. elim (cases_eq q p) [
+      | inr ne ↦ or_left (is_resident w.now.words.pages q) (in_plot (Plotted place.page o) q) (resident_other w.now.words.pages p n q ne r)
+      | inl e ↦
+          let low = next.from in
+          let near = next.near in
+          or_right (is_resident w.now.words.pages q) (in_plot (Plotted place.page o) q)
+          (and_from (nat_le place.page q) (nat_lt q (place.page + pages_made o)) (le-leb place.page q (omega arith)) (lt-ltb q (place.page + pages_made o) (omega arith)))
+    ]) room
+
+head_room : (c : Config) (w : World) (seat : Seat) (p n : ℕ) → Before c w → seat_exists c seat ≡ true → p < length w.now.words.pages → IsLaidOut c w → HasRoom c w
+    → HeadStep c w.now (flight_of w.now seat) p n
+    → RoomOn c (object_now c w.now) (with_header_on w.now.words.pages p n)
+    (if is_phase w.now.words 4 then w.now.seats.holding.placing else chosen w.now.seats.holding.placing (place_now c w.now (flight_of w.now seat)))
+head_room c w seat p n b there lt laid room (ItCarves off x) =
+    let placed = placed_now c w.now (flight_of w.now seat) x.place x.there in
+    let own = holding_object c w.now seat b.known (new_has_turn c w.now seat there placed.new) in
+    let o : Object = object_made c (flight_of w.now seat).op in
+    let sized = made_sized c w.now seat b.limits b.known placed.new in
+    subst (λ four. RoomOn c (object_now c w.now) (with_header_on w.now.words.pages p n) (if four then w.now.seats.holding.placing else chosen w.now.seats.holding.placing (place_now c w.now (flight_of w.now seat)))) (sym off)
+    (subst (λ (y : Option Place). RoomOn c (object_now c w.now) (with_header_on w.now.words.pages p n) (chosen w.now.seats.holding.placing y)) (sym x.there)
+    (subst (λ (y : Object). RoomOn c y (with_header_on w.now.words.pages p n) (chosen w.now.seats.holding.placing (Some x.place))) (sym own)
+    (by o sized own w.now.seats.holding.placing refl placed.placed x.next)))
+  where
+    by : (o : Object) → IsSized o → object_now c w.now ≡ o → (placing : Placing) → w.now.seats.holding.placing ≡ placing → IsPlaced c.resident w.now.words.pages o x.place placing
+        → IsNextHeader w.now.words x.place.page (pages_made o) (header_made o) p n → RoomOn c o (with_header_on w.now.words.pages p n) (chosen placing (Some x.place))
+    by o sized own Unplaced is (ByFit at) next = elim (fits c.resident w.now.words.pages o x.place sized at) [
+      | inl fit ↦ carved_room c o w x.place p n next (chosen_room c o w.now.words.pages x.place b.lengths.pages fit)
+      | inr fit ↦
+          let one = small_pages o fit.small in
+          let near = next.near in
+          let low = next.from in
+          let d : p - x.place.page ≡ 0 = omega arith in
+          let here : p ≡ x.place.page = omega arith in
+          absurd (next.not_yet (ap (λ q. header_at w.now.words q) here ∙ fit.header ∙ ap (λ e. header_made o e) (sym d)))
+    ]
+    by o sized own (Chosen place) is AsChosen next =
+        carved_room c o w place p n next (subst (λ (y : Placing). RoomOn c o w.now.words.pages y) is (subst (λ (y : Object). RoomOn c y w.now.words.pages w.now.seats.holding.placing) own room))
+    by o sized own (Used place) is AsUsed next =
+        let st = subst (λ (y : Object). Laid c y (is_phase w.now.words 4) w (terrain_of w)) own laid in
+        let there : Among (place_claim o place) (claims_placed o w.now.seats.holding.placing) = subst (λ (y : Placing). Among (place_claim o place) (claims_placed o y)) (sym is) (inl refl) in
+        let shown = st.scene.shown (place_claim o place) (placed_claim c o (terrain_of w) (place_claim o place) there) in
+        let low = next.from in
+        let back : place.page + (p - place.page) ≡ p = omega arith in
+        absurd (next.not_yet (ap (λ q. header_at w.now.words q) (sym back) ∙ shown.headers (p - place.page) next.near))
+    by o sized own Granted is out next = elim out [ ]
+head_room c w seat p n b there lt laid room (ItUnmaps off x) =
+    subst (λ four. RoomOn c (object_now c w.now) (with_header_on w.now.words.pages p n) (if four then w.now.seats.holding.placing else chosen w.now.seats.holding.placing (place_now c w.now (flight_of w.now seat)))) (sym off)
+    (by (place_now c w.now (flight_of w.now seat)) refl)
+  where
+    out : is_resident_page (use_under (header_of n) (used_on w.now.words.pages p)) ≡ false
+    out =
+        let r : IsClaimedRun (claims_of c w.now.seats.holding.freed w.allocations) x.run =
+        subst (λ (y : Option RunPages). RunStands (claims_of c w.now.seats.holding.freed w.allocations) y) x.there laid.gone in
+        let sized = (laid.scene.shown r.claim (own_claim c (object_now c w.now) (terrain_of w) r.claim r.among)).sized in
+        let range = large_count r.claim.object sized r.large in
+        let low = range.0 in
+        let high = range.1 in
+        let count = r.count in
+        unmapped_use (header_of n) (used_on w.now.words.pages p)
+        (ap (λ v. is_unmapped_header (header_of v)) x.next.is ∙ unmapped_is_unmapped x.run.count (p - x.run.page) (omega arith, omega arith) x.next.near)
+
+    by : (place : Option Place) → place_now c w.now (flight_of w.now seat) ≡ place → RoomOn c (object_now c w.now) (with_header_on w.now.words.pages p n) (chosen w.now.seats.holding.placing place)
+    by (Some place) at =
+        let placed = placed_now c w.now (flight_of w.now seat) place at in
+        let turn = new_has_turn c w.now seat there placed.new in
+        absurd (no_run c w.now seat b.known turn (undecided_new (flight_of w.now seat) placed.new).stage x.run x.there)
+    by None at =
+        subst (λ (y : Placing). RoomOn c (object_now c w.now) (with_header_on w.now.words.pages p n) y) (sym (none_chosen w.now.seats.holding.placing))
+        (room_same c (object_now c w.now) w.now.words.pages (with_header_on w.now.words.pages p n) w.now.seats.holding.placing
+        (λ q lq r. or_left (is_resident w.now.words.pages q) (in_plot (plot_of (object_now c w.now) w.now.seats.holding.placing) q) (resident_gone w.now.words.pages p n q lt out r)) room)
+head_room c w seat p n b there lt laid room (ItEmpties on x) =
+    subst (λ four. RoomOn c (object_now c w.now) (with_header_on w.now.words.pages p n) (if four then w.now.seats.holding.placing else chosen w.now.seats.holding.placing (place_now c w.now (flight_of w.now seat)))) (sym on)
+    (room_same c (object_now c w.now) w.now.words.pages (with_header_on w.now.words.pages p n) w.now.seats.holding.placing
+    (λ q lq r. or_left (is_resident w.now.words.pages q) (in_plot (plot_of (object_now c w.now) w.now.seats.holding.placing) q)
+    (resident_gone w.now.words.pages p n q lt (ap (λ v. is_resident_page (use_under (header_of v) (used_on w.now.words.pages p))) x.is) r)) room)
+
+mark_room : (c : Config) (w : World) (seat : Seat) (p n : ℕ) → Before c w → seat_exists c seat ≡ true → HasRoom c w → (t : Bool)
+    → marks_place w.now.words (object_made c (flight_of w.now seat).op) (place_now c w.now (flight_of w.now seat)) p n ≡ t
+    → RoomOn c (object_now c w.now) w.now.words.pages (if t then chosen w.now.seats.holding.placing (place_now c w.now (flight_of w.now seat)) else w.now.seats.holding.placing)
+mark_room c w seat p n b there room false is = room
+mark_room c w seat p n b there room true is =
+    let x = marks_is w.now.words (object_made c (flight_of w.now seat).op) (place_now c w.now (flight_of w.now seat)) p n is in
+    let placed = placed_now c w.now (flight_of w.now seat) x.place x.there in
+    let own = holding_object c w.now seat b.known (new_has_turn c w.now seat there placed.new) in
+    let o : Object = object_made c (flight_of w.now seat).op in
+    let sized = made_sized c w.now seat b.limits b.known placed.new in
+    let free = ap (λ q. header_at w.now.words q) (sym x.marked.at) ∙ x.marked.free in
+    subst (λ (y : Option Place). RoomOn c (object_now c w.now) w.now.words.pages (chosen w.now.seats.holding.placing y)) (sym x.there)
+    (subst (λ (y : Object). RoomOn c y w.now.words.pages (chosen w.now.seats.holding.placing (Some x.place))) (sym own) (by o sized own x.place free w.now.seats.holding.placing refl placed.placed))
+  where
+    by : (o : Object) → IsSized o → object_now c w.now ≡ o → (place : Place) → header_at w.now.words place.page ≡ 0 → (placing : Placing) → w.now.seats.holding.placing ≡ placing
+        → IsPlaced c.resident w.now.words.pages o place placing → RoomOn c o w.now.words.pages (chosen placing (Some place))
+    by o sized own place free Unplaced is (ByFit at) = elim (fits c.resident w.now.words.pages o place sized at) [
+      | inl fit ↦ chosen_room c o w.now.words.pages place b.lengths.pages fit
+      | inr fit ↦ absurd (first_header o sized (sym fit.header ∙ free))
+    ]
+    by o sized own place free (Chosen found) is AsChosen = subst (λ (y : Placing). RoomOn c o w.now.words.pages y) is (subst (λ (y : Object). RoomOn c y w.now.words.pages w.now.seats.holding.placing) own room)
+    by o sized own place free (Used found) is AsUsed = subst (λ (y : Placing). RoomOn c o w.now.words.pages y) is (subst (λ (y : Object). RoomOn c y w.now.words.pages w.now.seats.holding.placing) own room)
+    by o sized own place free Granted is out = elim out [ ]
+
+used_room : (c : Config) (w : World) (p n : ℕ) (four : Bool) (found : Option Place) → HasRoom c w
+    → RoomOn c (object_now c w.now) (with_used_on w.now.words.pages p n) (if four then w.now.seats.holding.placing else taken w.now.seats.holding.placing found)
+used_room c w p n four found room = by four found
+  where
+    same : RoomOn c (object_now c w.now) (with_used_on w.now.words.pages p n) w.now.seats.holding.placing
+    same =
+        room_same c (object_now c w.now) w.now.words.pages (with_used_on w.now.words.pages p n) w.now.seats.holding.placing
+        (λ q lt r. or_left (is_resident w.now.words.pages q) (in_plot (plot_of (object_now c w.now) w.now.seats.holding.placing) q) (resident_used w.now.words.pages p n q r)) room
+
+    by : (four : Bool) (found : Option Place) → RoomOn c (object_now c w.now) (with_used_on w.now.words.pages p n) (if four then w.now.seats.holding.placing else taken w.now.seats.holding.placing found)
+    by true found = same
+    by false None = same
+    by false (Some place) =
+        room_unplaced c (object_now c w.now) (object_now c w.now) w.now.words.pages (with_used_on w.now.words.pages p n) w.now.seats.holding.placing (Used place) refl
+        (λ q lt r. resident_used w.now.words.pages p n q r) room
+
+-- each kind of event, whatever the seat
+room_by_kind : (c : Config) (w : World) (seat : Seat) (x : Step) → Before c w → Meets c w.now seat x → IsLaidOut c w → HasRoom c w
+    → RoomOn c (object_now c w.now) (WorldBehind c w seat x).now.words.pages (WorldBehind c w seat x).now.seats.holding.placing
+room_by_kind c w seat (step.Take o) b h laid room = by (w.now.words.turn == 0)
+  where
+    by : (t : Bool) → RoomOn c (object_now c w.now) w.now.words.pages (if t then nothing_done else w.now.seats.holding).placing
+    by true = room_unplaced c (object_now c w.now) (object_now c w.now) w.now.words.pages w.now.words.pages w.now.seats.holding.placing Unplaced refl (λ q lt r. r) room
+    by false = room
+room_by_kind c w seat step.Give b h laid room =
+    room_unplaced c (object_now c w.now) (object_now c w.now) w.now.words.pages w.now.words.pages w.now.seats.holding.placing Unplaced refl (λ q lt r. r) room
+room_by_kind c w seat step.Reg b h laid room =
+    subst (λ (ps : List Page). RoomOn c (object_now c w.now) ps w.now.seats.holding.placing)
+    (sym (reg_ground w.now.words (caller_number seat) (register_met (flight_of w.now seat) (flight_of w.now seat).stage) (reg_access (flight_of w.now seat) (flight_of w.now seat).stage)).pages) room
+room_by_kind c w seat (step.Tally n v) b h laid room =
+    subst (λ (ps : List Page). RoomOn c (object_now c w.now) ps w.now.seats.holding.placing) (sym (tally_ground w.now.words n v).pages) room
+room_by_kind c w seat (step.Head p n) b h laid room =
+    head_room c w seat p n b h.seat (page_within c w p b h.range) laid room (head_step c w.now (flight_of w.now seat) p n h.holder)
+room_by_kind c w seat (step.Used p n) b h laid room = used_room c w p n (is_phase w.now.words 4) (place_now c w.now (flight_of w.now seat)) room
+room_by_kind c w seat step.Grant b h laid room =
+    room_unplaced c (object_now c w.now) (object_now c w.now) w.now.words.pages w.now.words.pages w.now.seats.holding.placing Granted refl (λ q lt r. r) room
+room_by_kind c w seat (step.Mark p n) b h laid room =
+    mark_room c w seat p n b h.seat room (marks_place w.now.words (object_made c (flight_of w.now seat).op) (place_now c w.now (flight_of w.now seat)) p n) refl
+room_by_kind c w seat _ b h laid room = room
+
+no_plot : (o : Object) (placing : Placing) → has_place placing ≡ false → plot_of o placing ≡ NoPlot
+no_plot o Unplaced none = refl
+no_plot o Granted none = refl
+no_plot o (Chosen place) none = cc
+no_plot o (Used place) none = cc
+
+pub room_behind : (c : Config) (w : World) (seat : Seat) (x : Step) → Before c w → Meets c w.now seat x → IsLaidOut c w → HasRoom c w → HasRoom c (WorldBehind c w seat x)
+room_behind c w seat x b h laid room =
+    let v : World = WorldBehind c w seat x in
+    let kind = room_by_kind c w seat x b h laid room in
+    elim (cases_Bool (has_place v.now.seats.holding.placing)) [
+      | inl has ↦ subst (λ (o : Object). RoomOn c o v.now.words.pages v.now.seats.holding.placing) (sym (object_kind c w seat x b.known h has)) kind
+      | inr none ↦
+          room_unplaced c (object_now c w.now) (object_now c v.now) v.now.words.pages v.now.words.pages v.now.seats.holding.placing v.now.seats.holding.placing
+          (no_plot (object_now c v.now) v.now.seats.holding.placing none) (λ q lt r. r) kind
+    ]
+
+-- Fewer are resident than are taken.
+pub resident_few : (c : Config) (w : World) → length w.now.words.pages ≡ c.pages → HasRoom c w → resident_pages (uses_of_pages w.now.words.pages) ≤ c.resident
+resident_few c w len room =
+    let pages : List Page = w.now.words.pages in
+    let plot : Plot = plot_of (object_now c w.now) w.now.seats.holding.placing in
+    let less = count_fewer c.pages (is_resident pages) (is_taken_page pages plot) (λ q lt r. or_left (is_resident pages q) (in_plot plot q) r) in
+    let count : count_below c.pages (is_resident pages) ≡ resident_pages (uses_of_pages pages) = ap (λ n. count_below n (is_resident pages)) (sym len) ∙ resident_count pages in
+    omega arith
