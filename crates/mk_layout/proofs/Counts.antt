@@ -1,5 +1,5 @@
 -- Counts of the numbers below one that pass a test.
-use Rattle.std.proofs.Common.{Bool, List, arith, false, length, min, refl, suc, sym, true, zero, ℕ, ◌+◌, ◌-◌, ◌<◌, ◌∙◌, ◌∷◌, ◌≡◌, ◌≤◌}
+use Rattle.std.proofs.Common.{Bool, List, ap, arith, false, length, min, refl, suc, sym, true, zero, ℕ, ◌+◌, ◌-◌, ◌<◌, ◌∙◌, ◌∷◌, ◌≡◌, ◌≤◌}
 use Rattle.std.specs.Prelude.{cond, if◌then◌else◌, nat_le, nat_lt, slice_index_or, ◌&&◌, ◌||◌}
 use Rattle.std.proofs.lemmas.Bool.{leb-true, ltb-true, true≢false}
 use Rattle.std.proofs.lemmas.List.Recursion.{is_count_by}
@@ -20,6 +20,15 @@ count_fewer (suc n) test other fewer =
     by true true h = omega arith
     by false b h = omega arith
     by true false h = absurd (true≢false (sym (h refl)))
+
+-- where none passes
+pub count_none : (n : ℕ) (test : ℕ → Bool) → ((p : ℕ) → test p ≡ false) → count_below n test ≡ 0
+unfolding count_below
+count_none zero test none = refl
+count_none (suc n) test none =
+    let rest = count_none n test none in
+    let last : cond {A = ℕ} (test n) 1 0 ≡ 0 = ap (λ b. cond {A = ℕ} b 1 0) (none n) in
+    omega arith
 
 -- with the numbers of a range besides
 in_range : (n first size : ℕ) (test : ℕ → Bool)

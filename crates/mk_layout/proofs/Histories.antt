@@ -1,8 +1,10 @@
 -- All is in order behind every list of enabled events.
 use Rattle.std.proofs.Common.{Bool, List, [], ap, arith, false, refl, subst, sym, true, ℕ, ◌∙◌, ◌∷◌, ◌≡◌}
-use Rattle.std.specs.Prelude.{Some, replicate, slice_index, slice_index_or}
+use Rattle.std.specs.Prelude.{Some, replicate, slice_index, slice_index_or, ◌||◌}
 use Rattle.std.proofs.lemmas.Bool.{true≢false}
-use Rattle.mk_geom.specs.Headers.{header_of}
+use Rattle.mk_geom.specs.Headers.{IsHeaderWord, header_of}
+use Rattle.mk_geom.specs.PageUses.{is_resident_page}
+use Rattle.mk_geom.specs.PageWords.{use_of_page}
 use Rattle.mk_geom.specs.Storages.{free_page}
 use Rattle.mk_geom.specs.declared.headers.Header.TheVariants.{Later}
 use Rattle.mk_geom.specs.declared.pages.Page.{Page}
@@ -26,15 +28,20 @@ use Rattle.mk_protocol.proofs.Kept.{kept}
 use Rattle.mk_protocol.proofs.Known.{Known, known_at_first, known_behind, known_left}
 use Rattle.mk_protocol.proofs.OthersMoves.{WorldBehind}
 use Rattle.mk_protocol.proofs.Protocols.{at_first}
-use Rattle.mk_layout.specs.LayoutLaws.{EventsKeepTheLayout, HistoriesAreLaidOut, OthersSay, OthersSayFrom, StandsInOrder}
+use Rattle.mk_layout.specs.LayoutLaws.{EventsKeepTheLayout, FewPagesAreResident, HistoriesAreLaidOut, OthersSay, OthersSayFrom, PagesHaveHeaderWords, StandsInOrder}
 use Rattle.mk_layout.specs.Quarantine.{HasQuarantine, IsQuarantined}
+use Rattle.mk_layout.specs.Room.{is_taken_page}
+use Rattle.mk_layout.specs.Scene.{NoPlot}
 use Rattle.mk_layout.specs.Terrain.{IsLaidOut, object_now, terrain_of}
 use Rattle.mk_layout.proofs.Before.{Before, is_releasing_behind}
 use Rattle.mk_layout.proofs.Behind.{layout_behind, phase_kind, releasing_marks}
+use Rattle.mk_layout.proofs.Counts.{count_none}
+use Rattle.mk_layout.proofs.HeaderWords.{words_behind}
 use Rattle.mk_layout.proofs.KnownCells.{cells_known_behind}
 use Rattle.mk_layout.proofs.QuarantineByKind.{quarantine_by_kind}
 use Rattle.mk_layout.proofs.QuarantineSteps.{none_released, unmarked}
 use Rattle.mk_layout.proofs.Readings.{none_set}
+use Rattle.mk_layout.proofs.Rooms.{resident_few, room_behind}
 use Rattle.mk_layout.proofs.SnapshotKinds.{snapshot_behind}
 
 laid_at_first : (c : Config) → IsLaidOut c (first_world c)
@@ -78,7 +85,12 @@ in_order_at_first c =
       quarantined = quarantined_at_first c;
       known = λ p k h. absurd (none_set (slice_index (replicate c.pages 0) p) k (at_first c.pages p 0) h);
       snapshot = record { fresh = λ i f. absurd (true≢false (sym f)); quarantined = λ on. absurd (true≢false (sym on)) };
+      words = λ p. subst (λ (x : Page). IsHeaderWord x.header) (sym (at_first c.pages p free_page)) refl;
+      room = let none = count_none c.pages (is_taken_page (replicate c.pages free_page) NoPlot) (λ p. free p) in omega arith;
     }
+  where
+    free : (p : ℕ) → is_taken_page (replicate c.pages free_page) NoPlot p ≡ false
+    free p = ap (λ (x : Page). is_resident_page (use_of_page x) || false) (at_first c.pages p free_page)
 
 pub known_before : (c : Config) (w : World) → IsWithinLimits c → AreOfPages c.pages w.now.words → Known c w.now → OthersSay c w → IsQuarantined c w → Before c w
 known_before c w limits lengths known others q =
@@ -115,6 +127,8 @@ order_behind c w e limits lengths known on others all =
       quarantined = quarantined;
       known = cells_known_behind c w e.seat e.step b h all.known laid quarantined;
       snapshot = snapshot_behind c w e.seat e.step b h all.laid all.quarantined all.snapshot;
+      words = words_behind c w e.seat e.step b h all.laid all.words;
+      room = room_behind c w e.seat e.step b h all.laid all.room;
     }
 
 pub events_keep_the_layout : EventsKeepTheLayout
@@ -132,3 +146,10 @@ order_from c w (e ∷ es) limits lengths known on others both =
 pub histories_are_laid_out : HistoriesAreLaidOut
 histories_are_laid_out c es limits on others =
     order_from c (first_world c) es limits (zero_lengths c.pages) (known_at_first c limits) on others (in_order_at_first c)
+
+pub pages_have_header_words : PagesHaveHeaderWords
+pages_have_header_words c es limits on others = (histories_are_laid_out c es limits on others).words
+
+pub few_pages_are_resident : FewPagesAreResident
+few_pages_are_resident c es limits on others =
+    resident_few c (left c es) (histories_keep_lengths c es).pages (histories_are_laid_out c es limits on others).room

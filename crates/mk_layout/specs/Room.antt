@@ -2,18 +2,15 @@
 use Rattle.std.specs.Prelude.{ℕ, zero, suc, ◌+◌, ◌≤◌, Bool, false, ◌&&◌, ◌||◌, nat_le, nat_lt, List, if◌then◌else◌}
 use Rattle.mk_geom.specs.declared.pages.Page.{Page}
 use Rattle.mk_geom.specs.Headers.{IsHeaderWord}
-use Rattle.mk_geom.specs.PageUses.{is_resident_page, resident_pages}
-use Rattle.mk_geom.specs.PageWords.{use_of_page, uses_of_pages}
+use Rattle.mk_geom.specs.PageUses.{is_resident_page}
+use Rattle.mk_geom.specs.PageWords.{use_of_page}
 use Rattle.mk_geom.specs.StorageWords.{page_in}
 use Rattle.mk_core.specs.declared.config.Config.{Config}
-use Rattle.mk_core.specs.declared.events.Event.{Event}
-use Rattle.mk_core.specs.Config.{IsWithinLimits}
 use Rattle.mk_core.specs.Words.{header_at}
 use Rattle.mk_core.specs.NewPlaces.{pages_made}
-use Rattle.mk_core.specs.History.{World, first_world, left, AreEnabled}
+use Rattle.mk_core.specs.History.{World}
 use Rattle.mk_layout.specs.Scene.{Plot, NoPlot, Plotted}
 use Rattle.mk_layout.specs.Terrain.{plot_of, object_now}
-use Rattle.mk_layout.specs.LayoutLaws.{OthersSayFrom}
 
 -- how many numbers below n pass
 unfoldable pub count_below : ℕ → (ℕ → Bool) → ℕ
@@ -34,12 +31,3 @@ HasRoom c w = count_below c.pages (is_taken_page w.now.words.pages (plot_of (obj
 
 abbrev pub HasHeaderWords : World → Type 0
 HasHeaderWords w = (p : ℕ) → IsHeaderWord (header_at w.now.words p)
-
--- So each page has a header word, and at most so many pages are resident.
-abbrev pub PagesHaveHeaderWords : Type 0
-PagesHaveHeaderWords = (c : Config) (es : List Event) → IsWithinLimits c → AreEnabled c es → OthersSayFrom c (first_world c) es → HasHeaderWords (left c es)
-
-abbrev pub FewPagesAreResident : Type 0
-FewPagesAreResident =
-    (c : Config) (es : List Event) → IsWithinLimits c → AreEnabled c es → OthersSayFrom c (first_world c) es
-    → resident_pages (uses_of_pages (left c es).now.words.pages) ≤ c.resident
