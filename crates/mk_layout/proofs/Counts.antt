@@ -4,7 +4,6 @@ use Rattle.std.specs.Prelude.{cond, if◌then◌else◌, nat_le, nat_lt, slice_i
 use Rattle.std.proofs.lemmas.Bool.{leb-true, ltb-true, true≢false}
 use Rattle.std.proofs.lemmas.List.Recursion.{is_count_by}
 use Rattle.std.specs.List.{count_by}
-use Rattle.mk_core.proofs.Schedules.{by}
 use Rattle.mk_layout.specs.Room.{count_below}
 
 -- where fewer pass

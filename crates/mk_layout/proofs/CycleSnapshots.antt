@@ -13,7 +13,7 @@ use Rattle.mk_core.specs.Cycles.{is_begin, is_quarantined}
 use Rattle.mk_core.specs.History.{AreEnabledFrom, World, first_world, left, left_from, world_behind}
 use Rattle.mk_core.specs.Layout.{AreOfPages}
 use Rattle.mk_core.specs.Moments.{flight_of}
-use Rattle.mk_core.specs.TurnConditions.{cell_freed, frees}
+use Rattle.mk_core.specs.TurnConditions.{cell_freed}
 use Rattle.mk_core.specs.declared.config.Config.{Config}
 use Rattle.mk_core.specs.declared.events.Event.{Event}
 use Rattle.mk_core.specs.declared.events.Seat.{Seat}
@@ -21,11 +21,9 @@ use Rattle.mk_core.specs.declared.events.Step.{Step}
 use Rattle.mk_core.specs.declared.events.Step.TheVariants as step
 use Rattle.mk_core.proofs.ChangedAllocations.{none_freed}
 use Rattle.mk_core.proofs.Conditions.{enabled_meets}
-use Rattle.mk_core.proofs.EvaluatedHistories.{enabled}
 use Rattle.mk_core.proofs.Histories.{left_append}
 use Rattle.mk_core.proofs.Lengths.{accessed_lengths, zero_lengths}
 use Rattle.mk_core.proofs.PlacesNow.{freed_cell}
-use Rattle.mk_core.proofs.Schedules.{by}
 use Rattle.mk_protocol.proofs.Actors.{Meets}
 use Rattle.mk_protocol.proofs.Known.{Known, known_at_first, known_behind}
 use Rattle.mk_protocol.proofs.OthersMoves.{WorldBehind}
@@ -114,7 +112,8 @@ record Tells (xs : List PlacedAllocation) (w : World) : Type 0 where
   longer : length xs ≤ length w.allocations
   flags : (i : ℕ) → (placed_at w.allocations i).released ≡ false → is_freed_before (placed_at w.allocations i) ≡ is_quarantined (placed_at xs i)
 
-tells_behind : (c : Config) (xs : List PlacedAllocation) (w : World) (seat : Seat) (x : Step) → Before c w → Meets c w.now seat x → IsLaidOut c w → IsQuarantined c w → is_begin x ≡ false
+tells_behind : (c : Config) (xs : List PlacedAllocation) (w : World) (seat : Seat) (x : Step) → Before c w → Meets c w.now seat x → IsLaidOut c w → IsQuarantined c w
+    → is_begin x ≡ false
     → Tells xs w → Tells xs (WorldBehind c w seat x)
 tells_behind c xs w seat x b h laid q out t =
     record {
@@ -191,7 +190,8 @@ after : (c : Config) (w : World) (e : Event) (behind : List Event) → Along c w
 unfolding left_from
 after c w e behind a is none =
     let n = along_next c w e behind a in
-    let t : Tells w.allocations (world_behind c w e) = subst (λ (x : Step). Tells w.allocations (WorldBehind c w e.seat x)) (sym (begin_is e.step is)) (tells_at_begin c w e.seat) in
+    let t : Tells w.allocations (world_behind c w e) =
+    subst (λ (x : Step). Tells w.allocations (WorldBehind c w e.seat x)) (sym (begin_is e.step is)) (tells_at_begin c w e.seat) in
     tells_from c w.allocations (world_behind c w e) behind n.2 none t
 
 pub snapshots_are_of_cycles : SnapshotsAreOfCycles

@@ -1,5 +1,5 @@
 -- What the place that first fit finds says of the pages, in words.
-use Rattle.std.proofs.Common.{Bool, List, ap, arith, false, inl, inr, length, refl, subst, sym, true, zero, ℕ, ◌+◌, ◌<◌, ◌∙◌, ◌≡◌, ◌≤◌, ◌⊎◌}
+use Rattle.std.proofs.Common.{Bool, List, ap, arith, false, inl, inr, length, refl, subst, sym, true, ℕ, ◌+◌, ◌<◌, ◌∙◌, ◌≡◌, ◌≤◌, ◌⊎◌}
 use Rattle.std.specs.Prelude.{None, Option, Some, slice_index_or}
 use Rattle.std.proofs.lemmas.Bool.{cases_Bool, leb-false, leb-true}
 use Rattle.std.proofs.lemmas.Option.{get_or_from_slice_get, slice_get_within}
@@ -20,7 +20,6 @@ use Rattle.mk_core.specs.ObjectHeaders.{IsSized, cells_made}
 use Rattle.mk_core.specs.declared.seats.Object.{Object}
 use Rattle.mk_core.proofs.ObjectHeaders.{small_header}
 use Rattle.mk_core.proofs.Sizes.{class_for_small, large_pages, small_cells, small_pages}
-use Rattle.mk_core.proofs.SmallCycles.{small}
 use Rattle.mk_layout.specs.Scene.{header_on, shows_on, used_on}
 use Rattle.mk_books.proofs.UsedBitLemmas.{length-bits_of}
 

@@ -39,7 +39,8 @@ part_is o d x (OfLeafRun f s l) = refl
 part_is o d x (OfLater m f s) = refl
 
 -- the header that a `head` stores
-stored_word : (c : Config) (w : World) (seat : Seat) (p n : ℕ) → Before c w → seat_exists c seat ≡ true → IsLaidOut c w → HeadStep c w.now (flight_of w.now seat) p n → IsHeaderWord n
+stored_word : (c : Config) (w : World) (seat : Seat) (p n : ℕ) → Before c w → seat_exists c seat ≡ true → IsLaidOut c w → HeadStep c w.now (flight_of w.now seat) p n
+    → IsHeaderWord n
 stored_word c w seat p n b there laid (ItCarves off x) =
     let placed = placed_now c w.now (flight_of w.now seat) x.place x.there in
     let sized = made_sized c w.now seat b.limits b.known placed.new in
@@ -60,7 +61,8 @@ stored_word c w seat p n b there laid (ItEmpties on x) = subst (λ v. IsHeaderWo
 abbrev HaveWords : List Page → Type 0
 HaveWords pages = (p : ℕ) → IsHeaderWord (header_on pages p)
 
-pub words_behind : (c : Config) (w : World) (seat : Seat) (x : Step) → Before c w → Meets c w.now seat x → IsLaidOut c w → HasHeaderWords w → HasHeaderWords (WorldBehind c w seat x)
+pub words_behind : (c : Config) (w : World) (seat : Seat) (x : Step) → Before c w → Meets c w.now seat x → IsLaidOut c w → HasHeaderWords w
+    → HasHeaderWords (WorldBehind c w seat x)
 words_behind c w seat (step.Head p n) b h laid words = λ q. elim (cases_eq q p) [
   | inl e ↦
       subst (λ i. IsHeaderWord (header_on (with_header_on w.now.words.pages p n) i)) (sym e)

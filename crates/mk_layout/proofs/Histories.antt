@@ -10,7 +10,6 @@ use Rattle.mk_geom.specs.declared.headers.Header.TheVariants.{Later}
 use Rattle.mk_geom.specs.declared.pages.Page.{Page}
 use Rattle.mk_core.specs.Accesses.{access, reached}
 use Rattle.mk_core.specs.Config.{IsWithinLimits}
-use Rattle.mk_core.specs.Effects.{taken}
 use Rattle.mk_core.specs.Enabled.{IsEnabled}
 use Rattle.mk_core.specs.History.{AreEnabledFrom, World, first_world, left, left_from, world_behind}
 use Rattle.mk_core.specs.Layout.{AreOfPages}
@@ -22,9 +21,7 @@ use Rattle.mk_core.specs.declared.events.Step.{Step}
 use Rattle.mk_core.proofs.Conditions.{enabled_meets}
 use Rattle.mk_core.proofs.EvaluatedHistories.{enabled}
 use Rattle.mk_core.proofs.Lengths.{accessed_lengths, histories_keep_lengths, zero_lengths}
-use Rattle.mk_core.proofs.SmallCycles.{small}
 use Rattle.mk_protocol.proofs.Actors.{Meets}
-use Rattle.mk_protocol.proofs.Kept.{kept}
 use Rattle.mk_protocol.proofs.Known.{Known, known_at_first, known_behind, known_left}
 use Rattle.mk_protocol.proofs.OthersMoves.{WorldBehind}
 use Rattle.mk_protocol.proofs.Protocols.{at_first}
@@ -140,7 +137,8 @@ order_from : (c : Config) (w : World) (es : List Event) → IsWithinLimits c →
 unfolding left_from AreEnabledFrom OthersSayFrom
 order_from c w [] limits lengths known on others both = both
 order_from c w (e ∷ es) limits lengths known on others both =
-    order_from c (world_behind c w e) es limits (accessed_lengths c.pages w.now.words (reached c w.now e) (access c w.now e) lengths) (known_behind c w.now e known on.0) on.1 others.1
+    order_from c (world_behind c w e) es limits (accessed_lengths c.pages w.now.words (reached c w.now e) (access c w.now e) lengths)
+    (known_behind c w.now e known on.0) on.1 others.1
     (order_behind c w e limits lengths known on.0 others.0 both)
 
 pub histories_are_laid_out : HistoriesAreLaidOut

@@ -24,6 +24,7 @@ pub mod QuarantineChanges
 pub mod QuarantineByKind
 pub mod KnownCells
 pub mod OneCell
+pub mod Cycling
 pub mod SnapshotKinds
 pub mod HeaderWords
 pub mod Counts

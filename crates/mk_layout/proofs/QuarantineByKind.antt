@@ -14,7 +14,7 @@ use Rattle.mk_core.specs.Bits.{has_bit}
 use Rattle.mk_core.specs.Effects.{chosen, run_of_cell, taken}
 use Rattle.mk_core.specs.History.{World}
 use Rattle.mk_core.specs.Moments.{flight_of, is_phase, nothing_done}
-use Rattle.mk_core.specs.NewPlaces.{is_undecided_free, is_undecided_new, object_made, stands, target}
+use Rattle.mk_core.specs.NewPlaces.{is_undecided_free, is_undecided_new, object_made, target}
 use Rattle.mk_core.specs.StandingAllocations.{object_placed}
 use Rattle.mk_core.specs.StopConditions.{marks_place, may_end}
 use Rattle.mk_core.specs.TurnConditions.{cell_freed, frees, place_now}
@@ -32,8 +32,6 @@ use Rattle.mk_core.proofs.ChangedAllocations.{none_freed}
 use Rattle.mk_core.proofs.EvaluatedPlaces.{full}
 use Rattle.mk_core.proofs.PageSteps.{ItDrops, ItFrees, ItGivesBack, ItTakes, ItTakesSnapshot, QuarantineStep, UsedStep, quarantine_step, used_step}
 use Rattle.mk_core.proofs.PlacesNow.{FreesCell, chosen_used, freed_cell, undecided_free, undecided_new}
-use Rattle.mk_core.proofs.Schedules.{by}
-use Rattle.mk_core.proofs.SmallCycles.{small}
 use Rattle.mk_protocol.specs.Protocol.{has_place}
 use Rattle.mk_protocol.proofs.Actors.{Meets}
 use Rattle.mk_protocol.proofs.Ground.{KeepsGround, reg_ground, tally_ground}

@@ -34,7 +34,6 @@ use Rattle.mk_core.specs.declared.seats.RunPages.{RunPages}
 use Rattle.mk_core.proofs.ObjectHeaders.{unmapped_is_unmapped}
 use Rattle.mk_core.proofs.PageSteps.{HeadStep, ItCarves, ItEmpties, ItUnmaps, head_step}
 use Rattle.mk_core.proofs.PlacesNow.{AsChosen, AsUsed, ByFit, IsPlaced, placed_now, undecided_new}
-use Rattle.mk_core.proofs.Schedules.{by}
 use Rattle.mk_core.proofs.ServingSteps.{IsNextHeader, marks_is}
 use Rattle.mk_core.proofs.Sizes.{large_count, small_pages}
 use Rattle.mk_protocol.specs.Protocol.{has_place}
@@ -87,7 +86,8 @@ room_unplaced c o u pages others placing other none fewer room =
     ])) room
 
 -- with the same plot, where fewer pages are resident
-room_same : (c : Config) (o : Object) (pages others : List Page) (placing : Placing) → ((q : ℕ) → q < c.pages → is_resident others q ≡ true → is_taken_page pages (plot_of o placing) q ≡ true)
+room_same : (c : Config) (o : Object) (pages others : List Page) (placing : Placing)
+    → ((q : ℕ) → q < c.pages → is_resident others q ≡ true → is_taken_page pages (plot_of o placing) q ≡ true)
     → RoomOn c o pages placing → RoomOn c o others placing
 room_same c o pages others placing fewer room =
     room_fewer c o o pages others placing placing
@@ -131,7 +131,8 @@ resident_used pages p n q h = elim (cases_eq q p) [
 
 -- another page than the one whose header changes
 resident_other : (pages : List Page) (p n q : ℕ) → q ≢ p → is_resident (with_header_on pages p n) q ≡ true → is_resident pages q ≡ true
-resident_other pages p n q ne h = ap (λ (x : Page). is_resident_page (use_of_page x)) (sym (get_or-set_other pages p q (record { header = n; used = used_on pages p }) free_page ne)) ∙ h
+resident_other pages p n q ne h =
+    ap (λ (x : Page). is_resident_page (use_of_page x)) (sym (get_or-set_other pages p q (record { header = n; used = used_on pages p }) free_page ne)) ∙ h
 
 -- where the header that it gets isn't that of a resident page
 resident_gone : (pages : List Page) (p n q : ℕ) → p < length pages → is_resident_page (use_under (header_of n) (used_on pages p)) ≡ false
@@ -197,10 +198,12 @@ head_room c w seat p n b there lt laid room (ItCarves off x) =
           absurd (next.not_yet (ap (λ q. header_at w.now.words q) here ∙ fit.header ∙ ap (λ e. header_made o e) (sym d)))
     ]
     by o sized own (Chosen place) is AsChosen next =
-        carved_room c o w place p n next (subst (λ (y : Placing). RoomOn c o w.now.words.pages y) is (subst (λ (y : Object). RoomOn c y w.now.words.pages w.now.seats.holding.placing) own room))
+        carved_room c o w place p n next
+        (subst (λ (y : Placing). RoomOn c o w.now.words.pages y) is (subst (λ (y : Object). RoomOn c y w.now.words.pages w.now.seats.holding.placing) own room))
     by o sized own (Used place) is AsUsed next =
         let st = subst (λ (y : Object). Laid c y (is_phase w.now.words 4) w (terrain_of w)) own laid in
-        let there : Among (place_claim o place) (claims_placed o w.now.seats.holding.placing) = subst (λ (y : Placing). Among (place_claim o place) (claims_placed o y)) (sym is) (inl refl) in
+        let there : Among (place_claim o place) (claims_placed o w.now.seats.holding.placing) =
+        subst (λ (y : Placing). Among (place_claim o place) (claims_placed o y)) (sym is) (inl refl) in
         let shown = st.scene.shown (place_claim o place) (placed_claim c o (terrain_of w) (place_claim o place) there) in
         let low = next.from in
         let back : place.page + (p - place.page) ≡ p = omega arith in
@@ -222,7 +225,8 @@ head_room c w seat p n b there lt laid room (ItUnmaps off x) =
         unmapped_use (header_of n) (used_on w.now.words.pages p)
         (ap (λ v. is_unmapped_header (header_of v)) x.next.is ∙ unmapped_is_unmapped x.run.count (p - x.run.page) (omega arith, omega arith) x.next.near)
 
-    by : (place : Option Place) → place_now c w.now (flight_of w.now seat) ≡ place → RoomOn c (object_now c w.now) (with_header_on w.now.words.pages p n) (chosen w.now.seats.holding.placing place)
+    by : (place : Option Place) → place_now c w.now (flight_of w.now seat) ≡ place
+        → RoomOn c (object_now c w.now) (with_header_on w.now.words.pages p n) (chosen w.now.seats.holding.placing place)
     by (Some place) at =
         let placed = placed_now c w.now (flight_of w.now seat) place at in
         let turn = new_has_turn c w.now seat there placed.new in
@@ -257,8 +261,10 @@ mark_room c w seat p n b there room true is =
       | inl fit ↦ chosen_room c o w.now.words.pages place b.lengths.pages fit
       | inr fit ↦ absurd (first_header o sized (sym fit.header ∙ free))
     ]
-    by o sized own place free (Chosen found) is AsChosen = subst (λ (y : Placing). RoomOn c o w.now.words.pages y) is (subst (λ (y : Object). RoomOn c y w.now.words.pages w.now.seats.holding.placing) own room)
-    by o sized own place free (Used found) is AsUsed = subst (λ (y : Placing). RoomOn c o w.now.words.pages y) is (subst (λ (y : Object). RoomOn c y w.now.words.pages w.now.seats.holding.placing) own room)
+    by o sized own place free (Chosen found) is AsChosen =
+        subst (λ (y : Placing). RoomOn c o w.now.words.pages y) is (subst (λ (y : Object). RoomOn c y w.now.words.pages w.now.seats.holding.placing) own room)
+    by o sized own place free (Used found) is AsUsed =
+        subst (λ (y : Placing). RoomOn c o w.now.words.pages y) is (subst (λ (y : Object). RoomOn c y w.now.words.pages w.now.seats.holding.placing) own room)
     by o sized own place free Granted is out = elim out [ ]
 
 used_room : (c : Config) (w : World) (p n : ℕ) (four : Bool) (found : Option Place) → HasRoom c w
@@ -270,7 +276,8 @@ used_room c w p n four found room = by four found
         room_same c (object_now c w.now) w.now.words.pages (with_used_on w.now.words.pages p n) w.now.seats.holding.placing
         (λ q lt r. or_left (is_resident w.now.words.pages q) (in_plot (plot_of (object_now c w.now) w.now.seats.holding.placing) q) (resident_used w.now.words.pages p n q r)) room
 
-    by : (four : Bool) (found : Option Place) → RoomOn c (object_now c w.now) (with_used_on w.now.words.pages p n) (if four then w.now.seats.holding.placing else taken w.now.seats.holding.placing found)
+    by : (four : Bool) (found : Option Place)
+        → RoomOn c (object_now c w.now) (with_used_on w.now.words.pages p n) (if four then w.now.seats.holding.placing else taken w.now.seats.holding.placing found)
     by true found = same
     by false None = same
     by false (Some place) =

@@ -1,5 +1,5 @@
 -- What is fresh and what is in the snapshot, behind each kind of event.
-use Rattle.std.proofs.Common.{Bool, List, [], ap, arith, false, inl, inr, length, map, refl, subst, sym, true, ℕ, ◌%◌, ◌++◌, ◌+◌, ◌-◌, ◌/◌, ◌<◌, ◌^◌, ◌∙◌, ◌∷◌, ◌≡◌, ◌≤◌, ◌⊎◌}
+use Rattle.std.proofs.Common.{Bool, List, [], ap, arith, false, inl, inr, length, map, refl, subst, sym, true, ℕ, ◌%◌, ◌++◌, ◌+◌, ◌/◌, ◌<◌, ◌^◌, ◌∙◌, ◌∷◌, ◌≡◌, ◌≤◌, ◌⊎◌}
 use Rattle.std.specs.Prelude.{None, Option, Some, if◌then◌else◌, not, slice_index, slice_set, ◌&&◌, ◌==◌}
 use Rattle.std.proofs.lemmas.Bool.{and_parts, cases_Bool, eqb-true, false_from_ne_true, ltb-true, not-true, true≢false}
 use Rattle.std.proofs.lemmas.List.{set-get_or}
@@ -9,9 +9,8 @@ use Rattle.mk_core.specs.Allocations.{PlacedAllocation, cell_of_allocation, free
 use Rattle.mk_core.specs.Bits.{has_bit}
 use Rattle.mk_core.specs.Bounded.{all_below}
 use Rattle.mk_core.specs.Cells.{first_word}
-use Rattle.mk_core.specs.Effects.{taken}
 use Rattle.mk_core.specs.History.{World}
-use Rattle.mk_core.specs.Moments.{flight_of, is_phase, outside}
+use Rattle.mk_core.specs.Moments.{flight_of, is_phase}
 use Rattle.mk_core.specs.NewPlaces.{base_made, is_undecided_new, pages_made}
 use Rattle.mk_core.specs.StandingAllocations.{object_placed}
 use Rattle.mk_core.specs.StopConditions.{has_clean_page, may_begin}
@@ -30,20 +29,18 @@ use Rattle.mk_core.proofs.ChangedAllocations.{changed_at, freed_leaves, none_fre
 use Rattle.mk_core.proofs.GrantedAllocations.{granted_base_is, granted_object}
 use Rattle.mk_core.proofs.PageSteps.{Drops, ItDrops, ItFrees, ItTakesSnapshot, QuarantineStep, quarantine_step}
 use Rattle.mk_core.proofs.PlacesNow.{freed_cell}
-use Rattle.mk_core.proofs.Schedules.{by}
 use Rattle.mk_core.proofs.Sizes.{pages_some}
 use Rattle.mk_core.proofs.WordBits.{fewer_bits}
 use Rattle.mk_protocol.proofs.Actors.{Meets, grants_new}
 use Rattle.mk_protocol.proofs.Ground.{reg_ground, tally_ground}
 use Rattle.mk_protocol.proofs.OthersMoves.{WorldBehind}
-use Rattle.mk_protocol.proofs.Sorts.{reg_keeps, tally_keeps}
 use Rattle.mk_layout.specs.Quarantine.{HasQuarantine, HasSnapshot, IsQuarantined, KeepsSnapshot, has_bit_of, is_cycling}
 use Rattle.mk_layout.specs.Scene.{Among, is_released_in}
 use Rattle.mk_layout.specs.Terrain.{IsLaidOut, Terrain, claims_of, claims_placed, object_now, place_claim, terrain_of}
 use Rattle.mk_layout.proofs.Before.{Before}
-use Rattle.mk_layout.proofs.Behind.{over_phase}
 use Rattle.mk_layout.proofs.ByKind.{fresh_cells, off_at}
 use Rattle.mk_layout.proofs.Claims.{LeavesCells}
+use Rattle.mk_layout.proofs.Cycling.{cycle_kind, is_cycling_behind}
 use Rattle.mk_layout.proofs.Freed.{freeing_leaves}
 use Rattle.mk_layout.proofs.Granted.{pushed_any, pushed_at}
 use Rattle.mk_layout.proofs.Holders.{holding_object, new_has_turn}
@@ -55,49 +52,6 @@ use Rattle.mk_layout.proofs.QuarantineSteps.{and_both, bit_cases}
 use Rattle.mk_layout.proofs.Released.{all_stand, left_is, releasing_leaves}
 use Rattle.mk_layout.proofs.Serving.{Laid, placed_claim}
 use Rattle.mk_layout.proofs.StandingClaims.{place_index}
-
--- whether the phase is one of a cycle's behind a step
-abbrev pub is_cycling_behind : Step → Bool → Bool
-is_cycling_behind step.Begin b = true
-is_cycling_behind step.End b = false
-is_cycling_behind _ b = b
-
-to_phase : (n m p q : ℕ) → n % 8 ≡ p → m % 8 ≡ q → is_cycling p ≡ is_cycling q → is_cycling (n % 8) ≡ is_cycling (m % 8)
-to_phase n m p q en em same = ap (λ k. is_cycling k) en ∙ same ∙ sym (ap (λ k. is_cycling k) em)
-
-pub cycle_kind : (c : Config) (w : World) (seat : Seat) (x : Step) → Meets c w.now seat x
-    → is_cycling (phase_of (WorldBehind c w seat x).now.words) ≡ is_cycling_behind x (is_cycling (phase_of w.now.words))
-cycle_kind c w seat step.Reg h =
-    ap (λ n. is_cycling (n % 8))
-    (reg_keeps w.now.words (caller_number seat) (register_met (flight_of w.now seat) (flight_of w.now seat).stage) (reg_access (flight_of w.now seat) (flight_of w.now seat).stage)).phase
-cycle_kind c w seat (step.Tally n v) h = ap (λ m. is_cycling (m % 8)) (tally_keeps w.now.words n v).phase
-cycle_kind c w seat step.Begin h =
-    let e = eqb-true (w.now.words.phase % 8) 0 h.phase in
-    let f : (w.now.words.phase + 1) % 2 ^ 64 % 8 ≡ 1 = omega arith in
-    ap (λ k. is_cycling k) f
-cycle_kind c w seat step.Want h =
-    let e = eqb-true (w.now.words.phase % 8) 1 h.phase in
-    to_phase ((w.now.words.phase + 1) % 2 ^ 64) w.now.words.phase 2 1 (omega arith) e refl
-cycle_kind c w seat step.Close h =
-    let e = eqb-true (w.now.words.phase % 8) 2 h.phase in
-    to_phase ((w.now.words.phase + 1) % 2 ^ 64) w.now.words.phase 3 2 (omega arith) e refl
-cycle_kind c w seat step.Release h =
-    let e = eqb-true (w.now.words.phase % 8) 3 h.phase in
-    to_phase ((w.now.words.phase + 1) % 2 ^ 64) w.now.words.phase 4 3 (omega arith) e refl
-cycle_kind c w seat step.End h =
-    let e = eqb-true (w.now.words.phase % 8) 4 h.phase in
-    let f : (w.now.words.phase + (2 ^ 64 - 4)) % 2 ^ 64 % 8 ≡ 0 = omega arith in
-    ap (λ k. is_cycling k) f
-cycle_kind c w seat step.Attend h =
-    let f : (w.now.words.phase + 8) % 2 ^ 64 % 8 ≡ w.now.words.phase % 8 = omega arith in
-    ap (λ k. is_cycling k) f
-cycle_kind c w seat step.Quit h =
-    let f : (w.now.words.phase + (2 ^ 64 - 8)) % 2 ^ 64 % 8 ≡ w.now.words.phase % 8 = omega arith in
-    ap (λ k. is_cycling k) f
-cycle_kind c w seat step.Over h =
-    let e = over_phase c w seat h in
-    to_phase ((w.now.words.phase + 5) % 2 ^ 64) w.now.words.phase 5 0 (omega arith) e refl
-cycle_kind c w seat _ h = refl
 
 -- the snapshot's bit of an allocation whose freed bit isn't set
 unset_in_snapshot : (c : Config) (releasing : Bool) (marks : List ℕ) (t : Terrain) (p k : ℕ) → HasQuarantine c releasing marks t → has_bit (slice_index t.freed p) k ≡ false
@@ -175,7 +129,8 @@ quar_frees c w cell n x q s =
     fresh_by true a u was f = (refl, u refl)
     fresh_by false a u was f = was f
 
-    fresh : (i : ℕ) (b : Bool) → stands_in w.now.words cell (placed_at w.allocations i) ≡ b → (placed_at (map (freed_where_it_stands w.now.words (Some cell)) w.allocations) i).fresh ≡ true
+    fresh : (i : ℕ) (b : Bool) → stands_in w.now.words cell (placed_at w.allocations i) ≡ b
+        → (placed_at (map (freed_where_it_stands w.now.words (Some cell)) w.allocations) i).fresh ≡ true
         → ((placed_at (map (freed_where_it_stands w.now.words (Some cell)) w.allocations) i).freed ≡ true)
         × ((placed_at (map (freed_where_it_stands w.now.words (Some cell)) w.allocations) i).released ≡ false)
     fresh i b is f =
@@ -185,7 +140,8 @@ quar_frees c w cell n x q s =
         (ap (λ (y : PlacedAllocation). y.fresh) (sym (at i)) ∙ f) in
         (ap (λ (y : PlacedAllocation). y.freed) (at i) ∙ r.0, ap (λ (y : PlacedAllocation). y.released) (at i) ∙ r.1)
 
-    bit : is_cycling (phase_of w.now.words) ≡ true → (i : ℕ) → (placed_at w.allocations i).released ≡ false → (b : Bool) → stands_in w.now.words cell (placed_at w.allocations i) ≡ b
+    bit : is_cycling (phase_of w.now.words) ≡ true → (i : ℕ) → (placed_at w.allocations i).released ≡ false → (b : Bool)
+        → stands_in w.now.words cell (placed_at w.allocations i) ≡ b
         → has_bit_of c w.now.words.snapshot (placed_at w.allocations i)
         ≡ ((freed_where_it_stands w.now.words (Some cell) (placed_at w.allocations i)).freed && not (freed_where_it_stands w.now.words (Some cell) (placed_at w.allocations i)).fresh)
     bit on i u true is =
@@ -209,7 +165,8 @@ quar_kind c w seat p n b h laid q s = by (cell_freed c.pages w.now.words (flight
     by : (cell : Option Cell) → cell_freed c.pages w.now.words (flight_of w.now seat) p n ≡ cell
         → HasSnapshot c (is_cycling (phase_of w.now.words)) (slice_set w.now.words.snapshot p (n / 2 ^ 32)) (map (freed_where_it_stands w.now.words cell) w.allocations)
     by None is =
-        subst (λ (xs : List PlacedAllocation). HasSnapshot c (is_cycling (phase_of w.now.words)) (slice_set w.now.words.snapshot p (n / 2 ^ 32)) xs) (sym (none_freed w.now.words w.allocations))
+        subst (λ (xs : List PlacedAllocation). HasSnapshot c (is_cycling (phase_of w.now.words)) (slice_set w.now.words.snapshot p (n / 2 ^ 32)) xs)
+        (sym (none_freed w.now.words w.allocations))
         (quar_none c w (flight_of w.now seat) p n ls is (quarantine_step c w.now (flight_of w.now seat) p n h.holder) q s)
     by (Some cell) is =
         let x = freed_cell c.pages w.now.words (flight_of w.now seat) p n cell is in
@@ -300,8 +257,10 @@ grant_kind c w seat b h laid q s =
         let made = granted_object c w.now f new in
         let own : object_now c w.now ≡ o = holding_object c w.now seat b.known (new_has_turn c w.now seat h.seat new) ∙ sym made in
         let base = granted_base_is c f w.now.seats.holding.placing place is ∙ ap (λ (y : Object). base_made y place) (sym made) in
-        let there : Among (place_claim o place) (claims_placed o w.now.seats.holding.placing) = subst (λ (x : Placing). Among (place_claim o place) (claims_placed o x)) (sym is) (inl refl) in
-        let shown = (subst (λ (y : Object). Laid c y (is_phase w.now.words 4) w (terrain_of w)) own laid).scene.shown (place_claim o place) (placed_claim c o (terrain_of w) (place_claim o place) there) in
+        let there : Among (place_claim o place) (claims_placed o w.now.seats.holding.placing) =
+        subst (λ (x : Placing). Among (place_claim o place) (claims_placed o x)) (sym is) (inl refl) in
+        let shown =
+        (subst (λ (y : Object). Laid c y (is_phase w.now.words 4) w (terrain_of w)) own laid).scene.shown (place_claim o place) (placed_claim c o (terrain_of w) (place_claim o place) there) in
         let cell = place_index c a place shown.sized base shown.known in
         ap (λ p. has_bit (slice_index w.now.words.snapshot p) (cell_of_allocation c a).index) cell.0
         ∙ ap (λ k. has_bit (slice_index w.now.words.snapshot place.page) k) cell.1
