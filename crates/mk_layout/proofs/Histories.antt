@@ -9,7 +9,9 @@ use Rattle.mk_geom.specs.Storages.{free_page}
 use Rattle.mk_geom.specs.declared.headers.Header.TheVariants.{Later}
 use Rattle.mk_geom.specs.declared.pages.Page.{Page}
 use Rattle.mk_core.specs.Accesses.{access, reached}
+use Rattle.mk_core.specs.Cells.{heads_run}
 use Rattle.mk_core.specs.Config.{IsWithinLimits}
+use Rattle.mk_core.specs.Effects.{taken}
 use Rattle.mk_core.specs.Enabled.{IsEnabled}
 use Rattle.mk_core.specs.History.{AreEnabledFrom, World, first_world, left, left_from, world_behind}
 use Rattle.mk_core.specs.Layout.{AreOfPages}
@@ -21,7 +23,9 @@ use Rattle.mk_core.specs.declared.events.Step.{Step}
 use Rattle.mk_core.proofs.Conditions.{enabled_meets}
 use Rattle.mk_core.proofs.EvaluatedHistories.{enabled}
 use Rattle.mk_core.proofs.Lengths.{accessed_lengths, histories_keep_lengths, zero_lengths}
+use Rattle.mk_core.proofs.SmallCycles.{small}
 use Rattle.mk_protocol.proofs.Actors.{Meets}
+use Rattle.mk_protocol.proofs.Kept.{kept}
 use Rattle.mk_protocol.proofs.Known.{Known, known_at_first, known_behind, known_left}
 use Rattle.mk_protocol.proofs.OthersMoves.{WorldBehind}
 use Rattle.mk_protocol.proofs.Protocols.{at_first}
@@ -40,6 +44,7 @@ use Rattle.mk_layout.proofs.QuarantineSteps.{none_released, unmarked}
 use Rattle.mk_layout.proofs.Readings.{none_set}
 use Rattle.mk_layout.proofs.Rooms.{resident_few, room_behind}
 use Rattle.mk_layout.proofs.SnapshotKinds.{snapshot_behind}
+use Rattle.mk_layout.proofs.WholeRuns.{whole_behind}
 
 laid_at_first : (c : Config) → IsLaidOut c (first_world c)
 laid_at_first c =
@@ -83,6 +88,7 @@ in_order_at_first c =
       known = λ p k h. absurd (none_set (slice_index (replicate c.pages 0) p) k (at_first c.pages p 0) h);
       snapshot = record { fresh = λ i f. absurd (true≢false (sym f)); quarantined = λ on. absurd (true≢false (sym on)) };
       words = λ p. subst (λ (x : Page). IsHeaderWord x.header) (sym (at_first c.pages p free_page)) refl;
+      runs = λ p h. absurd (true≢false (sym h ∙ ap (λ (x : Page). heads_run (header_of x.header)) (at_first c.pages p free_page)));
       room = let none = count_none c.pages (is_taken_page (replicate c.pages free_page) NoPlot) (λ p. free p) in omega arith;
     }
   where
@@ -124,6 +130,7 @@ order_behind c w e limits lengths known on others all =
       quarantined = quarantined;
       known = cells_known_behind c w e.seat e.step b h all.known laid quarantined;
       snapshot = snapshot_behind c w e.seat e.step b h all.laid all.quarantined all.snapshot;
+      runs = whole_behind c w e.seat e.step b h all.runs laid;
       words = words_behind c w e.seat e.step b h all.laid all.words;
       room = room_behind c w e.seat e.step b h all.laid all.room;
     }

@@ -29,6 +29,7 @@ pub mod SnapshotKinds
 pub mod HeaderWords
 pub mod Counts
 pub mod Rooms
+pub mod WholeRuns
 pub mod Histories
 pub mod CycleSnapshots
 pub mod Apart

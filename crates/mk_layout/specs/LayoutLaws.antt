@@ -15,6 +15,7 @@ use Rattle.mk_core.specs.declared.seats.RunPages.{RunPages}
 use Rattle.mk_layout.specs.Quarantine.{FreedCellsAreKnown, IsQuarantined, KeepsSnapshot}
 use Rattle.mk_layout.specs.Room.{HasHeaderWords, HasRoom}
 use Rattle.mk_layout.specs.Terrain.{IsCellOf, IsLaidOut}
+use Rattle.mk_layout.specs.WholeRuns.{RunsAreWhole}
 
 -- what other groups say of a world, where a step asks for it
 pub record OthersSay (c : Config) (w : World) : Type 0 where
@@ -30,6 +31,7 @@ pub record StandsInOrder (c : Config) (w : World) : Type 0 where
   pub snapshot : KeepsSnapshot c w
   pub words : HasHeaderWords w
   pub room : HasRoom c w
+  pub runs : RunsAreWhole c w
 
 -- One event, whatever it is: all stays in order.
 abbrev pub EventsKeepTheLayout : Type 0

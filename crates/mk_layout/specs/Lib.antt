@@ -5,3 +5,4 @@ pub mod Scene
 pub mod SettledPages
 pub mod Snapshots
 pub mod Terrain
+pub mod WholeRuns
