@@ -65,6 +65,10 @@ heads_large o x part h = elim (cases_Bool (is_small_object o)) [
   | inr l ↦ l
 ]
 
+later_at : (pages : List Page) (releasing : Bool) (plot : Plot) (p q d : ℕ) (x : Option Header) → q ≡ p → shows_on pages (q + d) ≡ x → {large : Type 0}
+    → (mapped : Bool) × (x ≡ Some (Later d mapped)) × large → HasLaterPage pages releasing plot p d
+later_at pages releasing plot p q d x page at (mapped, is, large) = inl (mapped, ap (λ i. shows_on pages (i + d)) (sym page) ∙ at ∙ is)
+
 -- from a claim at its head
 claimed_run : (s : Scene) (x : Claim) (p : ℕ) → IsLaidOn s → Among x s.claims → x.page ≡ p → heads_run (shows_on s.pages p) ≡ true → RunIsWhole s.pages s.releasing s.plot p
 claimed_run s x p laid ix page h =
@@ -79,9 +83,8 @@ claimed_run s x p laid ix page h =
       within = omega arith;
       later = λ d some lt.
           let near : d < pages_made x.object = omega arith in
-          let is = later_part x.object d (shows_on s.pages (x.page + d)) (claimed s.pages x d shown near) some in
-          let same : shows_on s.pages (p + d) ≡ shows_on s.pages (x.page + d) = ap (λ q. shows_on s.pages (q + d)) (sym page) in
-          inl (is.0, same ∙ is.1);
+          later_at s.pages s.releasing s.plot p x.page d (shows_on s.pages (x.page + d)) page refl
+          (later_part x.object d (shows_on s.pages (x.page + d)) (claimed s.pages x d shown near) some);
     }
 
 -- from a plot, whose first page it is
@@ -114,8 +117,8 @@ plotted_run s (Plotted first o) p is stands here h =
               elim (stands.headers d near) [
                 | inl z ↦ inr (ap (λ q. header_on s.pages (q + d)) page ∙ z, ap (λ q. used_on s.pages q) (sym zero) ∙ stands.used 0 (omega arith), inr here)
                 | inr m ↦
-                    let is = later_part o d (header_of (header_made o d)) (made_shows o d stands.sized near) some_d in
-                    inl (is.0, ap (λ q. shows_on s.pages (q + d)) page ∙ ap (λ v. header_of v) m ∙ is.1)
+                    later_at s.pages s.releasing (Plotted first o) p first d (header_of (header_made o d)) (sym page) (ap (λ v. header_of v) m)
+                    (later_part o d (header_of (header_made o d)) (made_shows o d stands.sized near) some_d)
               ];
         }
 
