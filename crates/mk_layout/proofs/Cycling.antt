@@ -1,9 +1,7 @@
 -- Whether the phase is one of a cycle's, behind each kind of event.
 use Rattle.std.proofs.Common.{Bool, ap, arith, false, refl, sym, true, ℕ, ◌%◌, ◌+◌, ◌-◌, ◌^◌, ◌∙◌, ◌≡◌}
 use Rattle.std.proofs.lemmas.Bool.{eqb-true}
-use Rattle.mk_core.specs.Accesses.{caller_number, reg_access, register_met}
 use Rattle.mk_core.specs.History.{World}
-use Rattle.mk_core.specs.Moments.{flight_of}
 use Rattle.mk_core.specs.Words.{phase_of}
 use Rattle.mk_core.specs.declared.config.Config.{Config}
 use Rattle.mk_core.specs.declared.events.Seat.{Seat}
@@ -11,8 +9,9 @@ use Rattle.mk_core.specs.declared.events.Step.{Step}
 use Rattle.mk_core.specs.declared.events.Step.TheVariants as step
 use Rattle.mk_protocol.proofs.Actors.{Meets}
 use Rattle.mk_protocol.proofs.OthersMoves.{WorldBehind}
-use Rattle.mk_protocol.proofs.Sorts.{reg_keeps, tally_keeps}
+use Rattle.mk_protocol.proofs.Sorts.{tally_keeps}
 use Rattle.mk_layout.specs.Quarantine.{is_cycling}
+use Rattle.mk_layout.proofs.Before.{reg_leaves}
 use Rattle.mk_layout.proofs.Behind.{over_phase}
 
 -- whether the phase is one of a cycle's behind a step
@@ -28,7 +27,7 @@ pub cycle_kind : (c : Config) (w : World) (seat : Seat) (x : Step) → Meets c w
     → is_cycling (phase_of (WorldBehind c w seat x).now.words) ≡ is_cycling_behind x (is_cycling (phase_of w.now.words))
 cycle_kind c w seat step.Reg h =
     ap (λ n. is_cycling (n % 8))
-    (reg_keeps w.now.words (caller_number seat) (register_met (flight_of w.now seat) (flight_of w.now seat).stage) (reg_access (flight_of w.now seat) (flight_of w.now seat).stage)).phase
+    (reg_leaves c w seat).phase
 cycle_kind c w seat (step.Tally n v) h = ap (λ m. is_cycling (m % 8)) (tally_keeps w.now.words n v).phase
 cycle_kind c w seat step.Begin h =
     let e = eqb-true (w.now.words.phase % 8) 0 h.phase in

@@ -5,7 +5,6 @@ use Rattle.std.proofs.lemmas.Bool.{cases_eq}
 use Rattle.mk_geom.specs.Headers.{IsHeaderWord, header_of}
 use Rattle.mk_geom.specs.declared.headers.Header.{Header}
 use Rattle.mk_geom.specs.declared.pages.Page.{Page}
-use Rattle.mk_core.specs.Accesses.{caller_number, reg_access, register_met}
 use Rattle.mk_core.specs.History.{World}
 use Rattle.mk_core.specs.Moments.{flight_of}
 use Rattle.mk_core.specs.NewPlaces.{header_made, object_made, pages_made, unmapped_header}
@@ -21,12 +20,12 @@ use Rattle.mk_core.proofs.ObjectHeaders.{made_shows, unmapped_shows}
 use Rattle.mk_core.proofs.PageSteps.{HeadStep, ItCarves, ItEmpties, ItUnmaps, head_step}
 use Rattle.mk_core.proofs.PlacesNow.{placed_now}
 use Rattle.mk_protocol.proofs.Actors.{Meets}
-use Rattle.mk_protocol.proofs.Ground.{reg_ground, tally_ground}
+use Rattle.mk_protocol.proofs.Ground.{tally_ground}
 use Rattle.mk_protocol.proofs.OthersMoves.{WorldBehind}
 use Rattle.mk_layout.specs.Room.{HasHeaderWords}
 use Rattle.mk_layout.specs.Scene.{header_on}
 use Rattle.mk_layout.specs.Terrain.{IsClaimedRun, IsLaidOut, RunStands, claims_of, object_now, terrain_of}
-use Rattle.mk_layout.proofs.Before.{Before, page_within}
+use Rattle.mk_layout.proofs.Before.{Before, page_within, reg_leaves_ground}
 use Rattle.mk_layout.proofs.Holders.{made_sized}
 use Rattle.mk_layout.proofs.PageSets.{headed_here, headed_other, used_header, with_header_on}
 use Rattle.mk_layout.proofs.Serving.{own_claim}
@@ -73,6 +72,6 @@ words_behind c w seat (step.Head p n) b h laid words = λ q. elim (cases_eq q p)
 words_behind c w seat (step.Used p n) b h laid words = λ q. subst (λ v. IsHeaderWord v) (sym (used_header w.now.words.pages p n q (page_within c w p b h.range))) (words q)
 words_behind c w seat step.Reg b h laid words =
     subst (λ (ps : List Page). HaveWords ps)
-    (sym (reg_ground w.now.words (caller_number seat) (register_met (flight_of w.now seat) (flight_of w.now seat).stage) (reg_access (flight_of w.now seat) (flight_of w.now seat).stage)).pages) words
+    (sym (reg_leaves_ground c w seat).pages) words
 words_behind c w seat (step.Tally n v) b h laid words = subst (λ (ps : List Page). HaveWords ps) (sym (tally_ground w.now.words n v).pages) words
 words_behind c w seat _ b h laid words = words

@@ -12,7 +12,7 @@ use Rattle.mk_geom.specs.declared.headers.Header.{Header}
 use Rattle.mk_geom.specs.declared.headers.Header.TheVariants.{Block, Free, Later, LeafBlock, LeafRun, Run}
 use Rattle.mk_geom.specs.declared.pages.Page.{Page}
 use Rattle.mk_geom.specs.declared.pages.Place.{Place}
-use Rattle.mk_core.specs.Accesses.{caller_number, found, reg_access, register_met}
+use Rattle.mk_core.specs.Accesses.{found}
 use Rattle.mk_core.specs.Cells.{is_unmapped_header}
 use Rattle.mk_core.specs.Effects.{chosen, taken}
 use Rattle.mk_core.specs.History.{World}
@@ -38,12 +38,12 @@ use Rattle.mk_core.proofs.ServingSteps.{IsNextHeader, marks_is}
 use Rattle.mk_core.proofs.Sizes.{large_count, small_pages}
 use Rattle.mk_protocol.specs.Protocol.{has_place}
 use Rattle.mk_protocol.proofs.Actors.{Meets}
-use Rattle.mk_protocol.proofs.Ground.{reg_ground, tally_ground}
+use Rattle.mk_protocol.proofs.Ground.{tally_ground}
 use Rattle.mk_protocol.proofs.OthersMoves.{WorldBehind}
 use Rattle.mk_layout.specs.Room.{HasRoom, count_below, in_plot, is_taken_page}
 use Rattle.mk_layout.specs.Scene.{Among, NoPlot, Plot, Plotted, header_on, shows_on, used_on}
 use Rattle.mk_layout.specs.Terrain.{IsClaimedRun, IsLaidOut, RunStands, claims_of, claims_placed, object_now, place_claim, plot_of, terrain_of}
-use Rattle.mk_layout.proofs.Before.{Before, page_within}
+use Rattle.mk_layout.proofs.Before.{Before, page_within, reg_leaves_ground}
 use Rattle.mk_layout.proofs.Behind.{object_kind}
 use Rattle.mk_layout.proofs.Counts.{count_fewer, count_list, count_range}
 use Rattle.mk_layout.proofs.Fits.{FitsOnFreePages, fits}
@@ -171,6 +171,11 @@ carved_room c o w place p n next room =
           (and_from (nat_le place.page q) (nat_lt q (place.page + pages_made o)) (le-leb place.page q (omega arith)) (lt-ltb q (place.page + pages_made o) (omega arith)))
     ]) room
 
+abbrev HeadRoom : Config → World → Seat → ℕ → ℕ → Bool → Type 0
+HeadRoom c w seat p n four =
+    RoomOn c (object_now c w.now) (with_header_on w.now.words.pages p n)
+    (if four then w.now.seats.holding.placing else chosen w.now.seats.holding.placing (place_now c w.now (flight_of w.now seat)))
+
 head_room : (c : Config) (w : World) (seat : Seat) (p n : ℕ) → Before c w → seat_exists c seat ≡ true → p < length w.now.words.pages → IsLaidOut c w → HasRoom c w
     → HeadStep c w.now (flight_of w.now seat) p n
     → RoomOn c (object_now c w.now) (with_header_on w.now.words.pages p n)
@@ -180,7 +185,7 @@ head_room c w seat p n b there lt laid room (ItCarves off x) =
     let own = holding_object c w.now seat b.known (new_has_turn c w.now seat there placed.new) in
     let o : Object = object_made c (flight_of w.now seat).op in
     let sized = made_sized c w.now seat b.limits b.known placed.new in
-    subst (λ four. RoomOn c (object_now c w.now) (with_header_on w.now.words.pages p n) (if four then w.now.seats.holding.placing else chosen w.now.seats.holding.placing (place_now c w.now (flight_of w.now seat)))) (sym off)
+    subst (λ four. HeadRoom c w seat p n four) (sym off)
     (subst (λ (y : Option Place). RoomOn c (object_now c w.now) (with_header_on w.now.words.pages p n) (chosen w.now.seats.holding.placing y)) (sym x.there)
     (subst (λ (y : Object). RoomOn c y (with_header_on w.now.words.pages p n) (chosen w.now.seats.holding.placing (Some x.place))) (sym own)
     (by o sized own w.now.seats.holding.placing refl placed.placed x.next)))
@@ -210,7 +215,7 @@ head_room c w seat p n b there lt laid room (ItCarves off x) =
         absurd (next.not_yet (ap (λ q. header_at w.now.words q) (sym back) ∙ shown.headers (p - place.page) next.near))
     by o sized own Granted is out next = elim out [ ]
 head_room c w seat p n b there lt laid room (ItUnmaps off x) =
-    subst (λ four. RoomOn c (object_now c w.now) (with_header_on w.now.words.pages p n) (if four then w.now.seats.holding.placing else chosen w.now.seats.holding.placing (place_now c w.now (flight_of w.now seat)))) (sym off)
+    subst (λ four. HeadRoom c w seat p n four) (sym off)
     (by (place_now c w.now (flight_of w.now seat)) refl)
   where
     out : is_resident_page (use_under (header_of n) (used_on w.now.words.pages p)) ≡ false
@@ -236,7 +241,7 @@ head_room c w seat p n b there lt laid room (ItUnmaps off x) =
         (room_same c (object_now c w.now) w.now.words.pages (with_header_on w.now.words.pages p n) w.now.seats.holding.placing
         (λ q lq r. or_left (is_resident w.now.words.pages q) (in_plot (plot_of (object_now c w.now) w.now.seats.holding.placing) q) (resident_gone w.now.words.pages p n q lt out r)) room)
 head_room c w seat p n b there lt laid room (ItEmpties on x) =
-    subst (λ four. RoomOn c (object_now c w.now) (with_header_on w.now.words.pages p n) (if four then w.now.seats.holding.placing else chosen w.now.seats.holding.placing (place_now c w.now (flight_of w.now seat)))) (sym on)
+    subst (λ four. HeadRoom c w seat p n four) (sym on)
     (room_same c (object_now c w.now) w.now.words.pages (with_header_on w.now.words.pages p n) w.now.seats.holding.placing
     (λ q lq r. or_left (is_resident w.now.words.pages q) (in_plot (plot_of (object_now c w.now) w.now.seats.holding.placing) q)
     (resident_gone w.now.words.pages p n q lt (ap (λ v. is_resident_page (use_under (header_of v) (used_on w.now.words.pages p))) x.is) r)) room)
@@ -296,7 +301,7 @@ room_by_kind c w seat step.Give b h laid room =
     room_unplaced c (object_now c w.now) (object_now c w.now) w.now.words.pages w.now.words.pages w.now.seats.holding.placing Unplaced refl (λ q lt r. r) room
 room_by_kind c w seat step.Reg b h laid room =
     subst (λ (ps : List Page). RoomOn c (object_now c w.now) ps w.now.seats.holding.placing)
-    (sym (reg_ground w.now.words (caller_number seat) (register_met (flight_of w.now seat) (flight_of w.now seat).stage) (reg_access (flight_of w.now seat) (flight_of w.now seat).stage)).pages) room
+    (sym (reg_leaves_ground c w seat).pages) room
 room_by_kind c w seat (step.Tally n v) b h laid room =
     subst (λ (ps : List Page). RoomOn c (object_now c w.now) ps w.now.seats.holding.placing) (sym (tally_ground w.now.words n v).pages) room
 room_by_kind c w seat (step.Head p n) b h laid room =

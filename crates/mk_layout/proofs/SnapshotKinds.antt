@@ -4,7 +4,6 @@ use Rattle.std.specs.Prelude.{None, Option, Some, if◌then◌else◌, not, slic
 use Rattle.std.proofs.lemmas.Bool.{and_parts, cases_Bool, eqb-true, false_from_ne_true, ltb-true, not-true, true≢false}
 use Rattle.std.proofs.lemmas.List.{set-get_or}
 use Rattle.mk_geom.specs.declared.addresses.Cell.{Cell}
-use Rattle.mk_core.specs.Accesses.{caller_number, reg_access, register_met}
 use Rattle.mk_core.specs.Allocations.{PlacedAllocation, cell_of_allocation, freed_where_it_stands, granted, no_longer_fresh, placed_at, stands_in, with_released}
 use Rattle.mk_core.specs.Bits.{has_bit}
 use Rattle.mk_core.specs.Bounded.{all_below}
@@ -32,12 +31,12 @@ use Rattle.mk_core.proofs.PlacesNow.{freed_cell}
 use Rattle.mk_core.proofs.Sizes.{pages_some}
 use Rattle.mk_core.proofs.WordBits.{fewer_bits}
 use Rattle.mk_protocol.proofs.Actors.{Meets, grants_new}
-use Rattle.mk_protocol.proofs.Ground.{reg_ground, tally_ground}
+use Rattle.mk_protocol.proofs.Ground.{tally_ground}
 use Rattle.mk_protocol.proofs.OthersMoves.{WorldBehind}
 use Rattle.mk_layout.specs.Quarantine.{HasQuarantine, HasSnapshot, IsQuarantined, KeepsSnapshot, has_bit_of, is_cycling}
 use Rattle.mk_layout.specs.Scene.{Among, is_released_in}
 use Rattle.mk_layout.specs.Terrain.{IsLaidOut, Terrain, claims_of, claims_placed, object_now, place_claim, terrain_of}
-use Rattle.mk_layout.proofs.Before.{Before}
+use Rattle.mk_layout.proofs.Before.{Before, reg_leaves_ground}
 use Rattle.mk_layout.proofs.ByKind.{fresh_cells, off_at}
 use Rattle.mk_layout.proofs.Claims.{LeavesCells}
 use Rattle.mk_layout.proofs.Cycling.{cycle_kind, is_cycling_behind}
@@ -302,7 +301,7 @@ pub snapshot_by_kind : (c : Config) (w : World) (seat : Seat) (x : Step) → Bef
     → HasSnapshot c (is_cycling_behind x (is_cycling (phase_of w.now.words))) (WorldBehind c w seat x).now.words.snapshot (WorldBehind c w seat x).allocations
 snapshot_by_kind c w seat step.Reg b h laid q s =
     subst (λ (ss : List ℕ). HasSnapshot c (is_cycling (phase_of w.now.words)) ss w.allocations)
-    (sym (reg_ground w.now.words (caller_number seat) (register_met (flight_of w.now seat) (flight_of w.now seat).stage) (reg_access (flight_of w.now seat) (flight_of w.now seat).stage)).snapshot) s
+    (sym (reg_leaves_ground c w seat).snapshot) s
 snapshot_by_kind c w seat (step.Tally n v) b h laid q s =
     subst (λ (ss : List ℕ). HasSnapshot c (is_cycling (phase_of w.now.words)) ss w.allocations) (sym (tally_ground w.now.words n v).snapshot) s
 snapshot_by_kind c w seat (step.Quar p n) b h laid q s = quar_kind c w seat p n b h laid q s

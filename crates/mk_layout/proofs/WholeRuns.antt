@@ -1,5 +1,5 @@
 -- Runs are whole, behind each event.
-use Rattle.std.proofs.Common.{Bool, List, ap, arith, false, inl, inr, length, length-set, refl, subst, sym, true, zero, ℕ, ◌+◌, ◌-◌, ◌<◌, ◌∙◌, ◌≡◌, ◌≢◌, ◌⊎◌}
+use Rattle.std.proofs.Common.{Bool, List, ap, arith, false, inl, inr, length, length-set, refl, subst, sym, true, ℕ, ◌+◌, ◌-◌, ◌<◌, ◌∙◌, ◌≡◌, ◌≢◌, ◌⊎◌}
 use Rattle.std.specs.Prelude.{None, Option, Some}
 use Rattle.std.proofs.lemmas.Bool.{cases_Bool, cases_eq, true≢false}
 use Rattle.mk_geom.specs.Addresses.{head_page_under}
@@ -7,8 +7,6 @@ use Rattle.mk_geom.specs.Headers.{header_of}
 use Rattle.mk_geom.specs.declared.headers.Header.{Header}
 use Rattle.mk_geom.specs.declared.headers.Header.TheVariants.{Block, Free, Later, LeafBlock, LeafRun, Run}
 use Rattle.mk_geom.specs.declared.pages.Page.{Page}
-use Rattle.mk_core.specs.Accesses.{caller_number, reg_access, register_met}
-use Rattle.mk_core.specs.Calls.{still}
 use Rattle.mk_core.specs.Cells.{cells_under, head_page, heads_run}
 use Rattle.mk_core.specs.History.{World}
 use Rattle.mk_core.specs.Moments.{flight_of, is_phase}
@@ -23,18 +21,16 @@ use Rattle.mk_core.specs.declared.seats.Flight.{Flight}
 use Rattle.mk_core.specs.declared.seats.Object.{Object}
 use Rattle.mk_core.proofs.ObjectHeaders.{later_part, made_shows, small_heads_none}
 use Rattle.mk_core.proofs.PageSteps.{Empties, GivesBack, HeadStep, ItCarves, ItEmpties, ItGivesBack, ItTakes, ItUnmaps, UsedStep, head_step, used_step}
-use Rattle.mk_core.proofs.Schedules.{by}
 use Rattle.mk_core.proofs.Sizes.{pages_some}
 use Rattle.mk_core.proofs.WordBits.{fewer_bits}
 use Rattle.mk_protocol.proofs.Actors.{Meets}
-use Rattle.mk_protocol.proofs.Ground.{reg_ground, tally_ground}
+use Rattle.mk_protocol.proofs.Ground.{tally_ground}
 use Rattle.mk_protocol.proofs.OthersMoves.{WorldBehind}
 use Rattle.mk_layout.specs.Scene.{Among, Claim, InPlot, IsLaidOn, NoPlot, Plot, PlotStands, Plotted, Scene, head_on, header_on, is_released_in, run_count, shows_on, used_on}
 use Rattle.mk_layout.specs.Terrain.{IsLaidOut, object_now, plot_of, scene_of, terrain_of}
 use Rattle.mk_layout.specs.WholeRuns.{HasLaterPage, HaveWholeRuns, RunIsWhole, RunsAreWhole}
-use Rattle.mk_layout.proofs.Before.{Before, is_releasing_behind, page_within}
+use Rattle.mk_layout.proofs.Before.{Before, is_releasing_behind, page_within, reg_leaves_ground}
 use Rattle.mk_layout.proofs.Behind.{phase_kind}
-use Rattle.mk_layout.proofs.Claims.{front}
 use Rattle.mk_layout.proofs.OnClaims.{find_bit}
 use Rattle.mk_layout.proofs.PageSets.{headed_here, headed_other, headed_used, used_header, used_here, used_other, with_header_on, with_used_on}
 use Rattle.mk_layout.proofs.Readings.{claimed, none_set, zero_where_none}
@@ -220,7 +216,7 @@ whole_by_kind c w seat (step.Head p n) plot b h on whole = head_whole c w (fligh
 whole_by_kind c w seat (step.Used p n) plot b h on whole = used_whole c w (flight_of w.now seat) plot p n (page_within c w p b h.range) on (used_step c w.now (flight_of w.now seat) p n h.holder) whole
 whole_by_kind c w seat step.Reg plot b h on whole =
     subst (λ (ps : List Page). HaveWholeRuns ps true plot)
-    (sym (reg_ground w.now.words (caller_number seat) (register_met (flight_of w.now seat) (flight_of w.now seat).stage) (reg_access (flight_of w.now seat) (flight_of w.now seat).stage)).pages) whole
+    (sym (reg_leaves_ground c w seat).pages) whole
 whole_by_kind c w seat (step.Tally n v) plot b h on whole = subst (λ (ps : List Page). HaveWholeRuns ps true plot) (sym (tally_ground w.now.words n v).pages) whole
 whole_by_kind c w seat _ plot b h on whole = whole
 
