@@ -39,7 +39,8 @@ use Rattle.mk_layout.proofs.KnownCells.{cells_known_behind}
 use Rattle.mk_layout.proofs.QuarantineByKind.{quarantine_by_kind}
 use Rattle.mk_layout.proofs.QuarantineSteps.{none_released, unmarked}
 use Rattle.mk_layout.proofs.Readings.{none_set}
-use Rattle.mk_layout.proofs.Rooms.{resident_few, room_behind}
+use Rattle.mk_layout.proofs.ResidentPages.{resident_few}
+use Rattle.mk_layout.proofs.Rooms.{room_behind}
 use Rattle.mk_layout.proofs.SnapshotKinds.{snapshot_behind}
 use Rattle.mk_layout.proofs.WholeRuns.{whole_behind}
 

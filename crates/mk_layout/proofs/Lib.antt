@@ -25,9 +25,11 @@ pub mod QuarantineByKind
 pub mod KnownCells
 pub mod OneCell
 pub mod Cycling
+pub mod SnapshotFrees
 pub mod SnapshotKinds
 pub mod HeaderWords
 pub mod Counts
+pub mod ResidentPages
 pub mod Rooms
 pub mod WholeRuns
 pub mod Histories
