@@ -102,7 +102,9 @@ granted_terrain c releasing marks t place a used is st =
     gone (Some r) x =
         record {
           claim = x.claim;
-          among = subst (λ (cs : List Claim). Among x.claim cs) (sym (pushed_claims c t.run t.allocations a is.unreleased)) (among_front (claims_of c t.run t.allocations) (claim_of c t.run a ∷ []) x.claim x.among);
+          among =
+              subst (λ (cs : List Claim). Among x.claim cs) (sym (pushed_claims c t.run t.allocations a is.unreleased))
+              (among_front (claims_of c t.run t.allocations) (claim_of c t.run a ∷ []) x.claim x.among);
           page = x.page;
           count = x.count;
           large = x.large;
