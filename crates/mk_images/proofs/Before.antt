@@ -22,7 +22,8 @@ use Rattle.mk_images.proofs.Stands.{Stands, is_gone}
 use Rattle.mk_core.proofs.StandingAllocations.{storage_holds}
 use Rattle.mk_images.proofs.KnownWorlds.{KnownWorld}
 use Rattle.mk_images.specs.Mirrors.{Mirrors}
-use Rattle.mk_images.proofs.Kept.{AreApart, AreSmall, exists_placed}
+use Rattle.mk_images.proofs.KeptCalls.{AreApart, AreSmall}
+use Rattle.mk_images.proofs.Kept.{exists_placed}
 use Rattle.mk_images.proofs.Ready.{Ready}
 use Rattle.mk_images.proofs.Reached.{PagesShow}
 

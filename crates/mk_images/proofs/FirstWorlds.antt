@@ -1,5 +1,5 @@
 -- What is asked of the others holds of the first world.
-use Rattle.std.proofs.Common.{◌≡◌, ℕ, ◌*◌, false, sym, ap, ◌∙◌, arith}
+use Rattle.std.proofs.Common.{◌≡◌, ℕ, false, sym, ap, ◌∙◌, arith}
 use Rattle.std.specs.Prelude.{◌==◌}
 use Rattle.std.proofs.lemmas.Bool.{false≢true}
 use Rattle.std.proofs.lemmas.Nat.Bits.{bit_at-zero}

@@ -1,27 +1,24 @@
 -- A run that a Free unmapped and wiped stays gone.
-use Rattle.std.proofs.Common.{◌≡◌, ◌≢◌, ◌⊎◌, ℕ, zero, suc, ◌+◌, ◌-◌, ◌*◌, ◌/◌, ◌^◌, ◌<◌, ◌≤◌, Bool, true, false, List, refl, sym, ap, subst, ◌∙◌, inl, inr, arith}
+use Rattle.std.proofs.Common.{◌≡◌, ◌≢◌, ◌⊎◌, ℕ, zero, suc, ◌+◌, ◌-◌, ◌*◌, ◌/◌, ◌<◌, Bool, true, false, List, refl, sym, ap, ◌∙◌, inl, inr, arith}
 use Rattle.std.specs.Prelude.{slice_index, slice_index_or, slice_set, ◌&&◌, ◌||◌, ◌==◌, not, nat_le, nat_lt, if◌then◌else◌, Option, Some, None}
-use Rattle.std.proofs.lemmas.Bool.{cases_Bool, cases_eq, and_parts, and_from, eqb-true, eq-eqb, ne_eqb, or_cases, not-true, leb-true, ltb-true, false≢true, true≢false}
-use Rattle.std.proofs.lemmas.List.{get_or-set_other, set-get_or}
+use Rattle.std.proofs.lemmas.Bool.{and_parts, and_from, eqb-true, eq-eqb, or_cases, not-true, false≢true, true≢false}
+use Rattle.std.proofs.lemmas.List.{get_or-set_other}
 use Rattle.std.proofs.lemmas.Nat.Bits.{bit_at-zero}
 use Rattle.mk_never.specs.NeverHeap.{NeverState}
 use Rattle.mk_never.specs.Admitted.{AreAdmitted}
 use Rattle.mk_never.proofs.Edits.{set_by}
-use Rattle.mk_geom.specs.declared.addresses.Cell.{Cell}
 use Rattle.mk_geom.specs.declared.pages.Page.{Page}
 use Rattle.mk_geom.specs.declared.pages.Place.{Place}
 use Rattle.mk_geom.specs.Addresses.{head_page_under}
 use Rattle.mk_geom.specs.Headers.{header_of}
 use Rattle.mk_geom.specs.Storages.{free_page}
 use Rattle.mk_core.specs.declared.config.Config.{Config}
-use Rattle.mk_core.specs.declared.events.Event.{Event}
 use Rattle.mk_core.specs.declared.events.Group.TheVariants as group
 use Rattle.mk_core.specs.declared.events.Seat.{Seat}
 use Rattle.mk_core.specs.declared.events.Seat.TheVariants.{Caller, Marker, Host}
 use Rattle.mk_core.specs.declared.events.Step.{Step}
 use Rattle.mk_core.specs.declared.events.Step.TheVariants as step
 use Rattle.mk_core.specs.declared.seats.Flight.{Flight}
-use Rattle.mk_core.specs.declared.seats.Holding.{Holding}
 use Rattle.mk_core.specs.declared.seats.RunPages.{RunPages}
 use Rattle.mk_core.specs.Bits.{has_bit}
 use Rattle.mk_core.specs.Bounded.{all_below}
@@ -29,40 +26,33 @@ use Rattle.mk_core.specs.Words.{Words, header_at, used_at}
 use Rattle.mk_core.specs.Calls.{word_met}
 use Rattle.mk_core.specs.Cells.{is_used, header_in, head_page, is_unmapped_header, words_are_zero}
 use Rattle.mk_core.specs.Decided.{asked}
-use Rattle.mk_core.specs.Moments.{Moment, flight_of, holder_number, others_are_held, is_phase}
-use Rattle.mk_core.specs.NewPlaces.{object_made, pages_made, stands, unmapped_header, target, is_run_unmapped, is_run_gone, is_undecided_new}
+use Rattle.mk_core.specs.Moments.{Moment, flight_of, is_phase}
+use Rattle.mk_core.specs.NewPlaces.{object_made, pages_made, stands, unmapped_header, is_run_unmapped, is_run_gone, is_undecided_new}
 use Rattle.mk_core.specs.Order.{group_of, is_open_to}
-use Rattle.mk_core.specs.Ranges.{is_run_cell}
-use Rattle.mk_core.specs.TurnConditions.{place_now, carves, unmaps, empties, cell_freed}
+use Rattle.mk_core.specs.TurnConditions.{place_now, carves, unmaps, empties}
 use Rattle.mk_core.specs.Accesses.{caller_number, register_met, reg_access}
 use Rattle.mk_core.specs.Allocations.{placed_at, cell_of_allocation}
 use Rattle.mk_core.specs.StandingAllocations.{object_placed}
-use Rattle.mk_core.specs.Effects.{run_of_cell}
-use Rattle.mk_core.specs.History.{World, world_behind, call_decided}
+use Rattle.mk_core.specs.History.{World, call_decided}
 use Rattle.mk_core.proofs.AllBelow.{all_below-at}
-use Rattle.mk_core.proofs.PlacesNow.{freed_cell}
 use Rattle.mk_core.proofs.Sizes.{large_count}
 use Rattle.mk_core.proofs.ObjectHeaders.{part_head, unmapped_shows, unmapped_is_unmapped}
 use Rattle.mk_core.proofs.RegisterAccesses.{register_leaves, tally_leaves}
 use Rattle.mk_core.proofs.StandingAllocations.{typed_size, run_cell}
-use Rattle.mk_protocol.proofs.Standings.{InCall}
 use Rattle.mk_protocol.proofs.Views.{view_of, HoldsTurn}
-use Rattle.mk_protocol.proofs.Orderly.{turn_of, shows_at}
 use Rattle.mk_protocol.proofs.Actors.{Meets, Actor, InCallOf, AsMarker, CallTakes, HostTakes, AsHolder}
-use Rattle.mk_protocol.proofs.OrderlyLists.{not_astray, actor_of}
-use Rattle.mk_protocol.proofs.Stages.{is_call_stage, calls_stand}
-use Rattle.mk_protocol.proofs.NextSteps.{is_take, at_its_stage}
-use Rattle.mk_protocol.proofs.Asked.{others_held}
+use Rattle.mk_protocol.proofs.OrderlyLists.{actor_of}
+use Rattle.mk_protocol.proofs.NextSteps.{is_take}
 use Rattle.mk_protocol.proofs.HoldersSteps.{placed_new}
-use Rattle.mk_protocol.proofs.SameWords.{Behind, reg_keeps, tally_keeps}
-use Rattle.mk_protocol.proofs.HeaderSteps.{page_set, used_set}
+use Rattle.mk_protocol.proofs.SameWords.{Behind}
+use Rattle.mk_protocol.proofs.HeaderSteps.{used_set}
 use Rattle.mk_images.specs.ImagesSay.{IsMappedWord}
 use Rattle.mk_images.specs.OthersSay.{OthersSay}
-use Rattle.mk_images.specs.Mirrors.{Mirrors, RunIsAlone}
+use Rattle.mk_images.specs.Mirrors.{Mirrors}
 use Rattle.mk_images.proofs.KnownWorlds.{KnownWorld}
 use Rattle.mk_images.proofs.Stands.{unreleased_of, kept_of, Stands, stands_of, is_gone}
 use Rattle.mk_images.proofs.Freeing.{new_frees_none}
-use Rattle.mk_images.proofs.FreedRuns.{event_of, freed_behind, gives, WasFreed, Before, Now, was_freed, headed}
+use Rattle.mk_images.proofs.FreeingSteps.{event_of}
 use Rattle.mk_images.proofs.Saying.{stored_word}
 
 -- what holds of each number below one
@@ -112,7 +102,8 @@ module _ (c : Config) (w : World) (n : NeverState) (known : KnownWorld c w) (oth
 
   -- A page of the run is the run's, and unmapped; no word of a mapped allocation lies there.
 
-  unmapped_page : (run : RunPages) → w.now.seats.holding.freed ≡ Some run → IsGone w.now.words run → (d : ℕ) → d < run.count → is_unmapped_header (header_in w.now.words (run.page + d)) ≡ true
+  unmapped_page : (run : RunPages) → w.now.seats.holding.freed ≡ Some run → IsGone w.now.words run → (d : ℕ) → d < run.count
+      → is_unmapped_header (header_in w.now.words (run.page + d)) ≡ true
   unmapped_page run e gone d lt =
       let owner = others.freed_run run e in
       let x = placed_at w.allocations owner.number in
@@ -130,7 +121,8 @@ module _ (c : Config) (w : World) (n : NeverState) (known : KnownWorld c w) (oth
       ap (λ h. head_page_under (header_of h) (run.page + d)) (gone.headers d lt) ∙ ap (λ m. head_page_under (header_of (unmapped_header m d)) (run.page + d)) count
       ∙ part_head (object_placed c x) d run.page _ (unmapped_shows (object_placed c x) d sized (omega arith) owner.large)
 
-  mapped_apart : (run : RunPages) → w.now.seats.holding.freed ≡ Some run → IsGone w.now.words run → (m : ℕ) → IsMappedWord c w m → (i : ℕ) → i < 64 * run.count → 64 * run.page + i ≢ m
+  mapped_apart : (run : RunPages) → w.now.seats.holding.freed ≡ Some run → IsGone w.now.words run → (m : ℕ) → IsMappedWord c w m → (i : ℕ) → i < 64 * run.count
+      → 64 * run.page + i ≢ m
   mapped_apart run e gone m is i lt at =
       let x = placed_at w.allocations is.number in
       let u = unreleased_of x.released (is_gone c x) is.mapped in
@@ -139,7 +131,8 @@ module _ (c : Config) (w : World) (n : NeverState) (known : KnownWorld c w) (oth
       let high = is.word.1 in
       let page : (x.base + (m - x.base)) / 64 ≡ run.page + i / 64 = omega arith in
       true≢false
-      (sym (unmapped_page run e gone (i / 64) (omega arith)) ∙ ap (λ p. is_unmapped_header (header_in w.now.words p)) (sym page) ∙ st.mapped is.number (m - x.base) u un (omega arith))
+      (sym (unmapped_page run e gone (i / 64) (omega arith)) ∙ ap (λ p. is_unmapped_header (header_in w.now.words p)) (sym page) ∙ st.mapped is.number (m - x.base) u un
+      (omega arith))
 
   -- A run that is gone stays gone.
 
@@ -197,14 +190,16 @@ module _ (c : Config) (w : World) (n : NeverState) (known : KnownWorld c w) (oth
           false≢true (sym (bare_word 0) ∙ ap (λ x. has_bit x 0) (sym (ap (used_at w.now.words) (sym head) ∙ unused)) ∙ ap (is_used w.now.words) (sym cell) ∙ laid.used)
 
       by : (b : Bool)
-          → (if b then empties w.now.words p v else carves w.now.words (object_made c f.op) (place_now c w.now f) p v || unmaps w.now.words w.now.seats.holding.freed p v) ≡ true → ⊥
+          → (if b then empties w.now.words p v else carves w.now.words (object_made c f.op) (place_now c w.now f) p v || unmaps w.now.words w.now.seats.holding.freed p v) ≡ true
+          → ⊥
       by true k = emptied k
       by false k = elim (or_cases (carves w.now.words (object_made c f.op) (place_now c w.now f) p v) (unmaps w.now.words w.now.seats.holding.freed p v) k) [
         | inl a ↦ carved a
         | inr a ↦ unmapped a
       ]
 
-  pub stored_at : (seat : Seat) (x : Step) → (x ≡ step.Write) ⊎ (x ≡ step.Cas) → group_of x ≡ group.Callers → Meets c w.now seat x → AreAdmitted c.globals n (asked (call_decided c w.now (event_of seat x)))
+  pub stored_at : (seat : Seat) (x : Step) → (x ≡ step.Write) ⊎ (x ≡ step.Cas) → group_of x ≡ group.Callers → Meets c w.now seat x
+      → AreAdmitted c.globals n (asked (call_decided c w.now (event_of seat x)))
       → IsMappedWord c w (word_met (flight_of w.now seat))
   stored_at (Caller k) x is g h ad = stored_word c w n known others mirrors k x is h ad
   stored_at (Marker k) x is g h ad = let e : false ≡ true = ap (is_open_to (Marker k)) (sym g) ∙ h.kind in cc
@@ -214,7 +209,8 @@ module _ (c : Config) (w : World) (n : NeverState) (known : KnownWorld c w) (oth
       → AreAdmitted c.globals n (asked (call_decided c w.now (event_of seat x))) → IsGone (Behind c w.now seat x).words run
   gone_stays run e gone seat (step.Head p v) h ad =
       record {
-        headers = λ d lt. ap (λ (y : Page). y.header) (get_or-set_other w.now.words.pages p (run.page + d) _ free_page (header_kept run e gone seat p v h d lt)) ∙ gone.headers d lt;
+        headers = λ d lt. ap (λ (y : Page). y.header) (get_or-set_other w.now.words.pages p (run.page + d) _ free_page (header_kept run e gone seat p v h d lt))
+            ∙ gone.headers d lt;
         words = gone.words;
       }
   gone_stays run e gone seat (step.Used p v) h ad =
@@ -240,4 +236,3 @@ module _ (c : Config) (w : World) (n : NeverState) (known : KnownWorld c w) (oth
         words = λ i lt. ap (λ (hs : List ℕ). slice_index hs (64 * run.page + i)) left.heap ∙ gone.words i lt;
       }
   gone_stays run e gone seat _ h ad = record { headers = gone.headers; words = gone.words }
-

@@ -1,5 +1,6 @@
 pub mod Moves
 pub mod Pairs
+pub mod KeptCalls
 pub mod Kept
 pub mod SafeKept
 pub mod Ready
@@ -24,6 +25,7 @@ pub mod FirstWorlds
 pub mod Exchanges
 pub mod Bases
 pub mod Freeing
+pub mod FreeingSteps
 pub mod FreedRuns
 pub mod Saying
 pub mod GoneRuns

@@ -1,84 +1,48 @@
 -- A word of a mapped allocation behind an event: its allocation is mapped still, or released, or large and just freed.
-use Rattle.std.proofs.Common.{◌≡◌, ◌≢◌, ◌⊎◌, ℕ, ◌+◌, ◌-◌, ◌*◌, ◌/◌, ◌%◌, ◌^◌, ◌<◌, ◌≤◌, Bool, true, false, List, [], ◌∷◌, ◌++◌, length, map, refl, sym, ap, subst, ◌∙◌, inl, inr, arith, le_refl}
-use Rattle.std.specs.Prelude.{slice_index, slice_index_or, slice_set, ◌&&◌, ◌||◌, ◌==◌, not, nat_le, nat_lt, if◌then◌else◌, bit_and, Option, Some, None, is_some}
-use Rattle.std.proofs.lemmas.Bool.{cases_Bool, cases_eq, cases_lt, and_parts, and_from, eqb-true, eq-eqb, or_cases, not-true, leb-true, ltb-true, le-leb, lt-ltb, false≢true, true≢false}
-use Rattle.std.proofs.lemmas.List.{get_or-set_same, get_or-set_other, get_or_past}
-use Rattle.std.proofs.lemmas.Nat.{and_comm, mul-le}
-use Rattle.mk_never.specs.declared.operations.Op.{Op}
+use Rattle.std.proofs.Common.{◌≡◌, ℕ, ◌-◌, ◌/◌, ◌<◌, ◌≤◌, Bool, true, false, refl, sym, ap, subst, ◌∙◌, inl, inr, arith, le_refl}
+use Rattle.std.specs.Prelude.{slice_index, ◌&&◌, ◌==◌, not, nat_le, nat_lt, if◌then◌else◌, Option, Some, None}
+use Rattle.std.proofs.lemmas.Bool.{cases_Bool, cases_eq, and_parts, and_from, eqb-true, eq-eqb, not-true, le-leb, lt-ltb, true≢false}
+use Rattle.std.proofs.lemmas.Nat.{mul-le}
 use Rattle.mk_never.specs.NeverHeap.{NeverState}
-use Rattle.mk_never.specs.Admitted.{AreAdmitted}
 use Rattle.mk_never.specs.Types.{kinds_of, is_large}
-use Rattle.mk_never.proofs.Edits.{set_by}
 use Rattle.mk_geom.specs.declared.addresses.Cell.{Cell}
 use Rattle.mk_geom.specs.declared.headers.Header.{Header}
-use Rattle.mk_geom.specs.declared.headers.Header.TheVariants.{Block, LeafBlock, Run, LeafRun, Later}
-use Rattle.mk_geom.specs.declared.pages.Page.{Page}
-use Rattle.mk_geom.specs.Addresses.{head_page_under}
 use Rattle.mk_geom.specs.Classes.{class_words_of}
-use Rattle.mk_geom.specs.Headers.{header_of}
 use Rattle.mk_geom.proofs.ClassTable.{class_words_within, cell_ends}
 use Rattle.mk_geom.specs.PageUses.{or_else}
-use Rattle.mk_geom.specs.Storages.{free_page}
 use Rattle.mk_geom.specs.StorageWords.{IsWordOf}
 use Rattle.mk_core.specs.declared.config.Config.{Config}
-use Rattle.mk_core.specs.declared.events.Event.{Event}
-use Rattle.mk_core.specs.declared.events.Group.TheVariants as group
 use Rattle.mk_core.specs.declared.events.Seat.{Seat}
-use Rattle.mk_core.specs.declared.events.Seat.TheVariants.{Caller, Marker, Host}
 use Rattle.mk_core.specs.declared.events.Step.{Step}
 use Rattle.mk_core.specs.declared.events.Step.TheVariants as step
-use Rattle.mk_core.specs.declared.seats.Stage.{Stage}
-use Rattle.mk_core.specs.declared.seats.Stage.TheVariants as stage
-use Rattle.mk_core.specs.declared.seats.Presence.{Presence}
-use Rattle.mk_core.specs.declared.seats.Flight.{Flight}
-use Rattle.mk_core.specs.declared.seats.Holding.{Holding}
-use Rattle.mk_core.specs.declared.seats.Marker.{Marker as MarkerState}
 use Rattle.mk_core.specs.declared.seats.Object.{Object}
 use Rattle.mk_core.specs.declared.seats.RunPages.{RunPages}
-use Rattle.mk_core.specs.declared.seats.SeenHeader.{SeenHeader}
-use Rattle.mk_core.specs.Bits.{has_bit, without}
-use Rattle.mk_core.specs.Words.{Words, header_at, used_at, phase_of}
-use Rattle.mk_core.specs.Bounded.{is_some_and}
-use Rattle.mk_core.specs.Calls.{at_rest, word_met}
-use Rattle.mk_core.specs.Cells.{first_word, cell_words, words_under, header_in, head_page, run_headed, is_used, is_released, is_left_unmarked, left_unmarked, is_in_run, words_are_zero, none_is_left_unmarked}
-use Rattle.mk_core.specs.Decided.{asked}
-use Rattle.mk_core.specs.Moments.{flight_of, marker_at, marker_of, is_phase, nothing_done, outside}
-use Rattle.mk_core.specs.MarkerConditions.{cell_seen}
-use Rattle.mk_core.specs.NewPlaces.{class_made, is_small_object, pages_made, is_run_gone, is_undecided_free, is_free_at}
+use Rattle.mk_core.specs.Bits.{has_bit}
+use Rattle.mk_core.specs.Words.{phase_of}
+use Rattle.mk_core.specs.Cells.{first_word, header_in, run_headed, is_left_unmarked}
+use Rattle.mk_core.specs.Moments.{flight_of, is_phase}
+use Rattle.mk_core.specs.NewPlaces.{class_made, is_small_object, pages_made}
 use Rattle.mk_core.specs.ObjectHeaders.{cells_made, ShowsPart, OfBlock, OfLeafBlock, OfRun, OfLeafRun, OfLater}
-use Rattle.mk_core.specs.StopConditions.{is_attending, has_settled_page, may_end}
-use Rattle.mk_core.specs.Order.{host_has_turn}
-use Rattle.mk_core.specs.TurnConditions.{cell_freed, is_decided, words_held}
-use Rattle.mk_core.specs.Accesses.{caller_number, register_met, reg_access}
-use Rattle.mk_core.specs.Allocations.{PlacedAllocation, placed_at, never_granted, is_mapped, storage_of, cell_of_allocation, stands_in, freed_where_it_stands, with_released, no_longer_fresh, granted}
+use Rattle.mk_core.specs.TurnConditions.{cell_freed}
+use Rattle.mk_core.specs.Allocations.{PlacedAllocation, placed_at, is_mapped, storage_of, cell_of_allocation, stands_in, freed_where_it_stands, with_released, no_longer_fresh, granted}
 use Rattle.mk_core.specs.StandingAllocations.{object_placed}
 use Rattle.mk_core.specs.Effects.{run_of_cell}
-use Rattle.mk_core.specs.History.{World, world_behind, call_decided}
-use Rattle.mk_core.proofs.AllBelow.{all_below-at}
+use Rattle.mk_core.specs.History.{World, world_behind}
 use Rattle.mk_core.proofs.BitsWithout.{has_bit_without}
 use Rattle.mk_core.proofs.ChangedAllocations.{changed_at, earlier_at, freed_leaves}
-use Rattle.mk_core.proofs.PageSteps.{ItCarves, ItUnmaps, ItEmpties, head_step, ItTakes, ItGivesBack, GivesBack, used_step, ItFrees, ItTakesSnapshot, ItDrops, Drops, quarantine_step, wiped_cell}
 use Rattle.mk_core.proofs.PlacesNow.{freed_cell}
 use Rattle.mk_core.proofs.PointedAllocations.{released_where_left}
-use Rattle.mk_core.proofs.RegisterAccesses.{LeavesTable, register_leaves, tally_leaves}
-use Rattle.mk_core.proofs.Sizes.{small_cells, class_known, large_words, large_is_not_small, small_words_within}
+use Rattle.mk_core.proofs.Sizes.{small_cells, class_known, large_words, large_is_not_small}
 use Rattle.mk_core.proofs.StandingAllocations.{typed_size, run_begins, first_page_shows, cells_begin, cell_ends_within, placed_cell, run_cell}
-use Rattle.mk_protocol.specs.Protocol.{is_decided_free_at}
-use Rattle.mk_protocol.proofs.Views.{view_of, HoldsTurn}
 use Rattle.mk_protocol.proofs.Actors.{Meets}
-use Rattle.mk_protocol.proofs.SameWords.{Behind}
-use Rattle.mk_protocol.proofs.HeaderSteps.{page_set, used_set}
-use Rattle.mk_images.specs.ImagesSay.{IsMappedWord}
 use Rattle.mk_images.specs.OthersSay.{run_of_allocation, IsLaidOut, OthersSay}
-use Rattle.mk_images.specs.ZeroWords.{IsReleasedWord, MayHold, OfMapped, OfReleased, OfFreedRun}
+use Rattle.mk_images.specs.ZeroWords.{MayHold, OfMapped, OfReleased, OfFreedRun}
 use Rattle.mk_images.specs.Mirrors.{Mirrors}
 use Rattle.mk_images.proofs.KnownWorlds.{KnownWorld}
 use Rattle.mk_images.proofs.Kept.{exists_placed}
 use Rattle.mk_images.proofs.Stands.{unreleased_of, kept_of, Stands, stands_of, is_gone, large_object}
-use Rattle.mk_images.proofs.Freeing.{frees_run}
-use Rattle.mk_images.proofs.FreedRuns.{event_of}
+use Rattle.mk_images.proofs.FreeingSteps.{event_of}
 use Rattle.mk_images.proofs.Saying.{target_cell}
-use Rattle.mk_images.proofs.GoneRuns.{bare_word, gone_is, holds, stored_at}
 
 -- cells of two words or more are at most 32
 few_cells : (words k : ℕ) → 2 ≤ words → k < 64 / words → k < 32
@@ -104,7 +68,8 @@ module _ (c : Config) (w : World) (n : NeverState) (known : KnownWorld c w) (oth
       OfMapped i (subst (λ (x : PlacedAllocation). is_mapped c x ≡ true) (sym e) mapped) (subst (λ (x : PlacedAllocation). IsWordOf (storage_of c x) m) (sym e) is)
 
   -- the cell that a Free frees is that of the allocation that stands there
-  freed_is : (seat : Seat) (p v : ℕ) (cell : Cell) (i : ℕ) → cell_freed c.pages w.now.words (flight_of w.now seat) p v ≡ Some cell → stands_in w.now.words cell (placed_at w.allocations i) ≡ true
+  freed_is : (seat : Seat) (p v : ℕ) (cell : Cell) (i : ℕ) → cell_freed c.pages w.now.words (flight_of w.now seat) p v ≡ Some cell
+      → stands_in w.now.words cell (placed_at w.allocations i) ≡ true
       → cell ≡ cell_of_allocation c (placed_at w.allocations i)
   freed_is seat p v cell i e stands =
       let parts = and_parts (not (placed_at w.allocations i).released) ((placed_at w.allocations i).base == first_word w.now.words cell) stands in
@@ -163,7 +128,8 @@ module _ (c : Config) (w : World) (n : NeverState) (known : KnownWorld c w) (oth
           by_standing true s = elim (cases_Bool (is_large (kinds_of c.types a.ty))) [
             | inl large ↦ run_freed large s
             | inr small ↦
-                of_placed behind i m (record a { freed = true; fresh = true }) (changed (Some cell) e ∙ ap (λ (b : Bool). if b then record a { freed = true; fresh = true } else a) s)
+                of_placed behind i m (record a { freed = true; fresh = true })
+                (changed (Some cell) e ∙ ap (λ (b : Bool). if b then record a { freed = true; fresh = true } else a) s)
                 (ap (λ b. not b && not (true && is_large (kinds_of c.types a.ty))) u ∙ ap (λ b. not b) small) is
           ]
 
@@ -247,7 +213,8 @@ module _ (c : Config) (w : World) (n : NeverState) (known : KnownWorld c w) (oth
               let within : k < 64 / class_words_of (class_made (object_placed c a)) = subst (λ x. k < x) (small_cells (object_placed c a) s) lt in
               few_cells (class_words_of (class_made (object_placed c a))) k range.0 within
 
-  pub mapped_stays : (seat : Seat) (x : Step) → Meets c w.now seat x → (i m : ℕ) → is_mapped c (placed_at w.allocations i) ≡ true → IsWordOf (storage_of c (placed_at w.allocations i)) m
+  pub mapped_stays : (seat : Seat) (x : Step) → Meets c w.now seat x → (i m : ℕ) → is_mapped c (placed_at w.allocations i) ≡ true
+      → IsWordOf (storage_of c (placed_at w.allocations i)) m
       → MayHold c (world_behind c w (event_of seat x)) m
   mapped_stays seat step.Grant h i m mapped is =
       let lt = exists_placed w.allocations i (unreleased_of (placed_at w.allocations i).released (is_gone c (placed_at w.allocations i)) mapped) in
@@ -257,4 +224,3 @@ module _ (c : Config) (w : World) (n : NeverState) (known : KnownWorld c w) (oth
       of_placed (world_behind c w (event_of seat step.Begin)) i m (no_longer_fresh (placed_at w.allocations i)) (changed_at no_longer_fresh w.allocations i refl) mapped is
   mapped_stays seat step.Release h i m mapped is = released_mapped seat i m (eqb-true (phase_of w.now.words) 3 h.phase) mapped is
   mapped_stays seat _ h i m mapped is = OfMapped i mapped is
-

@@ -1,84 +1,46 @@
 -- A word of a released cell behind an event: the cell is released and used still, up to the end of releasing.
-use Rattle.std.proofs.Common.{◌≡◌, ◌≢◌, ◌⊎◌, ℕ, ◌+◌, ◌-◌, ◌*◌, ◌/◌, ◌%◌, ◌^◌, ◌<◌, ◌≤◌, Bool, true, false, List, [], ◌∷◌, ◌++◌, length, map, refl, sym, ap, subst, ◌∙◌, inl, inr, arith, le_refl}
-use Rattle.std.specs.Prelude.{slice_index, slice_index_or, slice_set, ◌&&◌, ◌||◌, ◌==◌, not, nat_le, nat_lt, if◌then◌else◌, bit_and, Option, Some, None, is_some}
-use Rattle.std.proofs.lemmas.Bool.{cases_Bool, cases_eq, cases_lt, and_parts, and_from, eqb-true, eq-eqb, or_cases, not-true, leb-true, ltb-true, le-leb, lt-ltb, false≢true, true≢false}
-use Rattle.std.proofs.lemmas.List.{get_or-set_same, get_or-set_other, get_or_past}
-use Rattle.std.proofs.lemmas.Nat.{and_comm, mul-le}
-use Rattle.mk_never.specs.declared.operations.Op.{Op}
+use Rattle.std.proofs.Common.{◌≡◌, ◌≢◌, ℕ, ◌+◌, ◌-◌, ◌*◌, ◌/◌, ◌%◌, ◌^◌, ◌<◌, ◌≤◌, Bool, true, false, List, length, refl, sym, ap, subst, ◌∙◌, inl, inr, arith}
+use Rattle.std.specs.Prelude.{slice_index, slice_index_or, slice_set, ◌&&◌, ◌==◌, not, bit_and, Option, Some, None, is_some}
+use Rattle.std.proofs.lemmas.Bool.{cases_Bool, cases_eq, cases_lt, and_parts, and_from, eqb-true, eq-eqb, or_cases, false≢true, true≢false}
+use Rattle.std.proofs.lemmas.List.{get_or-set_other, get_or_past}
+use Rattle.std.proofs.lemmas.Nat.{and_comm}
 use Rattle.mk_never.specs.NeverHeap.{NeverState}
-use Rattle.mk_never.specs.Admitted.{AreAdmitted}
-use Rattle.mk_never.specs.Types.{kinds_of, is_large}
 use Rattle.mk_never.proofs.Edits.{set_by}
 use Rattle.mk_geom.specs.declared.addresses.Cell.{Cell}
 use Rattle.mk_geom.specs.declared.headers.Header.{Header}
 use Rattle.mk_geom.specs.declared.headers.Header.TheVariants.{Block, LeafBlock, Run, LeafRun, Later}
 use Rattle.mk_geom.specs.declared.pages.Page.{Page}
 use Rattle.mk_geom.specs.Addresses.{head_page_under}
-use Rattle.mk_geom.specs.Classes.{class_words_of}
 use Rattle.mk_geom.specs.Headers.{header_of}
-use Rattle.mk_geom.proofs.ClassTable.{class_words_within, cell_ends}
-use Rattle.mk_geom.specs.PageUses.{or_else}
 use Rattle.mk_geom.specs.Storages.{free_page}
-use Rattle.mk_geom.specs.StorageWords.{IsWordOf}
 use Rattle.mk_core.specs.declared.config.Config.{Config}
-use Rattle.mk_core.specs.declared.events.Event.{Event}
-use Rattle.mk_core.specs.declared.events.Group.TheVariants as group
 use Rattle.mk_core.specs.declared.events.Seat.{Seat}
 use Rattle.mk_core.specs.declared.events.Seat.TheVariants.{Caller, Marker, Host}
 use Rattle.mk_core.specs.declared.events.Step.{Step}
 use Rattle.mk_core.specs.declared.events.Step.TheVariants as step
-use Rattle.mk_core.specs.declared.seats.Stage.{Stage}
-use Rattle.mk_core.specs.declared.seats.Stage.TheVariants as stage
 use Rattle.mk_core.specs.declared.seats.Presence.{Presence}
-use Rattle.mk_core.specs.declared.seats.Flight.{Flight}
-use Rattle.mk_core.specs.declared.seats.Holding.{Holding}
-use Rattle.mk_core.specs.declared.seats.Marker.{Marker as MarkerState}
-use Rattle.mk_core.specs.declared.seats.Object.{Object}
-use Rattle.mk_core.specs.declared.seats.RunPages.{RunPages}
 use Rattle.mk_core.specs.declared.seats.SeenHeader.{SeenHeader}
 use Rattle.mk_core.specs.Bits.{has_bit, without}
 use Rattle.mk_core.specs.Words.{Words, header_at, used_at, phase_of}
-use Rattle.mk_core.specs.Bounded.{is_some_and}
-use Rattle.mk_core.specs.Calls.{at_rest, word_met}
-use Rattle.mk_core.specs.Cells.{first_word, cell_words, words_under, header_in, head_page, run_headed, is_used, is_released, is_left_unmarked, left_unmarked, is_in_run, words_are_zero, none_is_left_unmarked}
-use Rattle.mk_core.specs.Decided.{asked}
-use Rattle.mk_core.specs.Moments.{flight_of, marker_at, marker_of, is_phase, nothing_done, outside}
+use Rattle.mk_core.specs.Cells.{first_word, cell_words, words_under, header_in, head_page, is_used, is_released, is_left_unmarked, left_unmarked, none_is_left_unmarked}
+use Rattle.mk_core.specs.Moments.{flight_of, marker_at, marker_of, is_phase}
 use Rattle.mk_core.specs.MarkerConditions.{cell_seen}
-use Rattle.mk_core.specs.NewPlaces.{class_made, is_small_object, pages_made, is_run_gone, is_undecided_free, is_free_at}
-use Rattle.mk_core.specs.ObjectHeaders.{cells_made, ShowsPart, OfBlock, OfLeafBlock, OfRun, OfLeafRun, OfLater}
-use Rattle.mk_core.specs.StopConditions.{is_attending, has_settled_page, may_end}
+use Rattle.mk_core.specs.StopConditions.{is_attending, has_settled_page}
 use Rattle.mk_core.specs.Order.{host_has_turn}
-use Rattle.mk_core.specs.TurnConditions.{cell_freed, is_decided, words_held}
 use Rattle.mk_core.specs.Accesses.{caller_number, register_met, reg_access}
-use Rattle.mk_core.specs.Allocations.{PlacedAllocation, placed_at, never_granted, is_mapped, storage_of, cell_of_allocation, stands_in, freed_where_it_stands, with_released, no_longer_fresh, granted}
-use Rattle.mk_core.specs.StandingAllocations.{object_placed}
-use Rattle.mk_core.specs.Effects.{run_of_cell}
-use Rattle.mk_core.specs.History.{World, world_behind, call_decided}
+use Rattle.mk_core.specs.History.{World}
 use Rattle.mk_core.proofs.AllBelow.{all_below-at}
 use Rattle.mk_core.proofs.BitsWithout.{has_bit_without}
-use Rattle.mk_core.proofs.ChangedAllocations.{changed_at, earlier_at, freed_leaves}
 use Rattle.mk_core.proofs.PageSteps.{ItCarves, ItUnmaps, ItEmpties, head_step, ItTakes, ItGivesBack, GivesBack, used_step, ItFrees, ItTakesSnapshot, ItDrops, Drops, quarantine_step, wiped_cell}
-use Rattle.mk_core.proofs.PlacesNow.{freed_cell}
-use Rattle.mk_core.proofs.PointedAllocations.{released_where_left}
 use Rattle.mk_core.proofs.RegisterAccesses.{LeavesTable, register_leaves, tally_leaves}
-use Rattle.mk_core.proofs.Sizes.{small_cells, class_known, large_words, large_is_not_small, small_words_within}
-use Rattle.mk_core.proofs.StandingAllocations.{typed_size, run_begins, first_page_shows, cells_begin, cell_ends_within, placed_cell, run_cell}
-use Rattle.mk_protocol.specs.Protocol.{is_decided_free_at}
-use Rattle.mk_protocol.proofs.Views.{view_of, HoldsTurn}
 use Rattle.mk_protocol.proofs.Actors.{Meets}
 use Rattle.mk_protocol.proofs.SameWords.{Behind}
-use Rattle.mk_protocol.proofs.HeaderSteps.{page_set, used_set}
-use Rattle.mk_images.specs.ImagesSay.{IsMappedWord}
-use Rattle.mk_images.specs.OthersSay.{run_of_allocation, IsLaidOut, OthersSay}
-use Rattle.mk_images.specs.ZeroWords.{IsReleasedWord, MayHold, OfMapped, OfReleased, OfFreedRun}
+use Rattle.mk_protocol.proofs.HeaderSteps.{used_set}
+use Rattle.mk_images.specs.OthersSay.{OthersSay}
+use Rattle.mk_images.specs.ZeroWords.{IsReleasedWord}
 use Rattle.mk_images.specs.Mirrors.{Mirrors}
 use Rattle.mk_images.proofs.KnownWorlds.{KnownWorld}
-use Rattle.mk_images.proofs.Kept.{exists_placed}
-use Rattle.mk_images.proofs.Stands.{Stands, stands_of, is_gone, large_object}
-use Rattle.mk_images.proofs.Freeing.{frees_run}
-use Rattle.mk_images.proofs.FreedRuns.{event_of}
-use Rattle.mk_images.proofs.Saying.{target_cell}
-use Rattle.mk_images.proofs.GoneRuns.{bare_word, gone_is, holds, stored_at}
+use Rattle.mk_images.proofs.GoneRuns.{bare_word}
 
 -- bits that stay in a word when others are taken out
 
@@ -180,8 +142,10 @@ module _ (c : Config) (w : World) (n : NeverState) (known : KnownWorld c w) (oth
         | inr out ↦
             let here : has_bit (used_at w.now.words p) cell.index ≡ true = ap (λ q. has_bit (used_at w.now.words q) cell.index) (sym e) ∙ r.used in
             let wiped = wiped_cell w.now.words p (used_at w.now.words p - v) cell.index g.wiped r.index (lost_bit (used_at w.now.words p) v cell.index g.fewer here out) in
-            let first : first_word w.now.words (record { page = p; index = cell.index }) ≡ first_word w.now.words cell = ap (λ q. first_word w.now.words (record { page = q; index = cell.index })) (sym e) in
-            let words : cell_words w.now.words (record { page = p; index = cell.index }) ≡ cell_words w.now.words cell = ap (λ q. cell_words w.now.words (record { page = q; index = cell.index })) (sym e) in
+            let first : first_word w.now.words (record { page = p; index = cell.index }) ≡ first_word w.now.words cell =
+            ap (λ q. first_word w.now.words (record { page = q; index = cell.index })) (sym e) in
+            let words : cell_words w.now.words (record { page = p; index = cell.index }) ≡ cell_words w.now.words cell =
+            ap (λ q. cell_words w.now.words (record { page = q; index = cell.index })) (sym e) in
             let low = r.low in
             let high = r.high in
             let there : first_word w.now.words (record { page = p; index = cell.index }) + (m - first_word w.now.words cell) ≡ m = omega arith in
@@ -191,7 +155,8 @@ module _ (c : Config) (w : World) (n : NeverState) (known : KnownWorld c w) (oth
       ]
 
       used : has_bit (slice_index_or (slice_set w.now.words.pages p (record { header = header_at w.now.words p; used = v })) cell.page free_page).used cell.index ≡ true
-      used = set_by (λ (y : Page). has_bit y.used cell.index ≡ true) w.now.words.pages p cell.page (record { header = header_at w.now.words p; used = v }) free_page (λ e. stays e) r.used
+      used = set_by (λ (y : Page). has_bit y.used cell.index ≡ true) w.now.words.pages p cell.page (record { header = header_at w.now.words p; used = v }) free_page
+          (λ e. stays e) r.used
 
   dropped : (cell : Cell) (m p v : ℕ) → Drops w.now.words p (v % 2 ^ 32) (v / 2 ^ 32) → IsReleasedWord w.now.words cell m
       → IsReleasedWord (record w.now.words { freed = slice_set w.now.words.freed p (v % 2 ^ 32); snapshot = slice_set w.now.words.snapshot p (v / 2 ^ 32) }) cell m
@@ -274,4 +239,3 @@ module _ (c : Config) (w : World) (n : NeverState) (known : KnownWorld c w) (oth
       left_alike w.now.words _ cell m (register_leaves w.now.words (caller_number seat) (register_met f f.stage) (reg_access f f.stage)) r
   released_stays seat (step.Tally t v) h cell m ne r = left_alike w.now.words _ cell m (tally_leaves w.now.words t v) r
   released_stays seat _ h cell m ne r = alike w.now.words _ cell m refl r.released r.used r
-

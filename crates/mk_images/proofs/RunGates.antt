@@ -1,69 +1,42 @@
 -- While a Free unmaps its run, the gates of all others are held.
-use Rattle.std.proofs.Common.{◌≡◌, ◌≢◌, ◌⊎◌, ℕ, zero, suc, ◌+◌, ◌-◌, ◌*◌, ◌/◌, ◌^◌, ◌<◌, ◌≤◌, Bool, true, false, List, refl, sym, ap, subst, ◌∙◌, inl, inr, arith}
-use Rattle.std.specs.Prelude.{slice_index, slice_index_or, slice_set, ◌&&◌, ◌||◌, ◌==◌, not, nat_le, nat_lt, if◌then◌else◌, Option, Some, None}
-use Rattle.std.proofs.lemmas.Bool.{cases_Bool, cases_eq, and_parts, and_from, eqb-true, eq-eqb, ne_eqb, or_cases, not-true, leb-true, ltb-true, false≢true, true≢false}
+use Rattle.std.proofs.Common.{◌≡◌, ◌≢◌, ℕ, ◌+◌, ◌<◌, true, false, List, refl, sym, ap, ◌∙◌, inl, inr, arith}
+use Rattle.std.specs.Prelude.{slice_index, slice_set, ◌==◌, not, if◌then◌else◌, Option, Some, None}
+use Rattle.std.proofs.lemmas.Bool.{cases_Bool, cases_eq, ne_eqb, or_cases, not-true, ltb-true, false≢true, true≢false}
 use Rattle.std.proofs.lemmas.List.{get_or-set_other, set-get_or}
-use Rattle.std.proofs.lemmas.Nat.Bits.{bit_at-zero}
 use Rattle.mk_never.specs.NeverHeap.{NeverState}
 use Rattle.mk_never.specs.Admitted.{AreAdmitted}
-use Rattle.mk_never.proofs.Edits.{set_by}
 use Rattle.mk_geom.specs.declared.addresses.Cell.{Cell}
-use Rattle.mk_geom.specs.declared.pages.Page.{Page}
-use Rattle.mk_geom.specs.declared.pages.Place.{Place}
-use Rattle.mk_geom.specs.Addresses.{head_page_under}
-use Rattle.mk_geom.specs.Headers.{header_of}
-use Rattle.mk_geom.specs.Storages.{free_page}
 use Rattle.mk_core.specs.declared.config.Config.{Config}
 use Rattle.mk_core.specs.declared.events.Event.{Event}
-use Rattle.mk_core.specs.declared.events.Group.TheVariants as group
 use Rattle.mk_core.specs.declared.events.Seat.{Seat}
 use Rattle.mk_core.specs.declared.events.Seat.TheVariants.{Caller, Marker, Host}
 use Rattle.mk_core.specs.declared.events.Step.{Step}
 use Rattle.mk_core.specs.declared.events.Step.TheVariants as step
-use Rattle.mk_core.specs.declared.seats.Flight.{Flight}
 use Rattle.mk_core.specs.declared.seats.Holding.{Holding}
 use Rattle.mk_core.specs.declared.seats.RunPages.{RunPages}
-use Rattle.mk_core.specs.Bits.{has_bit}
-use Rattle.mk_core.specs.Bounded.{all_below}
-use Rattle.mk_core.specs.Words.{Words, header_at, used_at}
-use Rattle.mk_core.specs.Calls.{word_met}
-use Rattle.mk_core.specs.Cells.{is_used, header_in, head_page, is_unmapped_header, words_are_zero}
+use Rattle.mk_core.specs.Cells.{header_in}
 use Rattle.mk_core.specs.Decided.{asked}
-use Rattle.mk_core.specs.Moments.{Moment, flight_of, holder_number, others_are_held, is_phase}
-use Rattle.mk_core.specs.NewPlaces.{object_made, pages_made, stands, unmapped_header, target, is_run_unmapped, is_run_gone, is_undecided_new}
-use Rattle.mk_core.specs.Order.{group_of, is_open_to}
+use Rattle.mk_core.specs.Moments.{flight_of, holder_number, others_are_held}
+use Rattle.mk_core.specs.NewPlaces.{target, is_run_gone}
 use Rattle.mk_core.specs.Ranges.{is_run_cell}
-use Rattle.mk_core.specs.TurnConditions.{place_now, carves, unmaps, empties, cell_freed}
+use Rattle.mk_core.specs.TurnConditions.{cell_freed}
 use Rattle.mk_core.specs.Accesses.{caller_number, register_met, reg_access}
-use Rattle.mk_core.specs.Allocations.{placed_at, cell_of_allocation}
-use Rattle.mk_core.specs.StandingAllocations.{object_placed}
 use Rattle.mk_core.specs.Effects.{run_of_cell}
 use Rattle.mk_core.specs.History.{World, world_behind, call_decided}
-use Rattle.mk_core.proofs.AllBelow.{all_below-at}
 use Rattle.mk_core.proofs.PlacesNow.{freed_cell}
-use Rattle.mk_core.proofs.Sizes.{large_count}
-use Rattle.mk_core.proofs.ObjectHeaders.{part_head, unmapped_shows, unmapped_is_unmapped}
-use Rattle.mk_core.proofs.RegisterAccesses.{register_leaves, tally_leaves}
-use Rattle.mk_core.proofs.StandingAllocations.{typed_size, run_cell}
 use Rattle.mk_protocol.proofs.Standings.{InCall}
 use Rattle.mk_protocol.proofs.Views.{view_of, HoldsTurn}
 use Rattle.mk_protocol.proofs.Orderly.{turn_of, shows_at}
-use Rattle.mk_protocol.proofs.Actors.{Meets, Actor, InCallOf, AsMarker, CallTakes, HostTakes, AsHolder}
-use Rattle.mk_protocol.proofs.OrderlyLists.{not_astray, actor_of}
+use Rattle.mk_protocol.proofs.Actors.{Meets}
+use Rattle.mk_protocol.proofs.OrderlyLists.{not_astray}
 use Rattle.mk_protocol.proofs.Stages.{is_call_stage, calls_stand}
-use Rattle.mk_protocol.proofs.NextSteps.{is_take, at_its_stage}
+use Rattle.mk_protocol.proofs.NextSteps.{at_its_stage}
 use Rattle.mk_protocol.proofs.Asked.{others_held}
-use Rattle.mk_protocol.proofs.HoldersSteps.{placed_new}
 use Rattle.mk_protocol.proofs.SameWords.{Behind, reg_keeps, tally_keeps}
-use Rattle.mk_protocol.proofs.HeaderSteps.{page_set, used_set}
-use Rattle.mk_images.specs.ImagesSay.{IsMappedWord}
 use Rattle.mk_images.specs.OthersSay.{OthersSay}
 use Rattle.mk_images.specs.Mirrors.{Mirrors, RunIsAlone}
 use Rattle.mk_images.proofs.KnownWorlds.{KnownWorld}
-use Rattle.mk_images.proofs.Stands.{Stands, stands_of, is_gone}
-use Rattle.mk_images.proofs.Freeing.{new_frees_none}
-use Rattle.mk_images.proofs.FreedRuns.{event_of, freed_behind, gives, WasFreed, Before, Now, was_freed, headed}
-use Rattle.mk_images.proofs.Saying.{stored_word}
+use Rattle.mk_images.proofs.FreeingSteps.{event_of, freed_behind, gives, WasFreed, Before, Now, was_freed, headed}
 use Rattle.mk_images.proofs.GoneRuns.{gone_is, gone_from, holds, gone_stays}
 
 -- a gate that is held stays so where a seat exchanges 0 there, and where it isn't the one that is set
@@ -72,7 +45,8 @@ held_exchanged : (gs : List ℕ) (j k v : ℕ) → slice_index gs k ≡ 2 → sl
 held_exchanged gs j k v two = elim (cases_eq k j) [
   | inl e ↦
       let here : slice_index gs j ≡ 2 = ap (slice_index gs) (sym e) ∙ two in
-      let same : (if slice_index gs j == 0 then v else slice_index gs j) ≡ slice_index gs j = ap (λ b. if b then v else slice_index gs j) (ne_eqb (slice_index gs j) 0 (λ z. absurd (omega arith))) in
+      let same : (if slice_index gs j == 0 then v else slice_index gs j) ≡ slice_index gs j =
+      ap (λ b. if b then v else slice_index gs j) (ne_eqb (slice_index gs j) 0 (λ z. absurd (omega arith))) in
       ap (λ y. slice_index (slice_set gs j y) k) same ∙ ap (λ (xs : List ℕ). slice_index xs k) (set-get_or gs j 0) ∙ two
   | inr ne ↦ get_or-set_other gs j k _ 0 ne ∙ two
 ]
@@ -139,7 +113,8 @@ module _ (c : Config) (w : World) (n : NeverState) (known : KnownWorld c w) (oth
   alone_by seat x h ad run (Before old g) not_gone k lt turn =
       let taken : w.now.words.turn ≢ 0 = λ z. none_is_some run (ap (λ (y : Holding). y.freed) (sym (known.now.orderly.free z)) ∙ old) in
       elim (cases_Bool (is_run_gone w.now.words (Some run))) [
-        | inl gone ↦ absurd (true≢false (sym (gone_from (Behind c w.now seat x).words run (gone_stays c w n known others mirrors run old (gone_is w.now.words run gone) seat x h ad)) ∙ not_gone))
+        | inl gone ↦ absurd (true≢false
+            (sym (gone_from (Behind c w.now seat x).words run (gone_stays c w n known others mirrors run old (gone_is w.now.words run gone) seat x h ad)) ∙ not_gone))
         | inr yet ↦
             let still : is_run_gone w.now.words w.now.seats.holding.freed ≡ false = ap (is_run_gone w.now.words) old ∙ yet in
             held_stays seat x k h still (mirrors.alone still k lt (λ e. turn (turn_stays seat x g taken ∙ e)))
@@ -153,7 +128,8 @@ module _ (c : Config) (w : World) (n : NeverState) (known : KnownWorld c w) (oth
       → RunIsAlone c (world_behind c w (event_of seat x))
   alone_behind seat x h ad = by (freed_behind c w seat (flight_of w.now seat) x) refl
     where
-      by : (freed : Option RunPages) → freed_behind c w seat (flight_of w.now seat) x ≡ freed → is_run_gone (Behind c w.now seat x).words (freed_behind c w seat (flight_of w.now seat) x) ≡ false
+      by : (freed : Option RunPages) → freed_behind c w seat (flight_of w.now seat) x ≡ freed
+          → is_run_gone (Behind c w.now seat x).words (freed_behind c w seat (flight_of w.now seat) x) ≡ false
           → (k : ℕ) → k < c.callers → (Behind c w.now seat x).words.turn ≢ 1 + k → slice_index (Behind c w.now seat x).words.gates k ≡ 2
       by None e not_gone = absurd (true≢false (ap (is_run_gone (Behind c w.now seat x).words) (sym e) ∙ not_gone))
       by (Some run) e not_gone =

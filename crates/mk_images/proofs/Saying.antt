@@ -46,7 +46,8 @@ use Rattle.mk_images.specs.OthersSay.{OthersSay}
 use Rattle.mk_images.specs.Mirrors.{Mirrors}
 use Rattle.mk_images.specs.ImagesSay.{IsCellOfUnreleased, IsMappedWord, ImagesSay}
 use Rattle.mk_images.proofs.KnownWorlds.{KnownWorld}
-use Rattle.mk_images.proofs.Kept.{own_plain, exists_placed}
+use Rattle.mk_images.proofs.KeptCalls.{own_plain}
+use Rattle.mk_images.proofs.Kept.{exists_placed}
 use Rattle.mk_images.proofs.Stands.{Stands, stands_of, is_gone}
 use Rattle.mk_images.proofs.Ready.{Ready}
 use Rattle.mk_images.proofs.Reached.{Reaches, reaches}

@@ -1,84 +1,47 @@
 -- All words of the heap are 0 but those that may hold something: kept by each event.
-use Rattle.std.proofs.Common.{◌≡◌, ◌≢◌, ◌⊎◌, ℕ, ◌+◌, ◌-◌, ◌*◌, ◌/◌, ◌%◌, ◌^◌, ◌<◌, ◌≤◌, Bool, true, false, List, [], ◌∷◌, ◌++◌, length, map, refl, sym, ap, subst, ◌∙◌, inl, inr, arith, le_refl}
-use Rattle.std.specs.Prelude.{slice_index, slice_index_or, slice_set, ◌&&◌, ◌||◌, ◌==◌, not, nat_le, nat_lt, if◌then◌else◌, bit_and, Option, Some, None, is_some}
-use Rattle.std.proofs.lemmas.Bool.{cases_Bool, cases_eq, cases_lt, and_parts, and_from, eqb-true, eq-eqb, or_cases, not-true, leb-true, ltb-true, le-leb, lt-ltb, false≢true, true≢false}
-use Rattle.std.proofs.lemmas.List.{get_or-set_same, get_or-set_other, get_or_past}
-use Rattle.std.proofs.lemmas.Nat.{and_comm, mul-le}
+use Rattle.std.proofs.Common.{◌≡◌, ◌≢◌, ◌⊎◌, ℕ, ◌+◌, ◌-◌, ◌*◌, ◌/◌, Bool, true, false, List, refl, sym, ap, subst, ◌∙◌, inl, inr, arith}
+use Rattle.std.specs.Prelude.{slice_index, ◌&&◌, ◌==◌, nat_le, nat_lt, if◌then◌else◌, Option, Some, None}
+use Rattle.std.proofs.lemmas.Bool.{cases_eq, and_parts, eqb-true, leb-true, ltb-true, false≢true}
+use Rattle.std.proofs.lemmas.List.{get_or-set_other}
 use Rattle.mk_never.specs.declared.operations.Op.{Op}
 use Rattle.mk_never.specs.NeverHeap.{NeverState}
 use Rattle.mk_never.specs.Admitted.{AreAdmitted}
-use Rattle.mk_never.specs.Types.{kinds_of, is_large}
 use Rattle.mk_never.proofs.Edits.{set_by}
 use Rattle.mk_geom.specs.declared.addresses.Cell.{Cell}
-use Rattle.mk_geom.specs.declared.headers.Header.{Header}
-use Rattle.mk_geom.specs.declared.headers.Header.TheVariants.{Block, LeafBlock, Run, LeafRun, Later}
-use Rattle.mk_geom.specs.declared.pages.Page.{Page}
-use Rattle.mk_geom.specs.Addresses.{head_page_under}
-use Rattle.mk_geom.specs.Classes.{class_words_of}
-use Rattle.mk_geom.specs.Headers.{header_of}
-use Rattle.mk_geom.proofs.ClassTable.{class_words_within, cell_ends}
 use Rattle.mk_geom.specs.PageUses.{or_else}
-use Rattle.mk_geom.specs.Storages.{free_page}
-use Rattle.mk_geom.specs.StorageWords.{IsWordOf}
 use Rattle.mk_core.specs.declared.config.Config.{Config}
 use Rattle.mk_core.specs.declared.events.Event.{Event}
-use Rattle.mk_core.specs.declared.events.Group.TheVariants as group
 use Rattle.mk_core.specs.declared.events.Seat.{Seat}
 use Rattle.mk_core.specs.declared.events.Seat.TheVariants.{Caller, Marker, Host}
 use Rattle.mk_core.specs.declared.events.Step.{Step}
 use Rattle.mk_core.specs.declared.events.Step.TheVariants as step
 use Rattle.mk_core.specs.declared.seats.Stage.{Stage}
 use Rattle.mk_core.specs.declared.seats.Stage.TheVariants as stage
-use Rattle.mk_core.specs.declared.seats.Presence.{Presence}
-use Rattle.mk_core.specs.declared.seats.Flight.{Flight}
 use Rattle.mk_core.specs.declared.seats.Holding.{Holding}
-use Rattle.mk_core.specs.declared.seats.Marker.{Marker as MarkerState}
-use Rattle.mk_core.specs.declared.seats.Object.{Object}
 use Rattle.mk_core.specs.declared.seats.RunPages.{RunPages}
-use Rattle.mk_core.specs.declared.seats.SeenHeader.{SeenHeader}
-use Rattle.mk_core.specs.Bits.{has_bit, without}
-use Rattle.mk_core.specs.Words.{Words, header_at, used_at, phase_of}
-use Rattle.mk_core.specs.Bounded.{is_some_and}
-use Rattle.mk_core.specs.Calls.{at_rest, word_met}
-use Rattle.mk_core.specs.Cells.{first_word, cell_words, words_under, header_in, head_page, run_headed, is_used, is_released, is_left_unmarked, left_unmarked, is_in_run, words_are_zero, none_is_left_unmarked}
+use Rattle.mk_core.specs.Calls.{word_met}
+use Rattle.mk_core.specs.Cells.{is_in_run}
 use Rattle.mk_core.specs.Decided.{asked}
-use Rattle.mk_core.specs.Moments.{flight_of, marker_at, marker_of, is_phase, nothing_done, outside}
-use Rattle.mk_core.specs.MarkerConditions.{cell_seen}
-use Rattle.mk_core.specs.NewPlaces.{class_made, is_small_object, pages_made, is_run_gone, is_undecided_free, is_free_at}
-use Rattle.mk_core.specs.ObjectHeaders.{cells_made, ShowsPart, OfBlock, OfLeafBlock, OfRun, OfLeafRun, OfLater}
-use Rattle.mk_core.specs.StopConditions.{is_attending, has_settled_page, may_end}
-use Rattle.mk_core.specs.Order.{host_has_turn}
+use Rattle.mk_core.specs.Moments.{flight_of, nothing_done}
+use Rattle.mk_core.specs.NewPlaces.{is_run_gone, is_undecided_free, is_free_at}
 use Rattle.mk_core.specs.TurnConditions.{cell_freed, is_decided, words_held}
 use Rattle.mk_core.specs.Accesses.{caller_number, register_met, reg_access}
-use Rattle.mk_core.specs.Allocations.{PlacedAllocation, placed_at, never_granted, is_mapped, storage_of, cell_of_allocation, stands_in, freed_where_it_stands, with_released, no_longer_fresh, granted}
-use Rattle.mk_core.specs.StandingAllocations.{object_placed}
 use Rattle.mk_core.specs.Effects.{run_of_cell}
 use Rattle.mk_core.specs.History.{World, world_behind, call_decided}
-use Rattle.mk_core.proofs.AllBelow.{all_below-at}
-use Rattle.mk_core.proofs.BitsWithout.{has_bit_without}
-use Rattle.mk_core.proofs.ChangedAllocations.{changed_at, earlier_at, freed_leaves}
-use Rattle.mk_core.proofs.PageSteps.{ItCarves, ItUnmaps, ItEmpties, head_step, ItTakes, ItGivesBack, GivesBack, used_step, ItFrees, ItTakesSnapshot, ItDrops, Drops, quarantine_step, wiped_cell}
 use Rattle.mk_core.proofs.PlacesNow.{freed_cell}
-use Rattle.mk_core.proofs.PointedAllocations.{released_where_left}
-use Rattle.mk_core.proofs.RegisterAccesses.{LeavesTable, register_leaves, tally_leaves}
-use Rattle.mk_core.proofs.Sizes.{small_cells, class_known, large_words, large_is_not_small, small_words_within}
-use Rattle.mk_core.proofs.StandingAllocations.{typed_size, run_begins, first_page_shows, cells_begin, cell_ends_within, placed_cell, run_cell}
+use Rattle.mk_core.proofs.RegisterAccesses.{register_leaves, tally_leaves}
 use Rattle.mk_protocol.specs.Protocol.{is_decided_free_at}
 use Rattle.mk_protocol.proofs.Views.{view_of, HoldsTurn}
 use Rattle.mk_protocol.proofs.Actors.{Meets}
 use Rattle.mk_protocol.proofs.SameWords.{Behind}
-use Rattle.mk_protocol.proofs.HeaderSteps.{page_set, used_set}
 use Rattle.mk_images.specs.ImagesSay.{IsMappedWord}
-use Rattle.mk_images.specs.OthersSay.{run_of_allocation, IsLaidOut, OthersSay}
-use Rattle.mk_images.specs.ZeroWords.{IsReleasedWord, MayHold, OfMapped, OfReleased, OfFreedRun}
+use Rattle.mk_images.specs.OthersSay.{OthersSay}
+use Rattle.mk_images.specs.ZeroWords.{MayHold, OfMapped, OfReleased, OfFreedRun}
 use Rattle.mk_images.specs.Mirrors.{Mirrors}
 use Rattle.mk_images.proofs.KnownWorlds.{KnownWorld}
-use Rattle.mk_images.proofs.Kept.{exists_placed}
-use Rattle.mk_images.proofs.Stands.{Stands, stands_of, is_gone, large_object}
 use Rattle.mk_images.proofs.Freeing.{frees_run}
-use Rattle.mk_images.proofs.FreedRuns.{event_of}
-use Rattle.mk_images.proofs.Saying.{target_cell}
-use Rattle.mk_images.proofs.GoneRuns.{bare_word, gone_is, holds, stored_at}
+use Rattle.mk_images.proofs.FreeingSteps.{event_of}
+use Rattle.mk_images.proofs.GoneRuns.{gone_is, holds, stored_at}
 use Rattle.mk_images.proofs.MappedWords.{mapped_stays}
 use Rattle.mk_images.proofs.ReleasedWords.{released_stays}
 
@@ -109,7 +72,8 @@ module _ (c : Config) (w : World) (n : NeverState) (known : KnownWorld c w) (oth
   -- A word of the run that a Free unmaps
 
   freed_seat : (seat : Seat) (run : RunPages) → HoldsTurn c (view_of w.now) seat → w.now.seats.holding.freed ≡ Some run → is_undecided_free (flight_of w.now seat) ≡ true → ⊥
-  freed_seat (Caller k) run hold e free = free_is_undecided (flight_of w.now (Caller k)).stage (flight_of w.now (Caller k)).op free (frees_run c w.now k run known.now.orderly hold e)
+  freed_seat (Caller k) run hold e free =
+      free_is_undecided (flight_of w.now (Caller k)).stage (flight_of w.now (Caller k)).op free (frees_run c w.now k run known.now.orderly hold e)
   freed_seat (Marker k) run hold e free = hold
   freed_seat Host run hold e free = false≢true free
 
@@ -121,9 +85,11 @@ module _ (c : Config) (w : World) (n : NeverState) (known : KnownWorld c w) (oth
       by true z = ap (λ (y : Holding). y.freed) (sym (known.now.orderly.free (eqb-true w.now.words.turn 0 z))) ∙ e
       by false z = e
   run_stays seat step.Give h m ne run e is =
-      let a = and_parts (is_decided (flight_of w.now seat).stage && is_run_gone w.now.words w.now.seats.holding.freed && (w.now.words.held == words_held w.now.words)) (w.now.words.fresh == w.now.fresh_words) h.holder in
+      let a = and_parts (is_decided (flight_of w.now seat).stage && is_run_gone w.now.words w.now.seats.holding.freed && (w.now.words.held == words_held w.now.words))
+      (w.now.words.fresh == w.now.fresh_words) h.holder in
       let b = and_parts (is_decided (flight_of w.now seat).stage && is_run_gone w.now.words w.now.seats.holding.freed) (w.now.words.held == words_held w.now.words) a.0 in
-      let gone = gone_is w.now.words run (ap (is_run_gone w.now.words) (sym e) ∙ (and_parts (is_decided (flight_of w.now seat).stage) (is_run_gone w.now.words w.now.seats.holding.freed) b.0).1) in
+      let gone = gone_is w.now.words run
+      (ap (is_run_gone w.now.words) (sym e) ∙ (and_parts (is_decided (flight_of w.now seat).stage) (is_run_gone w.now.words w.now.seats.holding.freed) b.0).1) in
       let inside = and_parts (nat_le run.page (m / 64)) (nat_lt (m / 64 - run.page) run.count) is in
       let low = leb-true run.page (m / 64) inside.0 in
       let high = ltb-true (m / 64 - run.page) run.count inside.1 in
@@ -135,7 +101,8 @@ module _ (c : Config) (w : World) (n : NeverState) (known : KnownWorld c w) (oth
           → or_else (run_of_cell w.now.words (cell_freed c.pages w.now.words (flight_of w.now seat) p v)) w.now.seats.holding.freed ≡ Some run
       by None none = ap (λ (y : Option Cell). or_else (run_of_cell w.now.words y) w.now.seats.holding.freed) none ∙ e
       by (Some cell) some =
-          absurd (freed_seat seat run (holds c w n known others mirrors seat (step.Quar p v) h refl refl) e (freed_cell c.pages w.now.words (flight_of w.now seat) p v cell some).free)
+          absurd (freed_seat seat run (holds c w n known others mirrors seat (step.Quar p v) h refl refl) e
+          (freed_cell c.pages w.now.words (flight_of w.now seat) p v cell some).free)
   run_stays seat _ h m ne run e is = OfFreedRun run e is
 
   stays : (seat : Seat) (x : Step) → Meets c w.now seat x → (m : ℕ) → slice_index w.now.words.heap m ≢ 0 → MayHold c w m → MayHold c (world_behind c w (event_of seat x)) m

@@ -1,4 +1,4 @@
--- What the images tell the layout, the quarantine and the zero words, in one world.
+-- What the images tell the other groups, in one world.
 use Rattle.std.specs.Prelude.{◌≡◌, ◌⊎◌, ℕ, true, false, Some}
 use Rattle.mk_never.specs.NeverHeap.{NeverState}
 use Rattle.mk_never.specs.Admitted.{AreAdmitted}
