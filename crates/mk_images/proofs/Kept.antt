@@ -177,8 +177,8 @@ new_words n ty = record { ty = ty; words = zero_words (kinds_of n.types ty); fre
 pub old_never : (n : NeverState) (ty b : ℕ) → b ≢ length n.allocations → allocation_at (with_new n ty) b ≡ allocation_at n b
 old_never n ty b ne = elim (cases_lt b (length n.allocations)) [
   | inl lt ↦ get_or_append_left n.allocations (new_words n ty ∷ []) no_allocation b lt
-  | inr le ↦ get_or_past (n.allocations ++ new_words n ty ∷ []) b no_allocation (omega (arith, length-append n.allocations (new_words n ty ∷ []))) ∙ sym
-      (get_or_past n.allocations b no_allocation le)
+  | inr le ↦ get_or_past (n.allocations ++ new_words n ty ∷ []) b no_allocation (omega (arith, length-append n.allocations (new_words n ty ∷ [])))
+      ∙ sym (get_or_past n.allocations b no_allocation le)
 ]
 
 pub new_never : (n : NeverState) (ty : ℕ) → allocation_at (with_new n ty) (length n.allocations) ≡ new_words n ty

@@ -143,8 +143,8 @@ module _ (s : Scene) (n : NeverState) (h : AreImages s n) (small : AreSmall s.fl
             (λ r lr. elim (cases_eq r (d_of old.op)) [
               | inl e ↦ subst (λ j. shown f j (slice_index (slice_set s.registers (8 * k + d_of old.op) old.loaded) (8 * k + j)) ≡ image_of (bases_of s.allocations)
                   (slice_index_or n.registers (8 * k + j) Null)) (sym e)
-                  (shows_plain f _ _ (bare_owes_nothing f.stage bare) ∙ get_or-set_same s.registers (8 * k + d_of old.op) old.loaded 0 (omega arith) ∙ sym
-                  (shows_owed old _ put) ∙ own_shown s n h k (d_of old.op) ld)
+                  (shows_plain f _ _ (bare_owes_nothing f.stage bare) ∙ get_or-set_same s.registers (8 * k + d_of old.op) old.loaded 0 (omega arith)
+                  ∙ sym (shows_owed old _ put) ∙ own_shown s n h k (d_of old.op) ld)
               | inr ne ↦ shows_plain f _ _ (bare_owes_nothing f.stage bare) ∙ get_or-set_other s.registers (8 * k + d_of old.op) (8 * k + r) old.loaded 0
                   (λ e. absurd (ne (omega arith)))
                   ∙ sym (shows_other old r _ put (λ e. ne (sym e))) ∙ own_shown s n h k r lr
