@@ -80,7 +80,7 @@ pub record PointsTo (count : ℕ) (w : Words) (value : ℕ) (cell : Cell) : Type
   pub shown : header_in w (page_at_address value) ≡ Some header
   pub lies : LiesUnder header (page_at_address value) cell
 
-found_under : (count header value : ℕ) (cell : Cell) → cell_at count header value ≡ Some cell
+pub found_under : (count header value : ℕ) (cell : Cell) → cell_at count header value ≡ Some cell
     → (h : Header) × (header_of header ≡ Some h) × (cell_under h (page_at_address value) (word_at_address value) ≡ Some cell)
 found_under count header value cell is = by (is_heap_address count value) (header_of header) refl is
   where
@@ -90,6 +90,24 @@ found_under count header value cell is = by (is_heap_address count value) (heade
     by true (Some h) at is = (h, at, is)
     by true None at is = cc
     by false o at is = cc
+
+-- The cell of a value, by any header word, lies on a page of the heap.
+pub cell_within : (count header value : ℕ) (cell : Cell) → cell_at count header value ≡ Some cell → (cell.page < count) × (cell.index < 64)
+cell_within count header value cell is =
+    let within = (is_address count header value cell is).1 in
+    let under = found_under count header value cell is in
+    let lies = lies_under under.0 (page_at_address value) (word_at_address value) cell under.2 in
+    let near = not_behind under.0 (page_at_address value) in
+    let head = lies.head in
+    (omega arith, lies.small)
+  where
+    not_behind : (h : Header) (page : ℕ) → head_page_under (Some h) page ≤ page
+    not_behind Free page = omega arith
+    not_behind (Block class) page = omega arith
+    not_behind (LeafBlock class) page = omega arith
+    not_behind (Run pages mapped) page = omega arith
+    not_behind (LeafRun pages) page = omega arith
+    not_behind (Later distance mapped) page = omega arith
 
 pub points_to : (count : ℕ) (w : Words) (value : ℕ) (cell : Cell) → pointed_cell count w.pages value ≡ Some cell → PointsTo count w value cell
 unfolding pointed_cell
@@ -110,17 +128,5 @@ pointed_head count w value cell is =
     to.lies.head ∙ ap (λ (x : Option Header). head_page_under x (page_at_address value)) (sym to.shown)
 
 pub pointed_within : (count : ℕ) (w : Words) (value : ℕ) (cell : Cell) → pointed_cell count w.pages value ≡ Some cell → (cell.page < count) × (cell.index < 64)
-pointed_within count w value cell is =
-    let to = points_to count w value cell is in
-    let near = not_behind to.header (page_at_address value) in
-    let head = to.lies.head in
-    let within = to.within in
-    (omega arith, to.lies.small)
-  where
-    not_behind : (h : Header) (page : ℕ) → head_page_under (Some h) page ≤ page
-    not_behind Free page = omega arith
-    not_behind (Block class) page = omega arith
-    not_behind (LeafBlock class) page = omega arith
-    not_behind (Run pages mapped) page = omega arith
-    not_behind (LeafRun pages) page = omega arith
-    not_behind (Later distance mapped) page = omega arith
+unfolding pointed_cell
+pointed_within count w value cell is = cell_within count (header_at w (page_at_address value)) value cell is

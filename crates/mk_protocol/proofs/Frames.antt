@@ -170,7 +170,7 @@ still_calls c (Caller k) w u l call = ap (λ (f : Flight). is_in_call f) l.fligh
 still_calls c (Marker k) w u l call = call
 still_calls c Host w u l call = call
 
-still_attends : (c : Config) (s : Seat) (w u : World) → OwnIsLeft c s w u → Attends w.now s → Attends u.now s
+pub still_attends : (c : Config) (s : Seat) (w u : World) → OwnIsLeft c s w u → Attends w.now s → Attends u.now s
 still_attends c (Marker k) w u l a = ap (λ (y : MarkerState). is_attending y.presence) l.marker ∙ a
 still_attends c (Caller k) w u l a = a
 still_attends c Host w u l a = a

@@ -6,7 +6,9 @@ pub mod Frames
 pub mod Ground
 pub mod Growth
 pub mod HeaderSteps
+pub mod HeadersStay
 pub mod HeldGates
+pub mod Holders
 pub mod HoldersSteps
 pub mod IdleMarkers
 pub mod InHeap

@@ -128,7 +128,7 @@ service_new f h g i (Fills was p) new = absurd (give_no_new f.op new)
 service_new f h g i (GrantsNew was) new = absurd (give_no_new f.op new)
 service_new f h g i (FreesRun _ free p) new = absurd (give_no_new f.op new)
 
-new_was : (c : Config) (v : View) (seat : Seat) (n : View) (j : ℕ) → Move c v seat n → is_undecided_new (flight_in n j) ≡ true
+pub new_was : (c : Config) (v : View) (seat : Seat) (n : View) (j : ℕ) → Move c v seat n → is_undecided_new (flight_in n j) ≡ true
     → (flight_in n j ≡ flight_in v j) ⊎ (held_place n.holding.placing ≡ None)
 new_was c v seat n j (Enters {k} f lt z was is) new = inl (set_new v.flights k j f (λ x. absurd (call_no_new f is x)) new)
 new_was c v seat n j (GoesOn {k} f lt was is) new = inl (set_new v.flights k j f (λ x. absurd (call_no_new f is x)) new)

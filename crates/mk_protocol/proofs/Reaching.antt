@@ -2,8 +2,6 @@
 use Rattle.std.proofs.Common.{◌≡◌, ℕ, ◌*◌, ◌<◌, ◌≤◌, Bool, true, false, ◌++◌, refl, sym, ◌∙◌, ap, subst, arith}
 use Rattle.std.specs.Prelude.{nat_le, nat_lt, not, is_none, ◌&&◌}
 use Rattle.std.proofs.lemmas.Bool.{ltb-true, and_parts}
-use Rattle.mk_never.specs.declared.operations.Op.{Op}
-use Rattle.mk_never.specs.declared.operations.Op.TheVariants as op
 use Rattle.mk_core.specs.declared.config.Config.{Config}
 use Rattle.mk_core.specs.declared.events.Seat.{Seat}
 use Rattle.mk_core.specs.declared.events.Seat.TheVariants.{Caller, Marker, Host}
@@ -17,18 +15,16 @@ use Rattle.mk_core.specs.declared.seats.Flight.{Flight}
 use Rattle.mk_core.specs.declared.seats.Holding.{Holding}
 use Rattle.mk_core.specs.declared.seats.Marker.{Marker as MarkerState}
 use Rattle.mk_core.specs.declared.seats.Placing.{Placing}
-use Rattle.mk_core.specs.declared.seats.Stage.{Stage}
-use Rattle.mk_core.specs.declared.seats.Stage.TheVariants as stage
 use Rattle.mk_core.specs.Calls.{word_met, page_met}
 use Rattle.mk_core.specs.Layout.{NamesWord, IsOfTable}
 use Rattle.mk_core.specs.Ranges.{is_word, is_word_met}
 use Rattle.mk_core.specs.Moments.{Moment, flight_of, marker_at, outside, is_number_of, holder_number}
 use Rattle.mk_core.specs.MarkerConditions.{has_next_word, is_scanned}
-use Rattle.mk_core.specs.NewPlaces.{is_undecided_new, is_new_at}
+use Rattle.mk_core.specs.NewPlaces.{is_undecided_new}
 use Rattle.mk_core.specs.Order.{seat_exists}
 use Rattle.mk_core.specs.Accesses.{caller_number, tally_word, word_reached, access_by, reached, access}
 use Rattle.mk_core.specs.History.{left}
-use Rattle.mk_core.specs.Readings.{Holds, is_in_turn}
+use Rattle.mk_core.specs.Readings.{Holds}
 use Rattle.mk_core.proofs.Conditions.{enabled_meets}
 use Rattle.mk_protocol.specs.Reaching.{EventsReachTheTable, OthersLeaveAccesses}
 use Rattle.mk_protocol.proofs.Actors.{Meets, grants_new}
@@ -36,6 +32,7 @@ use Rattle.mk_protocol.proofs.Operands.{Operands, operands_of, register_small}
 use Rattle.mk_protocol.proofs.Known.{Known, known_left}
 use Rattle.mk_protocol.proofs.NewPlace.{new_holds}
 use Rattle.mk_protocol.proofs.ScansInHeap.{MarkerFits, nothing_fits, next_in_heap, scan_page_in_heap, seen_page_in_heap}
+use Rattle.mk_protocol.proofs.Holders.{new_in_turn}
 use Rattle.mk_protocol.proofs.InHeap.{InHeap, in_heap_left}
 use Rattle.mk_protocol.proofs.Frames.{others_leave}
 
@@ -142,10 +139,6 @@ is_grant _ = false
 placing_apart : (c : Config) (n : ℕ) (f : Flight) (p q : Placing) (x : MarkerState) (s : Step) → is_grant s ≡ false → access_by c n f p x s ≡ access_by c n f q x s
 placing_apart c n f p q x step.Grant g = cc
 placing_apart c n f p q x _ g = refl
-
-new_in_turn : (s : Stage) (o : Op) → is_new_at s o ≡ true → is_in_turn (record { stage = s; op = o; q = 0; p = 0; r = 0; loaded = 0 }) ≡ true
-new_in_turn stage.Turn (op.New d ty full) h = refl
-new_in_turn _ _ h = cc
 
 granter_holds : (c : Config) (m : Moment) (seat : Seat) → Meets c m seat step.Grant → Holds c m seat
 granter_holds c m seat h =

@@ -67,11 +67,11 @@ made_shown o distance count e = by (is_small_object o) refl e
     by false is h = let r = run_shown (run_pages_of o.words) count distance true o.leaf h in (is, r.1, r.2)
 
 -- the header that is stored next, and its page
-record Next (first page value : ℕ) (wanted : ℕ → ℕ) : Type 0 where
-  behind : first ≤ page
-  is : value ≡ wanted (page - first)
+pub record Next (first page value : ℕ) (wanted : ℕ → ℕ) : Type 0 where
+  pub behind : first ≤ page
+  pub is : value ≡ wanted (page - first)
 
-next_is : (w : Words) (first count : ℕ) (wanted : ℕ → ℕ) (page value : ℕ) → is_next_header w first count wanted page value ≡ true → Next first page value wanted
+pub next_is : (w : Words) (first count : ℕ) (wanted : ℕ → ℕ) (page value : ℕ) → is_next_header w first count wanted page value ≡ true → Next first page value wanted
 next_is w first count wanted page value h =
     let last = and_parts
     (nat_le first page && nat_lt (page - first) count && not (header_at w page == wanted (page - first)) && all_below (page - first) (stands w first wanted))

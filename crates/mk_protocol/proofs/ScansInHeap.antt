@@ -1,13 +1,13 @@
 -- What a marker scans lies in the heap.
-use Rattle.std.proofs.Common.{◌≡◌, ℕ, ◌+◌, ◌-◌, ◌*◌, ◌/◌, ◌<◌, ◌≤◌, Bool, true, false, refl, sym, ◌∙◌, ap, subst, arith}
-use Rattle.std.specs.Prelude.{Option, Some, None, is_some, is_none, option_and_then, nat_le, nat_lt, ◌==◌, ◌&&◌, if◌then◌else◌}
-use Rattle.std.proofs.lemmas.Bool.{eqb-true, ltb-true, and_parts, leb-true}
+use Rattle.std.proofs.Common.{◌≡◌, ℕ, ◌+◌, ◌*◌, ◌<◌, ◌≤◌, Bool, true, false, refl, sym, ◌∙◌, ap, subst, arith}
+use Rattle.std.specs.Prelude.{Option, Some, None, is_some, is_none, nat_lt, ◌==◌, ◌&&◌, if◌then◌else◌}
+use Rattle.std.proofs.lemmas.Bool.{eqb-true, ltb-true, and_parts}
 use Rattle.mk_geom.specs.declared.addresses.Cell.{Cell}
 use Rattle.mk_geom.specs.declared.headers.Header.{Header}
 use Rattle.mk_geom.specs.declared.headers.Header.TheVariants.{Free, Block, Run, Later, LeafBlock, LeafRun}
-use Rattle.mk_geom.specs.Classes.{cells_of, class_words_of}
+use Rattle.mk_geom.specs.Classes.{class_words_of}
 use Rattle.mk_geom.specs.Headers.{header_of}
-use Rattle.mk_geom.specs.Addresses.{cell_at, cell_under, cell_of_block, is_heap_address, page_at_address, word_at_address}
+use Rattle.mk_geom.specs.Addresses.{cell_at, page_at_address}
 use Rattle.mk_geom.proofs.ClassTable.{cell_ends}
 use Rattle.mk_core.specs.declared.config.Config.{Config}
 use Rattle.mk_core.specs.declared.events.Step.{Step}
@@ -25,6 +25,7 @@ use Rattle.mk_core.specs.Enabled.{marker_may}
 use Rattle.mk_core.specs.Effects.{scan_begun, scan_claimed, scan_onward, behind_mlook, marker_behind}
 use Rattle.mk_core.specs.Accesses.{next_word, scan_page, seen_page}
 use Rattle.mk_protocol.proofs.RunsInHeap.{RunFits}
+use Rattle.mk_core.proofs.PointedPages.{cell_within}
 
 pub record MarkerFits (c : Config) (x : Marker) : Type 0 where
   pub seen : (s : SeenHeader) → x.seen ≡ Some s → RunFits c s.page s.header
@@ -139,56 +140,11 @@ pub scan_page_in_heap : (c : Config) (x : Option Scan) → is_scanned x ≡ true
 scan_page_in_heap c (Some s) h fits = fits s refl
 scan_page_in_heap c None h fits = cc
 
--- a cell that an address of the heap points into lies on its page, or on one before it
-in_block : (class page word : ℕ) (cell : Cell) → cell_of_block class page word ≡ Some cell → cell.page ≤ page
-in_block class page word cell e = by (nat_lt word (cells_of class * class_words_of class)) e
-  where
-    by : (b : Bool) → (if b then Some (record { page = page; index = word / class_words_of class }) else None) ≡ Some cell → cell.page ≤ page
-    by true e = let same : page ≡ cell.page = cc in omega arith
-    by false e = cc
-
-in_run : (page : ℕ) (cell : Cell) → Some (record { page = page; index = 0 }) ≡ Some cell → cell.page ≤ page
-in_run page cell e = let same : page ≡ cell.page = cc in omega arith
-
-in_later : (b : Bool) (distance page : ℕ) (cell : Cell) → (if b then Some (record { page = page - distance; index = 0 }) else None) ≡ Some cell → cell.page ≤ page
-in_later true distance page cell e = let same : page - distance ≡ cell.page = cc in omega arith
-in_later false distance page cell e = cc
-
-before_page : (h : Header) (page word : ℕ) (cell : Cell) → cell_under h page word ≡ Some cell → cell.page ≤ page
-before_page Free page word cell e = cc
-before_page (Block class) page word cell e = in_block class page word cell e
-before_page (LeafBlock class) page word cell e = in_block class page word cell e
-before_page (Run count mapped) page word cell e = in_run page cell e
-before_page (Later distance mapped) page word cell e = in_later (nat_le distance page) distance page cell e
-before_page (LeafRun count) page word cell e = in_run page cell e
-
-seen_in_heap : (c : Config) (header value : ℕ) (cell : Cell) → cell_at c.pages header value ≡ Some cell → cell.page < c.pages
-seen_in_heap c header value cell e = by (is_heap_address c.pages value) refl e
-  where
-    low : is_heap_address c.pages value ≡ true → page_at_address value < c.pages
-    low h =
-        let both = and_parts (nat_le 65536 value) (nat_lt value (65536 + 512 * c.pages)) h in
-        let le = leb-true 65536 value both.0 in
-        let lt = ltb-true value (65536 + 512 * c.pages) both.1 in
-        omega arith
-
-    under : (h : Option Header) → option_and_then (λ (x : Header). cell_under x (page_at_address value) (word_at_address value)) h ≡ Some cell
-        → cell.page ≤ page_at_address value
-    under (Some h) e = before_page h (page_at_address value) (word_at_address value) cell e
-    under None e = cc
-
-    by : (b : Bool) → is_heap_address c.pages value ≡ b
-        → (if b then option_and_then (λ (x : Header). cell_under x (page_at_address value) (word_at_address value)) (header_of header) else None) ≡ Some cell
-        → cell.page < c.pages
-    by true is e = let le = under (header_of header) e in let lt = low is in omega arith
-    by false is e = cc
-
 pub seen_page_in_heap : (c : Config) (s : Option SeenHeader) (hand : Option ℕ) → is_some (cell_seen c s hand) ≡ true → seen_page (cell_seen c s hand) < c.pages
 seen_page_in_heap c (Some s) (Some value) h = by (s.page == page_at_address value) (cell_at c.pages s.header value) refl h
   where
-    by : (b : Bool) (cell : Option Cell) → cell_at c.pages s.header value ≡ cell → is_some (if b then cell else None) ≡ true
-        → seen_page (if b then cell else None) < c.pages
-    by true (Some cell) e h = seen_in_heap c s.header value cell e
+    by : (b : Bool) (cell : Option Cell) → cell_at c.pages s.header value ≡ cell → is_some (if b then cell else None) ≡ true → seen_page (if b then cell else None) < c.pages
+    by true (Some cell) e h = (cell_within c.pages s.header value cell e).0
     by true None e h = cc
     by false cell e h = cc
 seen_page_in_heap c (Some s) None h = cc

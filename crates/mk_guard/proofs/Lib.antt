@@ -1,0 +1,16 @@
+pub mod BlackCells
+pub mod Changes
+pub mod ClosedAllocations
+pub mod Closing
+pub mod CoveredWords
+pub mod FoundHeaders
+pub mod Headers
+pub mod Histories
+pub mod KeptGuard
+pub mod Markers
+pub mod OneEvent
+pub mod OthersLeave
+pub mod Phases
+pub mod Scans
+pub mod Stopped
+pub mod Wells

@@ -1,0 +1,42 @@
+-- What is known of a world before an event, and what is to show behind it.
+use Rattle.std.proofs.Common.{Bool, arith, false, length, true, ℕ, ◌<◌, ◌≡◌}
+use Rattle.std.specs.Prelude.{nat_lt}
+use Rattle.std.proofs.lemmas.Bool.{ltb-true}
+use Rattle.mk_core.specs.Config.{IsWithinLimits}
+use Rattle.mk_core.specs.History.{World}
+use Rattle.mk_core.specs.Layout.{AreOfPages}
+use Rattle.mk_core.specs.Moments.{is_phase}
+use Rattle.mk_core.specs.declared.config.Config.{Config}
+use Rattle.mk_core.specs.declared.events.Step.{Step}
+use Rattle.mk_core.specs.declared.events.Step.TheVariants as step
+use Rattle.mk_protocol.proofs.Known.{Known}
+use Rattle.mk_layout.specs.LayoutLaws.{OthersSay}
+use Rattle.mk_layout.specs.Scene.{Among, Claim, is_released_in}
+use Rattle.mk_layout.specs.Terrain.{Terrain, claims_on, object_now, terrain_of}
+use Rattle.mk_layout.proofs.Serving.{Laid}
+
+-- all that is known of the world before
+pub record Before (c : Config) (w : World) : Type 0 where
+  pub limits : IsWithinLimits c
+  pub lengths : AreOfPages c.pages w.now.words
+  pub known : Known c w.now
+  pub others : OthersSay c w
+  -- no claim's cell is released
+  pub unreleased : is_phase w.now.words 4 ≡ true → (x : Claim) → Among x (claims_on c (object_now c w.now) (terrain_of w))
+      → is_released_in true w.now.words.snapshot w.now.words.marks x.page x.index ≡ false
+
+-- laid out as at that moment, but for the terrain
+abbrev pub LaidNow : Config → World → Terrain → Type 0
+LaidNow c w t = Laid c (object_now c w.now) (is_phase w.now.words 4) w t
+
+-- whether released cells are there behind a step
+abbrev pub is_releasing_behind : Step → Bool → Bool
+is_releasing_behind step.Release b = true
+is_releasing_behind step.End b = false
+is_releasing_behind _ b = b
+
+abbrev pub LaidBehind : Config → World → Step → Terrain → Type 0
+LaidBehind c w x t = Laid c (object_now c w.now) (is_releasing_behind x (is_phase w.now.words 4)) w t
+
+pub page_within : (c : Config) (w : World) (p : ℕ) → Before c w → nat_lt p c.pages ≡ true → p < length w.now.words.pages
+page_within c w p b h = let lt = ltb-true p c.pages h in let len = b.lengths.pages in omega arith

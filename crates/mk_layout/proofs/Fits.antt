@@ -1,0 +1,111 @@
+-- What the place that first fit finds says of the pages, in words.
+use Rattle.std.proofs.Common.{Bool, List, ap, arith, false, inl, inr, length, refl, subst, sym, true, ℕ, ◌+◌, ◌<◌, ◌∙◌, ◌≡◌, ◌≤◌, ◌⊎◌}
+use Rattle.std.specs.Prelude.{None, Option, Some, slice_index_or}
+use Rattle.std.proofs.lemmas.Bool.{cases_Bool, leb-false, leb-true}
+use Rattle.std.proofs.lemmas.Option.{get_or_from_slice_get, slice_get_within}
+use Rattle.mk_geom.specs.Classes.{cells_of}
+use Rattle.mk_geom.specs.Headers.{header_of, word_of}
+use Rattle.mk_geom.specs.PageUses.{is_free_page}
+use Rattle.mk_geom.specs.PageWords.{bits_of, use_under}
+use Rattle.mk_geom.specs.Places.{MayTakeCell}
+use Rattle.mk_geom.specs.Storages.{block_header, free_page}
+use Rattle.mk_geom.specs.declared.headers.Header.{Header}
+use Rattle.mk_geom.specs.declared.headers.Header.TheVariants.{Block, Free, Later, LeafBlock, LeafRun, Run}
+use Rattle.mk_geom.specs.declared.pages.Page.{Page}
+use Rattle.mk_geom.specs.declared.pages.Place.{Place}
+use Rattle.mk_geom.proofs.FirstFit.{cell_place_is, run_place_is}
+use Rattle.mk_geom.proofs.HeaderLemmas.{word_of-header_of}
+use Rattle.mk_core.specs.NewPlaces.{class_made, header_made, is_small_object, pages_made, place_on_pages}
+use Rattle.mk_core.specs.ObjectHeaders.{IsSized, cells_made}
+use Rattle.mk_core.specs.declared.seats.Object.{Object}
+use Rattle.mk_core.proofs.ObjectHeaders.{small_header}
+use Rattle.mk_core.proofs.Sizes.{class_for_small, large_pages, small_cells, small_pages}
+use Rattle.mk_layout.specs.Scene.{header_on, shows_on, used_on}
+use Rattle.mk_books.proofs.UsedBitLemmas.{length-bits_of}
+
+-- the pages of the place are free
+pub record FitsOnFreePages (pages : List Page) (o : Object) (place : Place) : Type 0 where
+  pub index : place.index ≡ 0
+  pub within : place.page + pages_made o ≤ length pages
+  pub free : (d : ℕ) → d < pages_made o → header_on pages (place.page + d) ≡ 0
+
+-- its page is a block for the object
+pub record FitsInBlock (pages : List Page) (o : Object) (place : Place) : Type 0 where
+  pub small : is_small_object o ≡ true
+  pub within : place.page < length pages
+  pub header : header_on pages place.page ≡ header_made o 0
+  pub index : place.index < cells_made o
+
+zero_word : (h : ℕ) → header_of h ≡ Some Free → h ≡ 0
+zero_word h is = sym (word_of-header_of h Free is).1
+
+free_header : (h : ℕ) (x : Option Header) (u : ℕ) → header_of h ≡ x → is_free_page (use_under x u) ≡ true → h ≡ 0
+free_header h (Some Free) u is free = zero_word h is
+free_header h None u is free = cc
+free_header h (Some (Block class)) u is free = cc
+free_header h (Some (LeafBlock class)) u is free = cc
+free_header h (Some (Run n m)) u is free = cc
+free_header h (Some (LeafRun n)) u is free = cc
+free_header h (Some (Later d m)) u is free = cc
+
+-- a cell that may be taken is on a free page, or on one with the block's header
+taken_from : (h u class index : ℕ) (leaf : Bool) (x : Option Header) → header_of h ≡ x → MayTakeCell class leaf index (use_under x u)
+    → (h ≡ 0) ⊎ ((h ≡ word_of (block_header class leaf)) × (index < cells_of class))
+taken_from h u class index leaf (Some Free) is may = inl (zero_word h is)
+taken_from h u class index leaf None is may = absurd may
+taken_from h u class index leaf (Some (Run n m)) is may = absurd may
+taken_from h u class index leaf (Some (LeafRun n)) is may = absurd may
+taken_from h u class index leaf (Some (Later d m)) is may = absurd may
+taken_from h u class index leaf (Some (Block k)) is may =
+    inr (
+      sym (word_of-header_of h (Block k) is).1 ∙ ap (λ n. word_of (Block n)) may.0 ∙ ap (λ b. word_of (block_header class b)) may.1,
+      subst (λ n. index < n) (length-bits_of (cells_of k) u ∙ ap cells_of may.0) (slice_get_within (bits_of (cells_of k) u) index false may.2),
+    )
+taken_from h u class index leaf (Some (LeafBlock k)) is may =
+    inr (
+      sym (word_of-header_of h (LeafBlock k) is).1 ∙ ap (λ n. word_of (LeafBlock n)) may.0 ∙ ap (λ b. word_of (block_header class b)) may.1,
+      subst (λ n. index < n) (length-bits_of (cells_of k) u ∙ ap cells_of may.0) (slice_get_within (bits_of (cells_of k) u) index false may.2),
+    )
+
+free_use : (h u : ℕ) → h ≡ 0 → is_free_page (use_under (header_of h) u) ≡ true
+free_use h u z = ap (λ n. is_free_page (use_under (header_of n) u)) z
+
+pub fits : (limit : ℕ) (pages : List Page) (o : Object) (place : Place) → IsSized o → place_on_pages limit pages o ≡ Some place
+    → FitsOnFreePages pages o place ⊎ FitsInBlock pages o place
+fits limit pages o place sized at = elim (cases_Bool (is_small_object o)) [ inl s ↦ small s | inr l ↦ inl (large l) ]
+  where
+    large : is_small_object o ≡ false → FitsOnFreePages pages o place
+    large l =
+        let is = run_place_is limit o.words o.leaf pages place (leb-false o.words 32 l) at in
+        let count = large_pages o l in
+        let within = is.free.within in
+        record {
+          index = is.index;
+          within = omega arith;
+          free = λ d lt.
+              free_header (header_on pages (place.page + d)) (shows_on pages (place.page + d)) (used_on pages (place.page + d)) refl
+              (is.free.free (place.page + d) free_page (omega arith) (omega arith));
+        }
+
+    small : is_small_object o ≡ true → FitsOnFreePages pages o place ⊎ FitsInBlock pages o place
+    small s =
+        let class_is = class_for_small o.words sized.0 (leb-true o.words 32 s) in
+        let is = cell_place_is limit o.words (class_made o) o.leaf pages place class_is at in
+        let page : slice_index_or pages place.page free_page ≡ is.page = get_or_from_slice_get pages place.page is.page free_page is.at in
+        let one = small_pages o s in
+        let inside = slice_get_within pages place.page is.page is.at in
+        elim (taken_from is.page.header is.page.used (class_made o) place.index o.leaf (header_of is.page.header) refl is.may_take) [
+          | inl z ↦ inl (record {
+            index = is.carves_first (is.carves ∙ free_use is.page.header is.page.used z);
+            within = omega arith;
+            free = λ d lt.
+                let zero : place.page + d ≡ place.page = omega arith in
+                ap (λ p. header_on pages p) zero ∙ ap (λ (x : Page). x.header) page ∙ z;
+          })
+          | inr block ↦ inr (record {
+            small = s;
+            within = inside;
+            header = ap (λ (x : Page). x.header) page ∙ block.0 ∙ sym (small_header o 0 s);
+            index = let cells = small_cells o s in let b = block.1 in omega arith;
+          })
+        ]

@@ -1,0 +1,38 @@
+//! What stands on the pages, and the quarantine, at every moment: facts alone, with no code.
+#![tactic(auto)]
+
+ghost use Rattle.mk_layout.specs.LayoutLaws.{EventsKeepTheLayout, HistoriesAreLaidOut};
+ghost use Rattle.mk_layout.specs.SettledPages.{FirstFitIsThePlace, HeadersStand, UnreleasedAreApart, UnreleasedStand};
+ghost use Rattle.mk_layout.specs.Snapshots.{SnapshotsAreOfCycles};
+
+/// Whatever the event, what stands on the pages stays laid out, and the quarantine in order, where the other
+/// groups say what it asks.
+pub fn events_keep_the_layout()
+    ensures { EventsKeepTheLayout }
+{}
+
+/// So all is laid out behind every list of enabled events along which the other groups say so.
+pub fn histories_are_laid_out()
+    ensures { HistoriesAreLaidOut }
+{}
+
+/// The snapshot's bits are those of the allocations that were freed before the cycle's `begin`.
+pub fn snapshots_are_of_cycles()
+    ensures { SnapshotsAreOfCycles }
+{}
+
+/// In a laid out world each unreleased allocation stands on the heap, in a cell of its own.
+pub fn unreleased_allocations_stand()
+    ensures stand { UnreleasedStand }
+    ensures apart { UnreleasedAreApart }
+{}
+
+/// While nothing is on its way, the headers and used bits are those of the unreleased storage.
+pub fn headers_stand()
+    ensures { HeadersStand }
+{}
+
+/// And first fit over the words finds the place among the allocations.
+pub fn first_fit_is_the_place()
+    ensures { FirstFitIsThePlace }
+{}
