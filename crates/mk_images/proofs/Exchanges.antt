@@ -33,7 +33,7 @@ use Rattle.mk_images.specs.Mirrors.{Mirrors}
 use Rattle.mk_images.specs.Laws.{OthersSayAlong, HistoriesCompareValues}
 use Rattle.mk_images.proofs.KnownWorlds.{KnownWorld, known_world}
 use Rattle.mk_images.proofs.Stands.{stands_of}
-use Rattle.mk_images.proofs.Before.{ready_of}
+use Rattle.mk_images.proofs.ReadyWorlds.{ready_of}
 use Rattle.mk_images.proofs.RegMoves.{flight}
 use Rattle.mk_images.proofs.CallMoves.{cas_compares}
 use Rattle.mk_images.proofs.CallSorts.{admitted_call, there_is, own_registers}

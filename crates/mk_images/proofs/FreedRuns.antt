@@ -59,7 +59,7 @@ use Rattle.mk_images.proofs.Kept.{base_at}
 use Rattle.mk_images.proofs.Freeing.{decided_free_stands, decided_free_gives, frees_run}
 use Rattle.mk_images.proofs.Stands.{Stands, stands_of}
 use Rattle.mk_images.proofs.Ready.{Ready}
-use Rattle.mk_images.proofs.Before.{ready_of}
+use Rattle.mk_images.proofs.ReadyWorlds.{ready_of}
 use Rattle.mk_images.proofs.RegMoves.{flight}
 use Rattle.mk_images.proofs.FreeMoves.{pointer_cell}
 use Rattle.mk_images.proofs.CallSorts.{literal}

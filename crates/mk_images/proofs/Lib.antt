@@ -12,7 +12,7 @@ pub mod KnownWorlds
 pub mod Stands
 pub mod HeldGates
 pub mod KeptPlaces
-pub mod Before
+pub mod ReadyWorlds
 pub mod CallSorts
 pub mod FreeMoves
 pub mod ReleaseMoves

@@ -51,7 +51,7 @@ use Rattle.mk_images.proofs.Kept.{exists_placed}
 use Rattle.mk_images.proofs.Stands.{Stands, stands_of, is_gone}
 use Rattle.mk_images.proofs.Ready.{Ready}
 use Rattle.mk_images.proofs.Reached.{Reaches, reaches}
-use Rattle.mk_images.proofs.Before.{words_fit, unmapped_is, ready_of}
+use Rattle.mk_images.proofs.ReadyWorlds.{words_fit, unmapped_is, ready_of}
 use Rattle.mk_images.proofs.RegMoves.{flight}
 use Rattle.mk_images.proofs.Freeing.{decided_free_gives}
 use Rattle.mk_images.proofs.FreeMoves.{pointer_cell}
