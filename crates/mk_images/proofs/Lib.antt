@@ -27,6 +27,7 @@ pub mod Bases
 pub mod Freeing
 pub mod FreeingSteps
 pub mod FreedRuns
+pub mod FreePages
 pub mod Saying
 pub mod GoneRuns
 pub mod RunGates

@@ -54,6 +54,7 @@ use Rattle.mk_images.proofs.Reached.{Reaches, reaches}
 use Rattle.mk_images.proofs.ReadyWorlds.{words_fit, unmapped_is, ready_of}
 use Rattle.mk_images.proofs.RegMoves.{flight}
 use Rattle.mk_images.proofs.Freeing.{decided_free_gives}
+use Rattle.mk_images.proofs.FreePages.{free_page_is_zero}
 use Rattle.mk_images.proofs.FreeMoves.{pointer_cell}
 use Rattle.mk_images.proofs.CallSorts.{call_outside, admitted_call, literal}
 
@@ -189,4 +190,5 @@ module _ (c : Config) (w : World) (n : NeverState) (known : KnownWorld c w) (oth
         target = target_cell;
         marked = run_marked;
         stored = λ k x now. stored_word k x now.step (enabled_meets c w.now _ now.enabled) now.admitted;
+        free = free_page_is_zero c w n known others mirrors;
       }

@@ -24,7 +24,8 @@ pub fn exchanges_compare_values()
     ensures { HistoriesCompareValues }
 {}
 
-/// What the images tell the other groups: what Frees point to, which run is marked, and where callers store.
+/// What the images tell the other groups: what Frees point to, which run is marked, where callers store, and that pages
+/// without a header are 0.
 pub fn images_tell_the_others()
     ensures { HistoriesTellOthers }
 {}
