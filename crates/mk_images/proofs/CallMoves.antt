@@ -118,8 +118,8 @@ module _ (listed : List ℕ) (safe : ℕ → Bool) (s : Scene) (n : NeverState) 
             (Owes k (flight stage.Put (op.GetPtr d q' i) q p r x) word there long (ap (λ (f : Flight). is_put f.stage) is) refl ld value
             (h.set.closed to.number to.place to.of_set to.mapped)),
         λ more. one_right (bases_of s.allocations ++ more) (answer.Word x) n k (op.GetPtr d q' i)
-            (ap answer.Word (value ∙ sound_more listed safe s n h word more sound) ∙ ap
-            (λ t. answer_of (bases_of s.allocations ++ more) (reply_at t (λ a w. Val (word_at n a w)))) (sym to.target)),
+            (ap answer.Word (value ∙ sound_more listed safe s n h word more sound)
+            ∙ ap (λ t. answer_of (bases_of s.allocations ++ more) (reply_at t (λ a w. Val (word_at n a w)))) (sym to.target)),
       )
   read_leads (op.New d ty full) q p r l x is ld a car pro e ad = cc
   read_leads _ q p r l x is ld a car pro e ad = cc

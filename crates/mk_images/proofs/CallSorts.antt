@@ -34,7 +34,7 @@ use Rattle.mk_images.specs.Images.{scene_of, is_put, is_past_probe, CarriesOwn, 
 use Rattle.mk_images.proofs.KnownWorlds.{KnownWorld}
 use Rattle.mk_images.specs.Mirrors.{Mirrors}
 use Rattle.mk_images.proofs.Moves.{is_bare, Flies}
-use Rattle.mk_images.proofs.Kept.{own_plain}
+use Rattle.mk_images.proofs.KeptCalls.{own_plain}
 use Rattle.mk_images.proofs.Ready.{Ready, Leads, LeadsBy, either_leads}
 use Rattle.mk_images.proofs.Refusals.{goes_bare}
 use Rattle.mk_images.proofs.Reached.{PagesShow}

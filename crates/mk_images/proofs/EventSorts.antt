@@ -50,7 +50,7 @@ use Rattle.mk_images.proofs.Stands.{Stands}
 use Rattle.mk_images.specs.OthersSay.{OthersSay}
 use Rattle.mk_images.proofs.Moves.{Move, Rests, Wipes, Renews}
 use Rattle.mk_images.proofs.Ready.{Ready, Leads}
-use Rattle.mk_images.proofs.Before.{pages_show}
+use Rattle.mk_images.proofs.ReadyWorlds.{pages_show}
 use Rattle.mk_images.proofs.HeldGates.{others_idle}
 use Rattle.mk_images.proofs.GrantMoves.{wiped_outside}
 use Rattle.mk_images.proofs.ReleaseMoves.{releases}

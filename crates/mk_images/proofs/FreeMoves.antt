@@ -30,7 +30,7 @@ use Rattle.mk_images.proofs.Moves.{is_bare, Move, Decides, Frees}
 use Rattle.mk_images.proofs.Kept.{base_at, exists_placed}
 use Rattle.mk_images.proofs.Ready.{Ready, pointed_word}
 use Rattle.mk_images.proofs.Refusals.{goes_bare}
-use Rattle.mk_images.proofs.Before.{words_fit, words_are}
+use Rattle.mk_images.proofs.ReadyWorlds.{words_fit, words_are}
 use Rattle.mk_core.proofs.ChangedAllocations.{changed_at, freed_leaves, freed_released}
 use Rattle.mk_images.proofs.KeptPlaces.{same_places}
 

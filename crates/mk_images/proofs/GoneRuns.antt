@@ -52,7 +52,7 @@ use Rattle.mk_images.specs.Mirrors.{Mirrors}
 use Rattle.mk_images.proofs.KnownWorlds.{KnownWorld}
 use Rattle.mk_images.proofs.Stands.{unreleased_of, kept_of, Stands, stands_of, is_gone}
 use Rattle.mk_images.proofs.Freeing.{new_frees_none}
-use Rattle.mk_images.proofs.FreedRuns.{event_of}
+use Rattle.mk_images.proofs.FreeingSteps.{event_of}
 use Rattle.mk_images.proofs.Saying.{stored_word}
 
 -- what holds of each number below one
@@ -102,7 +102,8 @@ module _ (c : Config) (w : World) (n : NeverState) (known : KnownWorld c w) (oth
 
   -- A page of the run is the run's, and unmapped; no word of a mapped allocation lies there.
 
-  unmapped_page : (run : RunPages) → w.now.seats.holding.freed ≡ Some run → IsGone w.now.words run → (d : ℕ) → d < run.count → is_unmapped_header (header_in w.now.words (run.page + d)) ≡ true
+  unmapped_page : (run : RunPages) → w.now.seats.holding.freed ≡ Some run → IsGone w.now.words run → (d : ℕ) → d < run.count
+      → is_unmapped_header (header_in w.now.words (run.page + d)) ≡ true
   unmapped_page run e gone d lt =
       let owner = others.freed_run run e in
       let x = placed_at w.allocations owner.number in
@@ -120,7 +121,8 @@ module _ (c : Config) (w : World) (n : NeverState) (known : KnownWorld c w) (oth
       ap (λ h. head_page_under (header_of h) (run.page + d)) (gone.headers d lt) ∙ ap (λ m. head_page_under (header_of (unmapped_header m d)) (run.page + d)) count
       ∙ part_head (object_placed c x) d run.page _ (unmapped_shows (object_placed c x) d sized (omega arith) owner.large)
 
-  mapped_apart : (run : RunPages) → w.now.seats.holding.freed ≡ Some run → IsGone w.now.words run → (m : ℕ) → IsMappedWord c w m → (i : ℕ) → i < 64 * run.count → 64 * run.page + i ≢ m
+  mapped_apart : (run : RunPages) → w.now.seats.holding.freed ≡ Some run → IsGone w.now.words run → (m : ℕ) → IsMappedWord c w m → (i : ℕ) → i < 64 * run.count
+      → 64 * run.page + i ≢ m
   mapped_apart run e gone m is i lt at =
       let x = placed_at w.allocations is.number in
       let u = unreleased_of x.released (is_gone c x) is.mapped in
@@ -129,7 +131,8 @@ module _ (c : Config) (w : World) (n : NeverState) (known : KnownWorld c w) (oth
       let high = is.word.1 in
       let page : (x.base + (m - x.base)) / 64 ≡ run.page + i / 64 = omega arith in
       true≢false
-      (sym (unmapped_page run e gone (i / 64) (omega arith)) ∙ ap (λ p. is_unmapped_header (header_in w.now.words p)) (sym page) ∙ st.mapped is.number (m - x.base) u un (omega arith))
+      (sym (unmapped_page run e gone (i / 64) (omega arith)) ∙ ap (λ p. is_unmapped_header (header_in w.now.words p)) (sym page) ∙ st.mapped is.number (m - x.base) u un
+      (omega arith))
 
   -- A run that is gone stays gone.
 
@@ -187,14 +190,16 @@ module _ (c : Config) (w : World) (n : NeverState) (known : KnownWorld c w) (oth
           false≢true (sym (bare_word 0) ∙ ap (λ x. has_bit x 0) (sym (ap (used_at w.now.words) (sym head) ∙ unused)) ∙ ap (is_used w.now.words) (sym cell) ∙ laid.used)
 
       by : (b : Bool)
-          → (if b then empties w.now.words p v else carves w.now.words (object_made c f.op) (place_now c w.now f) p v || unmaps w.now.words w.now.seats.holding.freed p v) ≡ true → ⊥
+          → (if b then empties w.now.words p v else carves w.now.words (object_made c f.op) (place_now c w.now f) p v || unmaps w.now.words w.now.seats.holding.freed p v) ≡ true
+          → ⊥
       by true k = emptied k
       by false k = elim (or_cases (carves w.now.words (object_made c f.op) (place_now c w.now f) p v) (unmaps w.now.words w.now.seats.holding.freed p v) k) [
         | inl a ↦ carved a
         | inr a ↦ unmapped a
       ]
 
-  pub stored_at : (seat : Seat) (x : Step) → (x ≡ step.Write) ⊎ (x ≡ step.Cas) → group_of x ≡ group.Callers → Meets c w.now seat x → AreAdmitted c.globals n (asked (call_decided c w.now (event_of seat x)))
+  pub stored_at : (seat : Seat) (x : Step) → (x ≡ step.Write) ⊎ (x ≡ step.Cas) → group_of x ≡ group.Callers → Meets c w.now seat x
+      → AreAdmitted c.globals n (asked (call_decided c w.now (event_of seat x)))
       → IsMappedWord c w (word_met (flight_of w.now seat))
   stored_at (Caller k) x is g h ad = stored_word c w n known others mirrors k x is h ad
   stored_at (Marker k) x is g h ad = let e : false ≡ true = ap (is_open_to (Marker k)) (sym g) ∙ h.kind in cc
@@ -204,7 +209,8 @@ module _ (c : Config) (w : World) (n : NeverState) (known : KnownWorld c w) (oth
       → AreAdmitted c.globals n (asked (call_decided c w.now (event_of seat x))) → IsGone (Behind c w.now seat x).words run
   gone_stays run e gone seat (step.Head p v) h ad =
       record {
-        headers = λ d lt. ap (λ (y : Page). y.header) (get_or-set_other w.now.words.pages p (run.page + d) _ free_page (header_kept run e gone seat p v h d lt)) ∙ gone.headers d lt;
+        headers = λ d lt. ap (λ (y : Page). y.header) (get_or-set_other w.now.words.pages p (run.page + d) _ free_page (header_kept run e gone seat p v h d lt))
+            ∙ gone.headers d lt;
         words = gone.words;
       }
   gone_stays run e gone seat (step.Used p v) h ad =
@@ -230,4 +236,3 @@ module _ (c : Config) (w : World) (n : NeverState) (known : KnownWorld c w) (oth
         words = λ i lt. ap (λ (hs : List ℕ). slice_index hs (64 * run.page + i)) left.heap ∙ gone.words i lt;
       }
   gone_stays run e gone seat _ h ad = record { headers = gone.headers; words = gone.words }
-

@@ -30,7 +30,7 @@ use Rattle.mk_images.specs.ZeroWords.{MayHold, OfMapped, OfReleased, OfFreedRun}
 use Rattle.mk_images.proofs.KnownWorlds.{KnownWorld}
 use Rattle.mk_images.proofs.Kept.{exists_placed}
 use Rattle.mk_images.proofs.Stands.{unreleased_of, is_gone, Stands}
-use Rattle.mk_images.proofs.Before.{words_fit, unmapped_is}
+use Rattle.mk_images.proofs.ReadyWorlds.{words_fit, unmapped_is}
 
 -- the cell of a place, by the allocation that is granted there
 pub record FillsCell (c : Config) (w : Words) (a : PlacedAllocation) : Type 0 where

@@ -33,7 +33,7 @@ use Rattle.mk_images.proofs.Pairs.{bare_carries}
 use Rattle.mk_images.proofs.OneEvent.{Follows, one_event}
 use Rattle.mk_images.proofs.Saying.{images_say}
 use Rattle.mk_images.proofs.Bases.{IsLonger}
-use Rattle.mk_images.proofs.FreedRuns.{never_after}
+use Rattle.mk_images.proofs.FreeingSteps.{never_after}
 
 -- what events leave and decide, from a world on
 record FollowsAll (c : Config) (w : World) (n : NeverState) (es : List Event) : Type 0 where

@@ -1,5 +1,6 @@
 pub mod Moves
 pub mod Pairs
+pub mod KeptCalls
 pub mod Kept
 pub mod SafeKept
 pub mod Ready
@@ -11,7 +12,7 @@ pub mod KnownWorlds
 pub mod Stands
 pub mod HeldGates
 pub mod KeptPlaces
-pub mod Before
+pub mod ReadyWorlds
 pub mod CallSorts
 pub mod FreeMoves
 pub mod ReleaseMoves
@@ -24,7 +25,9 @@ pub mod FirstWorlds
 pub mod Exchanges
 pub mod Bases
 pub mod Freeing
+pub mod FreeingSteps
 pub mod FreedRuns
+pub mod FreePages
 pub mod Saying
 pub mod GoneRuns
 pub mod RunGates

@@ -41,7 +41,7 @@ use Rattle.mk_images.specs.Mirrors.{Mirrors}
 use Rattle.mk_images.proofs.KnownWorlds.{KnownWorld}
 use Rattle.mk_images.proofs.Kept.{exists_placed}
 use Rattle.mk_images.proofs.Stands.{unreleased_of, kept_of, Stands, stands_of, is_gone, large_object}
-use Rattle.mk_images.proofs.FreedRuns.{event_of}
+use Rattle.mk_images.proofs.FreeingSteps.{event_of}
 use Rattle.mk_images.proofs.Saying.{target_cell}
 
 -- cells of two words or more are at most 32
@@ -68,7 +68,8 @@ module _ (c : Config) (w : World) (n : NeverState) (known : KnownWorld c w) (oth
       OfMapped i (subst (λ (x : PlacedAllocation). is_mapped c x ≡ true) (sym e) mapped) (subst (λ (x : PlacedAllocation). IsWordOf (storage_of c x) m) (sym e) is)
 
   -- the cell that a Free frees is that of the allocation that stands there
-  freed_is : (seat : Seat) (p v : ℕ) (cell : Cell) (i : ℕ) → cell_freed c.pages w.now.words (flight_of w.now seat) p v ≡ Some cell → stands_in w.now.words cell (placed_at w.allocations i) ≡ true
+  freed_is : (seat : Seat) (p v : ℕ) (cell : Cell) (i : ℕ) → cell_freed c.pages w.now.words (flight_of w.now seat) p v ≡ Some cell
+      → stands_in w.now.words cell (placed_at w.allocations i) ≡ true
       → cell ≡ cell_of_allocation c (placed_at w.allocations i)
   freed_is seat p v cell i e stands =
       let parts = and_parts (not (placed_at w.allocations i).released) ((placed_at w.allocations i).base == first_word w.now.words cell) stands in
@@ -127,7 +128,8 @@ module _ (c : Config) (w : World) (n : NeverState) (known : KnownWorld c w) (oth
           by_standing true s = elim (cases_Bool (is_large (kinds_of c.types a.ty))) [
             | inl large ↦ run_freed large s
             | inr small ↦
-                of_placed behind i m (record a { freed = true; fresh = true }) (changed (Some cell) e ∙ ap (λ (b : Bool). if b then record a { freed = true; fresh = true } else a) s)
+                of_placed behind i m (record a { freed = true; fresh = true })
+                (changed (Some cell) e ∙ ap (λ (b : Bool). if b then record a { freed = true; fresh = true } else a) s)
                 (ap (λ b. not b && not (true && is_large (kinds_of c.types a.ty))) u ∙ ap (λ b. not b) small) is
           ]
 
@@ -211,7 +213,8 @@ module _ (c : Config) (w : World) (n : NeverState) (known : KnownWorld c w) (oth
               let within : k < 64 / class_words_of (class_made (object_placed c a)) = subst (λ x. k < x) (small_cells (object_placed c a) s) lt in
               few_cells (class_words_of (class_made (object_placed c a))) k range.0 within
 
-  pub mapped_stays : (seat : Seat) (x : Step) → Meets c w.now seat x → (i m : ℕ) → is_mapped c (placed_at w.allocations i) ≡ true → IsWordOf (storage_of c (placed_at w.allocations i)) m
+  pub mapped_stays : (seat : Seat) (x : Step) → Meets c w.now seat x → (i m : ℕ) → is_mapped c (placed_at w.allocations i) ≡ true
+      → IsWordOf (storage_of c (placed_at w.allocations i)) m
       → MayHold c (world_behind c w (event_of seat x)) m
   mapped_stays seat step.Grant h i m mapped is =
       let lt = exists_placed w.allocations i (unreleased_of (placed_at w.allocations i).released (is_gone c (placed_at w.allocations i)) mapped) in
@@ -221,4 +224,3 @@ module _ (c : Config) (w : World) (n : NeverState) (known : KnownWorld c w) (oth
       of_placed (world_behind c w (event_of seat step.Begin)) i m (no_longer_fresh (placed_at w.allocations i)) (changed_at no_longer_fresh w.allocations i refl) mapped is
   mapped_stays seat step.Release h i m mapped is = released_mapped seat i m (eqb-true (phase_of w.now.words) 3 h.phase) mapped is
   mapped_stays seat _ h i m mapped is = OfMapped i mapped is
-

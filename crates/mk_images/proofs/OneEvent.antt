@@ -19,11 +19,12 @@ use Rattle.mk_images.proofs.KnownWorlds.{KnownWorld}
 use Rattle.mk_images.proofs.Bases.{IsLonger, bases_grow}
 use Rattle.mk_images.proofs.ZeroWords.{words_stay_zero}
 use Rattle.mk_images.proofs.RunGates.{run_stays_alone}
-use Rattle.mk_images.proofs.FreedRuns.{never_after, freed_run_stays}
+use Rattle.mk_images.proofs.FreeingSteps.{never_after}
+use Rattle.mk_images.proofs.FreedRuns.{freed_run_stays}
 use Rattle.mk_images.proofs.Kept.{images_kept}
 use Rattle.mk_images.proofs.SafeKept.{safe_kept, twins_kept}
 use Rattle.mk_images.proofs.Stands.{stands_of}
-use Rattle.mk_images.proofs.Before.{ready_of}
+use Rattle.mk_images.proofs.ReadyWorlds.{ready_of}
 use Rattle.mk_images.proofs.EventSorts.{goes}
 
 -- what an event leaves, and that what it decides is right, where more is granted later too

@@ -20,7 +20,8 @@ use Rattle.mk_images.specs.Images.{Scene, AreImages}
 use Rattle.mk_core.specs.Allocations.{placed_at}
 use Rattle.mk_images.specs.SafeSets.{IsSafe, IsSafeSet}
 use Rattle.mk_images.proofs.Moves.{Move}
-use Rattle.mk_images.proofs.Kept.{AreApart, AreSmall, base_at}
+use Rattle.mk_images.proofs.KeptCalls.{AreApart, AreSmall}
+use Rattle.mk_images.proofs.Kept.{base_at}
 
 pub record Ready (listed : List ℕ) (safe : ℕ → Bool) (s : Scene) (n : NeverState) : Type 0 where
   pub images : AreImages s n

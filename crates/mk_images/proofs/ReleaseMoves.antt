@@ -33,7 +33,7 @@ use Rattle.mk_images.proofs.Moves.{Move, Releases}
 use Rattle.mk_images.proofs.Pairs.{shows_plain}
 use Rattle.mk_images.proofs.Kept.{base_at, exists_placed}
 use Rattle.mk_images.proofs.Ready.{Ready, pointed_word}
-use Rattle.mk_images.proofs.Before.{type_is, words_fit, unmapped_is}
+use Rattle.mk_images.proofs.ReadyWorlds.{type_is, words_fit, unmapped_is}
 use Rattle.mk_core.proofs.ChangedAllocations.{changed_at, released_leaves}
 use Rattle.mk_images.proofs.KeptPlaces.{same_places}
 

@@ -142,8 +142,10 @@ module _ (c : Config) (w : World) (n : NeverState) (known : KnownWorld c w) (oth
         | inr out ↦
             let here : has_bit (used_at w.now.words p) cell.index ≡ true = ap (λ q. has_bit (used_at w.now.words q) cell.index) (sym e) ∙ r.used in
             let wiped = wiped_cell w.now.words p (used_at w.now.words p - v) cell.index g.wiped r.index (lost_bit (used_at w.now.words p) v cell.index g.fewer here out) in
-            let first : first_word w.now.words (record { page = p; index = cell.index }) ≡ first_word w.now.words cell = ap (λ q. first_word w.now.words (record { page = q; index = cell.index })) (sym e) in
-            let words : cell_words w.now.words (record { page = p; index = cell.index }) ≡ cell_words w.now.words cell = ap (λ q. cell_words w.now.words (record { page = q; index = cell.index })) (sym e) in
+            let first : first_word w.now.words (record { page = p; index = cell.index }) ≡ first_word w.now.words cell =
+            ap (λ q. first_word w.now.words (record { page = q; index = cell.index })) (sym e) in
+            let words : cell_words w.now.words (record { page = p; index = cell.index }) ≡ cell_words w.now.words cell =
+            ap (λ q. cell_words w.now.words (record { page = q; index = cell.index })) (sym e) in
             let low = r.low in
             let high = r.high in
             let there : first_word w.now.words (record { page = p; index = cell.index }) + (m - first_word w.now.words cell) ≡ m = omega arith in
@@ -153,7 +155,8 @@ module _ (c : Config) (w : World) (n : NeverState) (known : KnownWorld c w) (oth
       ]
 
       used : has_bit (slice_index_or (slice_set w.now.words.pages p (record { header = header_at w.now.words p; used = v })) cell.page free_page).used cell.index ≡ true
-      used = set_by (λ (y : Page). has_bit y.used cell.index ≡ true) w.now.words.pages p cell.page (record { header = header_at w.now.words p; used = v }) free_page (λ e. stays e) r.used
+      used = set_by (λ (y : Page). has_bit y.used cell.index ≡ true) w.now.words.pages p cell.page (record { header = header_at w.now.words p; used = v }) free_page
+          (λ e. stays e) r.used
 
   dropped : (cell : Cell) (m p v : ℕ) → Drops w.now.words p (v % 2 ^ 32) (v / 2 ^ 32) → IsReleasedWord w.now.words cell m
       → IsReleasedWord (record w.now.words { freed = slice_set w.now.words.freed p (v % 2 ^ 32); snapshot = slice_set w.now.words.snapshot p (v / 2 ^ 32) }) cell m
@@ -236,4 +239,3 @@ module _ (c : Config) (w : World) (n : NeverState) (known : KnownWorld c w) (oth
       left_alike w.now.words _ cell m (register_leaves w.now.words (caller_number seat) (register_met f f.stage) (reg_access f f.stage)) r
   released_stays seat (step.Tally t v) h cell m ne r = left_alike w.now.words _ cell m (tally_leaves w.now.words t v) r
   released_stays seat _ h cell m ne r = alike w.now.words _ cell m refl r.released r.used r
-

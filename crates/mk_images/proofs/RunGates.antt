@@ -36,7 +36,7 @@ use Rattle.mk_protocol.proofs.SameWords.{Behind, reg_keeps, tally_keeps}
 use Rattle.mk_images.specs.OthersSay.{OthersSay}
 use Rattle.mk_images.specs.Mirrors.{Mirrors, RunIsAlone}
 use Rattle.mk_images.proofs.KnownWorlds.{KnownWorld}
-use Rattle.mk_images.proofs.FreedRuns.{event_of, freed_behind, gives, WasFreed, Before, Now, was_freed, headed}
+use Rattle.mk_images.proofs.FreeingSteps.{event_of, freed_behind, gives, WasFreed, Before, Now, was_freed, headed}
 use Rattle.mk_images.proofs.GoneRuns.{gone_is, gone_from, holds, gone_stays}
 
 -- a gate that is held stays so where a seat exchanges 0 there, and where it isn't the one that is set
@@ -45,7 +45,8 @@ held_exchanged : (gs : List ℕ) (j k v : ℕ) → slice_index gs k ≡ 2 → sl
 held_exchanged gs j k v two = elim (cases_eq k j) [
   | inl e ↦
       let here : slice_index gs j ≡ 2 = ap (slice_index gs) (sym e) ∙ two in
-      let same : (if slice_index gs j == 0 then v else slice_index gs j) ≡ slice_index gs j = ap (λ b. if b then v else slice_index gs j) (ne_eqb (slice_index gs j) 0 (λ z. absurd (omega arith))) in
+      let same : (if slice_index gs j == 0 then v else slice_index gs j) ≡ slice_index gs j =
+      ap (λ b. if b then v else slice_index gs j) (ne_eqb (slice_index gs j) 0 (λ z. absurd (omega arith))) in
       ap (λ y. slice_index (slice_set gs j y) k) same ∙ ap (λ (xs : List ℕ). slice_index xs k) (set-get_or gs j 0) ∙ two
   | inr ne ↦ get_or-set_other gs j k _ 0 ne ∙ two
 ]
@@ -112,7 +113,8 @@ module _ (c : Config) (w : World) (n : NeverState) (known : KnownWorld c w) (oth
   alone_by seat x h ad run (Before old g) not_gone k lt turn =
       let taken : w.now.words.turn ≢ 0 = λ z. none_is_some run (ap (λ (y : Holding). y.freed) (sym (known.now.orderly.free z)) ∙ old) in
       elim (cases_Bool (is_run_gone w.now.words (Some run))) [
-        | inl gone ↦ absurd (true≢false (sym (gone_from (Behind c w.now seat x).words run (gone_stays c w n known others mirrors run old (gone_is w.now.words run gone) seat x h ad)) ∙ not_gone))
+        | inl gone ↦ absurd (true≢false
+            (sym (gone_from (Behind c w.now seat x).words run (gone_stays c w n known others mirrors run old (gone_is w.now.words run gone) seat x h ad)) ∙ not_gone))
         | inr yet ↦
             let still : is_run_gone w.now.words w.now.seats.holding.freed ≡ false = ap (is_run_gone w.now.words) old ∙ yet in
             held_stays seat x k h still (mirrors.alone still k lt (λ e. turn (turn_stays seat x g taken ∙ e)))
@@ -126,7 +128,8 @@ module _ (c : Config) (w : World) (n : NeverState) (known : KnownWorld c w) (oth
       → RunIsAlone c (world_behind c w (event_of seat x))
   alone_behind seat x h ad = by (freed_behind c w seat (flight_of w.now seat) x) refl
     where
-      by : (freed : Option RunPages) → freed_behind c w seat (flight_of w.now seat) x ≡ freed → is_run_gone (Behind c w.now seat x).words (freed_behind c w seat (flight_of w.now seat) x) ≡ false
+      by : (freed : Option RunPages) → freed_behind c w seat (flight_of w.now seat) x ≡ freed
+          → is_run_gone (Behind c w.now seat x).words (freed_behind c w seat (flight_of w.now seat) x) ≡ false
           → (k : ℕ) → k < c.callers → (Behind c w.now seat x).words.turn ≢ 1 + k → slice_index (Behind c w.now seat x).words.gates k ≡ 2
       by None e not_gone = absurd (true≢false (ap (is_run_gone (Behind c w.now seat x).words) (sym e) ∙ not_gone))
       by (Some run) e not_gone =

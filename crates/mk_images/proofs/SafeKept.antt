@@ -150,10 +150,10 @@ twins_freed xs ys n a p la others is h =
       ty = λ b lt. p.each b ∙ h.ty b (let e = p.count in omega (arith, e))
           ∙ set_by (λ (y : NeverAllocation). (allocation_at n b).ty ≡ y.ty) n.allocations a b new no_allocation (λ e. ap (λ j. (allocation_at n j).ty) e) refl;
       freed = λ b lt. elim (cases_eq b a) [
-        | inl e ↦ ap (λ j. (placed_at ys j).freed) e ∙ is ∙ sym
-            (ap (λ j. (allocation_at (with_freed n a) j).freed) e ∙ ap (λ (y : NeverAllocation). y.freed) (get_or-set_same n.allocations a new no_allocation la))
-        | inr ne ↦ others b ne ∙ h.freed b (let e = p.count in omega (arith, e)) ∙ sym
-            (ap (λ (y : NeverAllocation). y.freed) (get_or-set_other n.allocations a b new no_allocation ne))
+        | inl e ↦ ap (λ j. (placed_at ys j).freed) e ∙ is
+            ∙ sym (ap (λ j. (allocation_at (with_freed n a) j).freed) e ∙ ap (λ (y : NeverAllocation). y.freed) (get_or-set_same n.allocations a new no_allocation la))
+        | inr ne ↦ others b ne ∙ h.freed b (let e = p.count in omega (arith, e))
+            ∙ sym (ap (λ (y : NeverAllocation). y.freed) (get_or-set_other n.allocations a b new no_allocation ne))
       ];
     }
 
@@ -165,16 +165,16 @@ twins_new xs n base ty h =
     record {
       count = length-append xs (y ∷ []) ∙ ap (λ i. i + 1) same ∙ sym (length-append n.allocations (new_words n ty ∷ []));
       ty = λ b lt. elim (cases_eq b (length xs)) [
-        | inl e ↦ ap (λ (x : PlacedAllocation). x.ty) (ap (placed_at (xs ++ y ∷ [])) e ∙ new_placed xs y) ∙ sym
-            (ap (λ (x : NeverAllocation). x.ty) (ap (allocation_at (with_new n ty)) (e ∙ same) ∙ new_never n ty))
-        | inr ne ↦ ap (λ (x : PlacedAllocation). x.ty) (old_placed xs y b ne) ∙ h.ty b (omega arith) ∙ sym
-            (ap (λ (x : NeverAllocation). x.ty) (old_never n ty b (λ e. ne (e ∙ sym same))))
+        | inl e ↦ ap (λ (x : PlacedAllocation). x.ty) (ap (placed_at (xs ++ y ∷ [])) e ∙ new_placed xs y)
+            ∙ sym (ap (λ (x : NeverAllocation). x.ty) (ap (allocation_at (with_new n ty)) (e ∙ same) ∙ new_never n ty))
+        | inr ne ↦ ap (λ (x : PlacedAllocation). x.ty) (old_placed xs y b ne) ∙ h.ty b (omega arith)
+            ∙ sym (ap (λ (x : NeverAllocation). x.ty) (old_never n ty b (λ e. ne (e ∙ sym same))))
       ];
       freed = λ b lt. elim (cases_eq b (length xs)) [
-        | inl e ↦ ap (λ (x : PlacedAllocation). x.freed) (ap (placed_at (xs ++ y ∷ [])) e ∙ new_placed xs y) ∙ sym
-            (ap (λ (x : NeverAllocation). x.freed) (ap (allocation_at (with_new n ty)) (e ∙ same) ∙ new_never n ty))
-        | inr ne ↦ ap (λ (x : PlacedAllocation). x.freed) (old_placed xs y b ne) ∙ h.freed b (omega arith) ∙ sym
-            (ap (λ (x : NeverAllocation). x.freed) (old_never n ty b (λ e. ne (e ∙ sym same))))
+        | inl e ↦ ap (λ (x : PlacedAllocation). x.freed) (ap (placed_at (xs ++ y ∷ [])) e ∙ new_placed xs y)
+            ∙ sym (ap (λ (x : NeverAllocation). x.freed) (ap (allocation_at (with_new n ty)) (e ∙ same) ∙ new_never n ty))
+        | inr ne ↦ ap (λ (x : PlacedAllocation). x.freed) (old_placed xs y b ne) ∙ h.freed b (omega arith)
+            ∙ sym (ap (λ (x : NeverAllocation). x.freed) (old_never n ty b (λ e. ne (e ∙ sym same))))
       ];
     }
 

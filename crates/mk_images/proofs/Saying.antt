@@ -46,13 +46,15 @@ use Rattle.mk_images.specs.OthersSay.{OthersSay}
 use Rattle.mk_images.specs.Mirrors.{Mirrors}
 use Rattle.mk_images.specs.ImagesSay.{IsCellOfUnreleased, IsMappedWord, ImagesSay}
 use Rattle.mk_images.proofs.KnownWorlds.{KnownWorld}
-use Rattle.mk_images.proofs.Kept.{own_plain, exists_placed}
+use Rattle.mk_images.proofs.KeptCalls.{own_plain}
+use Rattle.mk_images.proofs.Kept.{exists_placed}
 use Rattle.mk_images.proofs.Stands.{Stands, stands_of, is_gone}
 use Rattle.mk_images.proofs.Ready.{Ready}
 use Rattle.mk_images.proofs.Reached.{Reaches, reaches}
-use Rattle.mk_images.proofs.Before.{words_fit, unmapped_is, ready_of}
+use Rattle.mk_images.proofs.ReadyWorlds.{words_fit, unmapped_is, ready_of}
 use Rattle.mk_images.proofs.RegMoves.{flight}
 use Rattle.mk_images.proofs.Freeing.{decided_free_gives}
+use Rattle.mk_images.proofs.FreePages.{free_page_is_zero}
 use Rattle.mk_images.proofs.FreeMoves.{pointer_cell}
 use Rattle.mk_images.proofs.CallSorts.{call_outside, admitted_call, literal}
 
@@ -188,4 +190,5 @@ module _ (c : Config) (w : World) (n : NeverState) (known : KnownWorld c w) (oth
         target = target_cell;
         marked = run_marked;
         stored = λ k x now. stored_word k x now.step (enabled_meets c w.now _ now.enabled) now.admitted;
+        free = free_page_is_zero c w n known others mirrors;
       }

@@ -40,7 +40,7 @@ use Rattle.mk_images.specs.ZeroWords.{MayHold, OfMapped, OfReleased, OfFreedRun}
 use Rattle.mk_images.specs.Mirrors.{Mirrors}
 use Rattle.mk_images.proofs.KnownWorlds.{KnownWorld}
 use Rattle.mk_images.proofs.Freeing.{frees_run}
-use Rattle.mk_images.proofs.FreedRuns.{event_of}
+use Rattle.mk_images.proofs.FreeingSteps.{event_of}
 use Rattle.mk_images.proofs.GoneRuns.{gone_is, holds, stored_at}
 use Rattle.mk_images.proofs.MappedWords.{mapped_stays}
 use Rattle.mk_images.proofs.ReleasedWords.{released_stays}
@@ -72,7 +72,8 @@ module _ (c : Config) (w : World) (n : NeverState) (known : KnownWorld c w) (oth
   -- A word of the run that a Free unmaps
 
   freed_seat : (seat : Seat) (run : RunPages) → HoldsTurn c (view_of w.now) seat → w.now.seats.holding.freed ≡ Some run → is_undecided_free (flight_of w.now seat) ≡ true → ⊥
-  freed_seat (Caller k) run hold e free = free_is_undecided (flight_of w.now (Caller k)).stage (flight_of w.now (Caller k)).op free (frees_run c w.now k run known.now.orderly hold e)
+  freed_seat (Caller k) run hold e free =
+      free_is_undecided (flight_of w.now (Caller k)).stage (flight_of w.now (Caller k)).op free (frees_run c w.now k run known.now.orderly hold e)
   freed_seat (Marker k) run hold e free = hold
   freed_seat Host run hold e free = false≢true free
 
@@ -84,9 +85,11 @@ module _ (c : Config) (w : World) (n : NeverState) (known : KnownWorld c w) (oth
       by true z = ap (λ (y : Holding). y.freed) (sym (known.now.orderly.free (eqb-true w.now.words.turn 0 z))) ∙ e
       by false z = e
   run_stays seat step.Give h m ne run e is =
-      let a = and_parts (is_decided (flight_of w.now seat).stage && is_run_gone w.now.words w.now.seats.holding.freed && (w.now.words.held == words_held w.now.words)) (w.now.words.fresh == w.now.fresh_words) h.holder in
+      let a = and_parts (is_decided (flight_of w.now seat).stage && is_run_gone w.now.words w.now.seats.holding.freed && (w.now.words.held == words_held w.now.words))
+      (w.now.words.fresh == w.now.fresh_words) h.holder in
       let b = and_parts (is_decided (flight_of w.now seat).stage && is_run_gone w.now.words w.now.seats.holding.freed) (w.now.words.held == words_held w.now.words) a.0 in
-      let gone = gone_is w.now.words run (ap (is_run_gone w.now.words) (sym e) ∙ (and_parts (is_decided (flight_of w.now seat).stage) (is_run_gone w.now.words w.now.seats.holding.freed) b.0).1) in
+      let gone = gone_is w.now.words run
+      (ap (is_run_gone w.now.words) (sym e) ∙ (and_parts (is_decided (flight_of w.now seat).stage) (is_run_gone w.now.words w.now.seats.holding.freed) b.0).1) in
       let inside = and_parts (nat_le run.page (m / 64)) (nat_lt (m / 64 - run.page) run.count) is in
       let low = leb-true run.page (m / 64) inside.0 in
       let high = ltb-true (m / 64 - run.page) run.count inside.1 in
@@ -98,7 +101,8 @@ module _ (c : Config) (w : World) (n : NeverState) (known : KnownWorld c w) (oth
           → or_else (run_of_cell w.now.words (cell_freed c.pages w.now.words (flight_of w.now seat) p v)) w.now.seats.holding.freed ≡ Some run
       by None none = ap (λ (y : Option Cell). or_else (run_of_cell w.now.words y) w.now.seats.holding.freed) none ∙ e
       by (Some cell) some =
-          absurd (freed_seat seat run (holds c w n known others mirrors seat (step.Quar p v) h refl refl) e (freed_cell c.pages w.now.words (flight_of w.now seat) p v cell some).free)
+          absurd (freed_seat seat run (holds c w n known others mirrors seat (step.Quar p v) h refl refl) e
+          (freed_cell c.pages w.now.words (flight_of w.now seat) p v cell some).free)
   run_stays seat _ h m ne run e is = OfFreedRun run e is
 
   stays : (seat : Seat) (x : Step) → Meets c w.now seat x → (m : ℕ) → slice_index w.now.words.heap m ≢ 0 → MayHold c w m → MayHold c (world_behind c w (event_of seat x)) m

@@ -21,8 +21,8 @@ use Rattle.mk_core.specs.History.{World}
 abbrev pub run_of_allocation : Config → PlacedAllocation → RunPages
 run_of_allocation c a = record { page = a.base / 64; count = pages_made (object_placed c a) }
 
--- An allocation stands on the heap, and its cell is used. Its pages are mapped, but where it is large and freed: then they are unmapped, except
--- while a Free is unmapping them.
+-- An allocation stands on the heap, and its cell is used. Its pages are mapped, but where it is large and freed: then they
+-- are unmapped, except while a Free is unmapping them.
 pub record IsLaidOut (c : Config) (w : Words) (freed : Option RunPages) (a : PlacedAllocation) : Type 0 where
   pub stands : StandsOnHeap c a
   pub headers : HasItsHeaders c w a
@@ -39,12 +39,11 @@ pub record IsPlaceOfNone (c : Config) (w : World) (o : Object) (place : Place) :
   pub stands : place_stands w.now.words o place ≡ true
   pub alone : (i : ℕ) → (placed_at w.allocations i).released ≡ false → (placed_at w.allocations i).base ≢ base_made o place
 
--- The run is that of a large freed allocation that isn't released.
-pub record IsFreedRun (c : Config) (w : World) (run : RunPages) : Type 0 where
+-- The run is that of a large allocation that isn't released.
+pub record IsOwnedRun (c : Config) (w : World) (run : RunPages) : Type 0 where
   pub number : ℕ
   pub unreleased : (placed_at w.allocations number).released ≡ false
   pub large : is_small_object (object_placed c (placed_at w.allocations number)) ≡ false
-  pub freed : (placed_at w.allocations number).freed ≡ true
   pub is : run ≡ run_of_allocation c (placed_at w.allocations number)
 
 -- The cell is that of a freed allocation that isn't released.
@@ -63,8 +62,8 @@ pub record OthersSay (c : Config) (w : World) : Type 0 where
   -- The cell that an undecided New has taken is nobody else's.
   pub taken : (place : Place) (k : ℕ) → w.now.seats.holding.placing ≡ Used place → k < c.callers
       → is_undecided_new (flight_of w.now (Caller k)) ≡ true → IsPlaceOfNone c w (object_made c (flight_of w.now (Caller k)).op) place
-  -- The run that a Free unmaps is a freed allocation's.
-  pub freed_run : (run : RunPages) → w.now.seats.holding.freed ≡ Some run → IsFreedRun c w run
+  -- The run that a Free unmaps is an unreleased allocation's.
+  pub freed_run : (run : RunPages) → w.now.seats.holding.freed ≡ Some run → IsOwnedRun c w run
   -- The snapshot's bits are freed bits.
   pub within : (cell : Cell) → is_in_snapshot w.now.words cell ≡ true → is_freed w.now.words cell ≡ true
   -- A freed bit stands for a freed allocation, but in released cells, which are no unreleased allocation's.

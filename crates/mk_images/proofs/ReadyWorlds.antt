@@ -1,4 +1,4 @@
--- What a step of a caller needs, from the groups.
+-- What a step of a caller needs, from the groups of a world.
 use Rattle.std.proofs.Common.{[], ◌≡◌, ◌≢◌, ℕ, ◌+◌, ◌/◌, ◌<◌, ◌≤◌, Bool, true, false, List, length, sym, ap, subst, ◌∙◌, inl, inr, arith}
 use Rattle.std.specs.Prelude.{nat_lt, ◌&&◌, Option, Some, None}
 use Rattle.std.proofs.lemmas.Bool.{cases_Bool}
@@ -22,7 +22,8 @@ use Rattle.mk_images.proofs.Stands.{Stands, is_gone}
 use Rattle.mk_core.proofs.StandingAllocations.{storage_holds}
 use Rattle.mk_images.proofs.KnownWorlds.{KnownWorld}
 use Rattle.mk_images.specs.Mirrors.{Mirrors}
-use Rattle.mk_images.proofs.Kept.{AreApart, AreSmall, exists_placed}
+use Rattle.mk_images.proofs.KeptCalls.{AreApart, AreSmall}
+use Rattle.mk_images.proofs.Kept.{exists_placed}
 use Rattle.mk_images.proofs.Ready.{Ready}
 use Rattle.mk_images.proofs.Reached.{PagesShow}
 
