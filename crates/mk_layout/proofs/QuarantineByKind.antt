@@ -59,7 +59,7 @@ abbrev QuarantinedNow : Config → World → Terrain → Type 0
 QuarantinedNow c w t = QuarantinedAs c (is_phase w.now.words 4) w t
 
 -- What the layout says of an unreleased allocation's cell.
-shown_at : (c : Config) (w : World) (i : ℕ) → IsLaidOut c w → (placed_at w.allocations i).released ≡ false
+pub shown_at : (c : Config) (w : World) (i : ℕ) → IsLaidOut c w → (placed_at w.allocations i).released ≡ false
     → IsShown w.now.words.pages (claim_of c w.now.seats.holding.freed (placed_at w.allocations i))
 shown_at c w i laid u =
     let x : Claim = claim_of c w.now.seats.holding.freed (placed_at w.allocations i) in
