@@ -22,7 +22,7 @@ use Rattle.mk_layout.proofs.Serving.{Laid, own_claim}
 use Rattle.mk_layout.proofs.StandingClaims.{ends_on_pages}
 use Rattle.mk_zeros.specs.Zeros.{scene_of, IsMappedWord, IsFreedWord, MayHold, OfMapped, OfReleased, OfFreedRun, HasZeros}
 use Rattle.mk_zeros.proofs.MappedWords.{mapped_stays}
-use Rattle.mk_zeros.proofs.ByKind.{none_released}
+use Rattle.mk_zeros.proofs.ChangedScenes.{none_released}
 
 -- a world in order, whose phase isn't releasing
 pub record Unreleasing (c : Config) (w : World) : Type 0 where
