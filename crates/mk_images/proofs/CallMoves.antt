@@ -64,8 +64,7 @@ at_probe (op.SetPtr q i p) h = record { access = refl; put = refl; p = refl; som
 at_probe (op.CasPtr q i p r) h = record { access = refl; put = refl; p = refl; some_p = refl; r = refl }
 at_probe _ h = absurd (true≢false h)
 
-module _ (listed : List ℕ) (safe : ℕ → Bool) (s : Scene) (n : NeverState) (k : ℕ) (h : Ready listed safe s n) (there : k < length s.flights)
-    (long : 8 * k + 7 < length n.registers) where
+module _ (listed : List ℕ) (safe : ℕ → Bool) (s : Scene) (n : NeverState) (k : ℕ) (h : Ready listed safe s n) (there : k < length s.flights) (long : 8 * k + 7 < length n.registers) where
   own_sound : (r : ℕ) → IsSound n (register_at n k r)
   own_sound r = h.typed.registers (8 * k + r)
 
@@ -113,13 +112,10 @@ module _ (listed : List ℕ) (safe : ℕ → Bool) (s : Scene) (n : NeverState) 
       let word = word_at n to.number to.place in
       let value : x ≡ image_of (bases_of s.allocations) word = e ∙ ap (slice_index s.heap) to.word ∙ h.images.heap to.number to.place to.unreleased to.mapped to.inside in
       let sound = suited_is_sound n word _ to.kind (suits listed safe s n h to.number to.place to.exists to.inside) in (
-        subst (λ t. Move safe s n (record s { flights = slice_set s.flights k (flight stage.Put (op.GetPtr d q' i) q p r x) })
-            (left_at t (with_register n k d Null) (λ a w. with_register n k d (word_at n a w)))) (sym to.target)
-            (Owes k (flight stage.Put (op.GetPtr d q' i) q p r x) word there long (ap (λ (f : Flight). is_put f.stage) is) refl ld value
-            (h.set.closed to.number to.place to.of_set to.mapped)),
+        subst (λ t. Move safe s n (record s { flights = slice_set s.flights k (flight stage.Put (op.GetPtr d q' i) q p r x) }) (left_at t (with_register n k d Null) (λ a w. with_register n k d (word_at n a w)))) (sym to.target)
+            (Owes k (flight stage.Put (op.GetPtr d q' i) q p r x) word there long (ap (λ (f : Flight). is_put f.stage) is) refl ld value (h.set.closed to.number to.place to.of_set to.mapped)),
         λ more. one_right (bases_of s.allocations ++ more) (answer.Word x) n k (op.GetPtr d q' i)
-            (ap answer.Word (value ∙ sound_more listed safe s n h word more sound)
-            ∙ ap (λ t. answer_of (bases_of s.allocations ++ more) (reply_at t (λ a w. Val (word_at n a w)))) (sym to.target)),
+            (ap answer.Word (value ∙ sound_more listed safe s n h word more sound) ∙ ap (λ t. answer_of (bases_of s.allocations ++ more) (reply_at t (λ a w. Val (word_at n a w)))) (sym to.target)),
       )
   read_leads (op.New d ty full) q p r l x is ld a car pro e ad = cc
   read_leads _ q p r l x is ld a car pro e ad = cc
@@ -129,31 +125,22 @@ module _ (listed : List ℕ) (safe : ℕ → Bool) (s : Scene) (n : NeverState) 
 
   pub write_leads : (o : Op) (q p r l : ℕ) → flight_among s.flights k ≡ flight stage.Write o q p r l → is_astray (standing_at stage.Write o) ≡ false
       → CarriesOwn (bases_of s.allocations) n k (flight stage.Write o q p r l) → ProbedOwn n k (flight stage.Write o q p r l) → IsAdmitted listed n k o
-      → LeadsBy safe s n k o (record s { heap = slice_set s.heap ((q - 65536) / 8 + i_of o) (value_written (flight stage.Write o q p r l) o) })
-      (onward (flight stage.Write o q p r l) (Some answer.Done))
+      → LeadsBy safe s n k o (record s { heap = slice_set s.heap ((q - 65536) / 8 + i_of o) (value_written (flight stage.Write o q p r l) o) }) (onward (flight stage.Write o q p r l) (Some answer.Done))
   write_leads (op.SetNum q' i m) q p r l is a car pro ad =
       let to = reaches listed safe s n h (register_at n k q') q i IsNumber (car.q refl) (car.some_q refl) (own_sound q') (own_safe q') (pro refl) ad.access in
       let f = flight stage.Dirty (op.SetNum q' i m) q p r l in (
-        subst (λ x. Move safe s n (record s { heap = slice_set s.heap x m; flights = slice_set s.flights k f })
-            (left_at (target_of n (register_at n k q') i) n (λ a w. with_word n a w (Num m)))) (sym to.word)
-            (subst (λ t. Move safe s n (record s { heap = slice_set s.heap ((placed_at s.allocations to.number).base + to.place) m; flights = slice_set s.flights k f })
-            (left_at t n (λ a w. with_word n a w (Num m)))) (sym to.target)
-            (Writes k to.number to.place m f (Num m) (decides f stage.Write (op.SetNum q' i m) q p r l is refl) to.unreleased to.mapped to.inside
-            (h.bound to.number to.place to.unreleased to.inside) refl tt)),
-        λ more. one_right (bases_of s.allocations ++ more) answer.Done n k (op.SetNum q' i m)
-            (ap (λ t. answer_of (bases_of s.allocations ++ more) (reply_at t (λ a w. Done))) (sym to.target)),
+        subst (λ x. Move safe s n (record s { heap = slice_set s.heap x m; flights = slice_set s.flights k f }) (left_at (target_of n (register_at n k q') i) n (λ a w. with_word n a w (Num m)))) (sym to.word)
+            (subst (λ t. Move safe s n (record s { heap = slice_set s.heap ((placed_at s.allocations to.number).base + to.place) m; flights = slice_set s.flights k f }) (left_at t n (λ a w. with_word n a w (Num m)))) (sym to.target)
+            (Writes k to.number to.place m f (Num m) (decides f stage.Write (op.SetNum q' i m) q p r l is refl) to.unreleased to.mapped to.inside (h.bound to.number to.place to.unreleased to.inside) refl tt)),
+        λ more. one_right (bases_of s.allocations ++ more) answer.Done n k (op.SetNum q' i m) (ap (λ t. answer_of (bases_of s.allocations ++ more) (reply_at t (λ a w. Done))) (sym to.target)),
       )
   write_leads (op.SetPtr q' i p') q p r l is a car pro ad =
       let to = reaches listed safe s n h (register_at n k q') q i IsPointer (car.q refl) (car.some_q refl) (own_sound q') (own_safe q') (pro refl) ad.access in
       let f = flight stage.Dirty (op.SetPtr q' i p') q p r l in (
-        subst (λ x. Move safe s n (record s { heap = slice_set s.heap x p; flights = slice_set s.flights k f })
-            (left_at (target_of n (register_at n k q') i) n (λ a w. with_word n a w (register_at n k p')))) (sym to.word)
-            (subst (λ t. Move safe s n (record s { heap = slice_set s.heap ((placed_at s.allocations to.number).base + to.place) p; flights = slice_set s.flights k f })
-            (left_at t n (λ a w. with_word n a w (register_at n k p')))) (sym to.target)
-            (Writes k to.number to.place p f (register_at n k p') (decides f stage.Write (op.SetPtr q' i p') q p r l is refl) to.unreleased to.mapped to.inside
-            (h.bound to.number to.place to.unreleased to.inside) (car.p refl) (own_safe p'))),
-        λ more. one_right (bases_of s.allocations ++ more) answer.Done n k (op.SetPtr q' i p')
-            (ap (λ t. answer_of (bases_of s.allocations ++ more) (reply_at t (λ a w. Done))) (sym to.target)),
+        subst (λ x. Move safe s n (record s { heap = slice_set s.heap x p; flights = slice_set s.flights k f }) (left_at (target_of n (register_at n k q') i) n (λ a w. with_word n a w (register_at n k p')))) (sym to.word)
+            (subst (λ t. Move safe s n (record s { heap = slice_set s.heap ((placed_at s.allocations to.number).base + to.place) p; flights = slice_set s.flights k f }) (left_at t n (λ a w. with_word n a w (register_at n k p')))) (sym to.target)
+            (Writes k to.number to.place p f (register_at n k p') (decides f stage.Write (op.SetPtr q' i p') q p r l is refl) to.unreleased to.mapped to.inside (h.bound to.number to.place to.unreleased to.inside) (car.p refl) (own_safe p'))),
+        λ more. one_right (bases_of s.allocations ++ more) answer.Done n k (op.SetPtr q' i p') (ap (λ t. answer_of (bases_of s.allocations ++ more) (reply_at t (λ a w. Done))) (sym to.target)),
       )
   write_leads (op.New d ty full) q p r l is a car pro ad = cc
   write_leads _ q p r l is a car pro ad = cc
@@ -161,15 +148,12 @@ module _ (listed : List ℕ) (safe : ℕ → Bool) (s : Scene) (n : NeverState) 
   cas_by : (b : Bool) (o : Op) (q p r l r' a i w x : ℕ) → w ≡ (placed_at s.allocations a).base + i → x ≡ slice_index s.heap w → (placed_at s.allocations a).released ≡ false
       → is_unmapped (allocation_at n a) ≡ false
       → i < length (words_of n a) → r ≡ image_of (bases_of s.allocations) (register_at n k r') → Decides s n k (flight stage.Dirty o q p r l)
-      → Move safe s n (record s { heap = slice_set s.heap w (if b then r else x); flights = slice_set s.flights k (flight stage.Dirty o q p r l) })
-      (if b then with_word n a i (register_at n k r') else n)
+      → Move safe s n (record s { heap = slice_set s.heap w (if b then r else x); flights = slice_set s.flights k (flight stage.Dirty o q p r l) }) (if b then with_word n a i (register_at n k r') else n)
   cas_by true o q p r l r' a i w x ew ex u m inside er at =
-      subst (λ y. Move safe s n (record s { heap = slice_set s.heap y r; flights = slice_set s.flights k (flight stage.Dirty o q p r l) })
-      (with_word n a i (register_at n k r'))) (sym ew)
+      subst (λ y. Move safe s n (record s { heap = slice_set s.heap y r; flights = slice_set s.flights k (flight stage.Dirty o q p r l) }) (with_word n a i (register_at n k r'))) (sym ew)
       (Writes k a i r (flight stage.Dirty o q p r l) (register_at n k r') at u m inside (h.bound a i u inside) er (own_safe r'))
   cas_by false o q p r l r' a i w x ew ex u m inside er at =
-      subst (λ (ys : List ℕ). Move safe s n (record s { heap = ys; flights = slice_set s.flights k (flight stage.Dirty o q p r l) }) n)
-      (sym (ap (slice_set s.heap w) ex ∙ set-get_or s.heap w 0))
+      subst (λ (ys : List ℕ). Move safe s n (record s { heap = ys; flights = slice_set s.flights k (flight stage.Dirty o q p r l) }) n) (sym (ap (slice_set s.heap w) ex ∙ set-get_or s.heap w 0))
       (goes_bare safe s n k (flight stage.Dirty o q p r l) at.was refl)
 
   -- A compare and exchange reaches a word, and compares its value to that of its caller's register p.
@@ -196,12 +180,9 @@ module _ (listed : List ℕ) (safe : ℕ → Bool) (s : Scene) (n : NeverState) 
       let to = compared.0 in
       let f = flight stage.Dirty (op.CasPtr q' i p' r') q p r l in
       let at : ℕ → ℕ → NeverState = λ a w. if is_same (word_at n a w) (register_at n k p') then with_word n a w (register_at n k r') else n in (
-        subst (λ t. Move safe s n (record s { heap = slice_set s.heap ((q - 65536) / 8 + i) (if x == p then r else x); flights = slice_set s.flights k f })
-            (left_at t n at)) (sym to.target)
-            (subst (λ b. Move safe s n (record s { heap = slice_set s.heap ((q - 65536) / 8 + i) (if x == p then r else x); flights = slice_set s.flights k f })
-            (if b then with_word n to.number to.place (register_at n k r') else n)) compared.1
-            (cas_by (x == p) (op.CasPtr q' i p' r') q p r l r' to.number to.place ((q - 65536) / 8 + i) x to.word e to.unreleased to.mapped to.inside (car.r refl)
-            (decides f stage.Cas (op.CasPtr q' i p' r') q p r l is refl))),
+        subst (λ t. Move safe s n (record s { heap = slice_set s.heap ((q - 65536) / 8 + i) (if x == p then r else x); flights = slice_set s.flights k f }) (left_at t n at)) (sym to.target)
+            (subst (λ b. Move safe s n (record s { heap = slice_set s.heap ((q - 65536) / 8 + i) (if x == p then r else x); flights = slice_set s.flights k f }) (if b then with_word n to.number to.place (register_at n k r') else n)) compared.1
+            (cas_by (x == p) (op.CasPtr q' i p' r') q p r l r' to.number to.place ((q - 65536) / 8 + i) x to.word e to.unreleased to.mapped to.inside (car.r refl) (decides f stage.Cas (op.CasPtr q' i p' r') q p r l is refl))),
         λ more. one_right (bases_of s.allocations ++ more) (answer.Num (one_if (x == p))) n k (op.CasPtr q' i p' r')
             (ap (λ b. answer.Num (one_if b)) compared.1 ∙ ap answer.Num (bit_is (is_same (word_at n to.number to.place) (register_at n k p')))
             ∙ ap (λ t. answer_of (bases_of s.allocations ++ more) (reply_at t (λ a w. Number (bit (is_same (word_at n a w) (register_at n k p')))))) (sym to.target)),
@@ -215,8 +196,7 @@ module _ (listed : List ℕ) (safe : ℕ → Bool) (s : Scene) (n : NeverState) 
   getg_leads (op.GetGlobal d g) q p r l x is ld a e =
       let value : x ≡ image_of (bases_of s.allocations) (global_at n g) = e ∙ h.images.globals g in (
         Owes k (flight stage.Put (op.GetGlobal d g) q p r x) (global_at n g) there long (ap (λ (f : Flight). is_put f.stage) is) refl ld value (h.set.globals g),
-        λ more. one_right (bases_of s.allocations ++ more) (answer.Word x) n k (op.GetGlobal d g)
-            (ap answer.Word (value ∙ sound_more listed safe s n h (global_at n g) more (h.typed.globals g))),
+        λ more. one_right (bases_of s.allocations ++ more) (answer.Word x) n k (op.GetGlobal d g) (ap answer.Word (value ∙ sound_more listed safe s n h (global_at n g) more (h.typed.globals g))),
       )
   getg_leads (op.New d ty full) q p r l x is ld a e = cc
   getg_leads _ q p r l x is ld a e = cc
@@ -226,8 +206,7 @@ module _ (listed : List ℕ) (safe : ℕ → Bool) (s : Scene) (n : NeverState) 
       → g_of o < length s.globals → g_of o < length n.globals
       → LeadsBy safe s n k o (record s { globals = slice_set s.globals (g_of o) p }) (onward (flight stage.Setg o q p r l) (Some answer.Done))
   setg_leads (op.SetGlobal g p') q p r l is a car lg ln = (
-    Shares k g p (flight stage.Leave (op.SetGlobal g p') q p r l) (register_at n k p')
-        (record { there = there; registers = long; was = ap (λ (f : Flight). is_put f.stage) is; bare = refl }) lg ln (car.p refl) (own_safe p'),
+    Shares k g p (flight stage.Leave (op.SetGlobal g p') q p r l) (register_at n k p') (record { there = there; registers = long; was = ap (λ (f : Flight). is_put f.stage) is; bare = refl }) lg ln (car.p refl) (own_safe p'),
     λ more. refl,
   )
   setg_leads (op.New d ty full) q p r l is a car lg ln = cc

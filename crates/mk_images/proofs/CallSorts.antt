@@ -34,7 +34,7 @@ use Rattle.mk_images.specs.Images.{scene_of, is_put, is_past_probe, CarriesOwn, 
 use Rattle.mk_images.proofs.KnownWorlds.{KnownWorld}
 use Rattle.mk_images.specs.Mirrors.{Mirrors}
 use Rattle.mk_images.proofs.Moves.{is_bare, Flies}
-use Rattle.mk_images.proofs.KeptCalls.{own_plain}
+use Rattle.mk_images.proofs.Kept.{own_plain}
 use Rattle.mk_images.proofs.Ready.{Ready, Leads, LeadsBy, either_leads}
 use Rattle.mk_images.proofs.Refusals.{goes_bare}
 use Rattle.mk_images.proofs.Reached.{PagesShow}
@@ -43,8 +43,7 @@ use Rattle.mk_images.proofs.CallMoves.{probe_leads, read_leads, write_leads, cas
 
 abbrev pub LeadsAt : Config → World → NeverState → (ℕ → Bool) → ℕ → Step → Type 0
 LeadsAt c w n safe k x =
-    Leads safe (scene_of w) n k (flight_of w.now (Caller k)).op (scene_of (world_behind c w (record { seat = Caller k; step = x })))
-    (answer_decided c w.now (record { seat = Caller k; step = x }))
+    Leads safe (scene_of w) n k (flight_of w.now (Caller k)).op (scene_of (world_behind c w (record { seat = Caller k; step = x }))) (answer_decided c w.now (record { seat = Caller k; step = x }))
 
 abbrev pub AdmittedAt : Config → World → NeverState → ℕ → Step → Type 0
 AdmittedAt c w n k x = AreAdmitted c.globals n (asked (call_decided c w.now (record { seat = Caller k; step = x })))
@@ -141,8 +140,7 @@ module _ (c : Config) (w : World) (n : NeverState) (known : KnownWorld c w) (mir
       → LeadsBy safe (scene_of w) n k o (scene_of w) (begins_where_free (flight_of w.now (Caller k)) next x)
   begins k o next x was =
       either_leads safe (scene_of w) n k o (scene_of w) (x == 0) (record { flight = begun next; answer = None }) (still (flight_of w.now (Caller k)))
-      (λ z. flies_on safe (scene_of w) n k o (begun next) was (begun_not_put next) (begun_carries _ next n k)
-      (λ past. let y : false ≡ true = sym (begun_unprobed next) ∙ past in cc))
+      (λ z. flies_on safe (scene_of w) n k o (begun next) was (begun_not_put next) (begun_carries _ next n k) (λ past. let y : false ≡ true = sym (begun_unprobed next) ∙ past in cc))
       (λ z. flies_on safe (scene_of w) n k o (flight_of w.now (Caller k)) was was (ready.images.carried k) (ready.images.probed k))
 
   -- a call that stays where it is
@@ -185,41 +183,13 @@ module _ (c : Config) (w : World) (n : NeverState) (known : KnownWorld c w) (mir
       let f = flight_of w.now (Caller k) in
       let lt = ltb-true k c.callers h.seat in
       let x = register_word w.now.words k (register_met f f.stage) in
-      subst (λ (rs : List ℕ). Leads safe (scene_of w) n k f.op
-      (record {
-        registers =
-            rs;
-        globals = (accessed w.now.words (Named (word.Reg k (register_met f f.stage))) (reg_access f f.stage)).globals;
-        heap =
-            (accessed w.now.words (Named (word.Reg k (register_met f f.stage))) (reg_access f f.stage)).heap;
-        flights =
-            slice_set w.now.seats.flights k (progress_reg f f.stage x).flight;
-        allocations = w.allocations;
-      }) (progress_reg f f.stage x).answer)
+      subst (λ (rs : List ℕ). Leads safe (scene_of w) n k f.op (record { registers = rs; globals = (accessed w.now.words (Named (word.Reg k (register_met f f.stage))) (reg_access f f.stage)).globals; heap = (accessed w.now.words (Named (word.Reg k (register_met f f.stage))) (reg_access f f.stage)).heap; flights = slice_set w.now.seats.flights k (progress_reg f f.stage x).flight; allocations = w.allocations }) (progress_reg f f.stage x).answer)
       (sym (reg_registers w.now.words k f f.stage))
-      (subst (λ (gs : List ℕ). Leads safe (scene_of w) n k f.op
-      (record {
-        registers = registers_behind w.now.words.registers k f f.stage;
-        globals =
-            gs;
-        heap = (accessed w.now.words (Named (word.Reg k (register_met f f.stage))) (reg_access f f.stage)).heap;
-        flights =
-            slice_set w.now.seats.flights k (progress_reg f f.stage x).flight;
-        allocations = w.allocations;
-      }) (progress_reg f f.stage x).answer)
+      (subst (λ (gs : List ℕ). Leads safe (scene_of w) n k f.op (record { registers = registers_behind w.now.words.registers k f f.stage; globals = gs; heap = (accessed w.now.words (Named (word.Reg k (register_met f f.stage))) (reg_access f f.stage)).heap; flights = slice_set w.now.seats.flights k (progress_reg f f.stage x).flight; allocations = w.allocations }) (progress_reg f f.stage x).answer)
       (sym (reg_globals w.now.words k f f.stage))
-      (subst (λ (hs : List ℕ). Leads safe (scene_of w) n k f.op
-      (record {
-        registers = registers_behind w.now.words.registers k f f.stage;
-        globals = w.now.words.globals;
-        heap = hs;
-        flights =
-            slice_set w.now.seats.flights k (progress_reg f f.stage x).flight;
-        allocations = w.allocations;
-      }) (progress_reg f f.stage x).answer)
+      (subst (λ (hs : List ℕ). Leads safe (scene_of w) n k f.op (record { registers = registers_behind w.now.words.registers k f f.stage; globals = w.now.words.globals; heap = hs; flights = slice_set w.now.seats.flights k (progress_reg f f.stage x).flight; allocations = w.allocations }) (progress_reg f f.stage x).answer)
       (sym (reg_heap w.now.words k f f.stage))
-      (reg_leads c.globals safe (scene_of w) n k ready (there_is k lt) (own_registers k lt) (own_words k lt) f.stage f.op f.q f.p f.r f.loaded x refl (own_d k)
-      (at_reg f.stage f.op h.order) (own_astray k lt) (ready.images.carried k)
+      (reg_leads c.globals safe (scene_of w) n k ready (there_is k lt) (own_registers k lt) (own_words k lt) f.stage f.op f.q f.p f.r f.loaded x refl (own_d k) (at_reg f.stage f.op h.order) (own_astray k lt) (ready.images.carried k)
       (λ np. own_plain (scene_of w) n ready.images k (register_met f f.stage) (register_small_here k f.stage) np) ad)))
     where
       register_small_here : (k : ℕ) (s : Stage) → register_met (flight_of w.now (Caller k)) s < 8
@@ -236,10 +206,8 @@ module _ (c : Config) (w : World) (n : NeverState) (known : KnownWorld c w) (mir
       let e = literal f stage.Probe st in
       let out = call_outside f.op f.stage (ap is_call_stage st) (own_astray k lt) in
       subst (λ (g : Flight). LeadsBy safe (scene_of w) n k g.op (scene_of w) (progress_probe g (header_at w.now.words (page_met f)))) (sym e)
-      (probe_leads c.globals safe (scene_of w) n k ready (there_is k lt) (own_registers k lt) (header_at w.now.words) show f.op f.q f.p f.r f.loaded
-      (header_at w.now.words (page_met f)) e (own_d k)
-      (subst (λ (g : Flight). is_astray (standing g) ≡ false) e (own_astray k lt))
-      (subst (λ (g : Flight). CarriesOwn (bases_of w.allocations) n k g) e (ready.images.carried k)) refl
+      (probe_leads c.globals safe (scene_of w) n k ready (there_is k lt) (own_registers k lt) (header_at w.now.words) show f.op f.q f.p f.r f.loaded (header_at w.now.words (page_met f)) e (own_d k)
+      (subst (λ (g : Flight). is_astray (standing g) ≡ false) e (own_astray k lt)) (subst (λ (g : Flight). CarriesOwn (bases_of w.allocations) n k g) e (ready.images.carried k)) refl
       (λ u. admitted_call c.globals n k f.op answer.Fault out
       (subst (λ b. AreAdmitted c.globals n (asked (entry_of k f.op (if b then refused f answer.Fault else onward f None).answer))) u ad)))
 
@@ -263,8 +231,7 @@ module _ (c : Config) (w : World) (n : NeverState) (known : KnownWorld c w) (mir
       let st = at_its_stage f.stage f.op step.Write refl h.order in
       let e = literal f stage.Write st in
       let out = call_outside f.op f.stage (ap is_call_stage st) (own_astray k lt) in
-      subst (λ (g : Flight). LeadsBy safe (scene_of w) n k g.op (record (scene_of w) { heap = slice_set w.now.words.heap (word_met g) (value_written g g.op) })
-      (onward g (Some answer.Done))) (sym e)
+      subst (λ (g : Flight). LeadsBy safe (scene_of w) n k g.op (record (scene_of w) { heap = slice_set w.now.words.heap (word_met g) (value_written g g.op) }) (onward g (Some answer.Done))) (sym e)
       (write_leads c.globals safe (scene_of w) n k ready (there_is k lt) (own_registers k lt) f.op f.q f.p f.r f.loaded e
       (subst (λ (g : Flight). is_astray (standing g) ≡ false) e (own_astray k lt)) (subst (λ (g : Flight). CarriesOwn (bases_of w.allocations) n k g) e (ready.images.carried k))
       (subst (λ (g : Flight). ProbedOwn n k g) e (ready.images.probed k)) (admitted_call c.globals n k f.op answer.Done out ad))
@@ -277,8 +244,7 @@ module _ (c : Config) (w : World) (n : NeverState) (known : KnownWorld c w) (mir
       let e = literal f stage.Cas st in
       let out = call_outside f.op f.stage (ap is_call_stage st) (own_astray k lt) in
       let x = slice_index w.now.words.heap (word_met f) in
-      subst (λ (g : Flight). LeadsBy safe (scene_of w) n k g.op (record (scene_of w) { heap = slice_set w.now.words.heap (word_met g) (if x == g.p then g.r else x) })
-      (progress_cas g x)) (sym e)
+      subst (λ (g : Flight). LeadsBy safe (scene_of w) n k g.op (record (scene_of w) { heap = slice_set w.now.words.heap (word_met g) (if x == g.p then g.r else x) }) (progress_cas g x)) (sym e)
       (cas_leads c.globals safe (scene_of w) n k ready (there_is k lt) (own_registers k lt) f.op f.q f.p f.r f.loaded x e
       (subst (λ (g : Flight). is_astray (standing g) ≡ false) e (own_astray k lt)) (subst (λ (g : Flight). CarriesOwn (bases_of w.allocations) n k g) e (ready.images.carried k))
       (subst (λ (g : Flight). ProbedOwn n k g) e (ready.images.probed k)) refl (admitted_call c.globals n k f.op _ out ad))
@@ -290,8 +256,7 @@ module _ (c : Config) (w : World) (n : NeverState) (known : KnownWorld c w) (mir
       let e = literal f stage.Getg (at_its_stage f.stage f.op step.Getg refl h.order) in
       let x = slice_index w.now.words.globals (g_of f.op) in
       subst (λ (g : Flight). LeadsBy safe (scene_of w) n k g.op (scene_of w) (progress_getg g x)) (sym e)
-      (getg_leads c.globals safe (scene_of w) n k ready (there_is k lt) (own_registers k lt) f.op f.q f.p f.r f.loaded x e (own_d k)
-      (subst (λ (g : Flight). is_astray (standing g) ≡ false) e (own_astray k lt)) refl)
+      (getg_leads c.globals safe (scene_of w) n k ready (there_is k lt) (own_registers k lt) f.op f.q f.p f.r f.loaded x e (own_d k) (subst (λ (g : Flight). is_astray (standing g) ≡ false) e (own_astray k lt)) refl)
 
   pub setg_leads_at : (k : ℕ) → Meets c w k step.Setg → LeadsAt c w n safe k step.Setg
   setg_leads_at k h =
@@ -302,8 +267,7 @@ module _ (c : Config) (w : World) (n : NeverState) (known : KnownWorld c w) (mir
       let small = parts.g in
       let lg = known.lengths.globals in
       let ln = mirrors.global_count in
-      subst (λ (g : Flight). LeadsBy safe (scene_of w) n k g.op (record (scene_of w) { globals = slice_set w.now.words.globals (g_of g.op) g.p })
-      (onward g (Some answer.Done))) (sym e)
+      subst (λ (g : Flight). LeadsBy safe (scene_of w) n k g.op (record (scene_of w) { globals = slice_set w.now.words.globals (g_of g.op) g.p }) (onward g (Some answer.Done))) (sym e)
       (setg_leads c.globals safe (scene_of w) n k ready (there_is k lt) (own_registers k lt) f.op f.q f.p f.r f.loaded e
       (subst (λ (g : Flight). is_astray (standing g) ≡ false) e (own_astray k lt)) (subst (λ (g : Flight). CarriesOwn (bases_of w.allocations) n k g) e (ready.images.carried k))
       (omega arith) (omega arith))

@@ -50,7 +50,7 @@ use Rattle.mk_images.proofs.Stands.{Stands}
 use Rattle.mk_images.specs.OthersSay.{OthersSay}
 use Rattle.mk_images.proofs.Moves.{Move, Rests, Wipes, Renews}
 use Rattle.mk_images.proofs.Ready.{Ready, Leads}
-use Rattle.mk_images.proofs.ReadyWorlds.{pages_show}
+use Rattle.mk_images.proofs.Before.{pages_show}
 use Rattle.mk_images.proofs.HeldGates.{others_idle}
 use Rattle.mk_images.proofs.GrantMoves.{wiped_outside}
 use Rattle.mk_images.proofs.ReleaseMoves.{releases}
@@ -89,15 +89,7 @@ idle_plain : (s : Stage) → s ≡ stage.Idle → is_put s ≡ false
 idle_plain s e = ap is_put e
 
 tally_scene : (w : World) (t : Tally) (v : ℕ)
-    → scene_of w ≡ record {
-      registers = (accessed w.now.words (Named (tally_word t)) (Store v)).registers;
-      globals =
-          (accessed w.now.words (Named (tally_word t)) (Store v)).globals;
-      heap = (accessed w.now.words (Named (tally_word t)) (Store v)).heap;
-      flights =
-          w.now.seats.flights;
-      allocations = w.allocations;
-    }
+    → scene_of w ≡ record { registers = (accessed w.now.words (Named (tally_word t)) (Store v)).registers; globals = (accessed w.now.words (Named (tally_word t)) (Store v)).globals; heap = (accessed w.now.words (Named (tally_word t)) (Store v)).heap; flights = w.now.seats.flights; allocations = w.allocations }
 tally_scene w tally.Held v = refl
 tally_scene w _ v = refl
 
@@ -108,8 +100,7 @@ none_target : (b : Bool) → (if b then no_cell else no_cell) ≡ no_cell
 none_target true = refl
 none_target false = refl
 
-module _ (c : Config) (w : World) (n : NeverState) (known : KnownWorld c w) (mirrors : Mirrors c w n) (others : OthersSay c w) (safe : ℕ → Bool)
-    (ready : Ready c.globals safe (scene_of w) n) (st : Stands c w.now.words w.allocations) where
+module _ (c : Config) (w : World) (n : NeverState) (known : KnownWorld c w) (mirrors : Mirrors c w n) (others : OthersSay c w) (safe : ℕ → Bool) (ready : Ready c.globals safe (scene_of w) n) (st : Stands c w.now.words w.allocations) where
   -- at a release nothing is owed
   plain_at : (seat : Seat) → is_open_to seat group.Turn ≡ true → MeetsOf c w seat step.Release → (j : ℕ) → is_put (flight_among w.now.seats.flights j).stage ≡ false
   plain_at (Caller k) o h j = elim (cases_eq j k) [
@@ -135,8 +126,7 @@ module _ (c : Config) (w : World) (n : NeverState) (known : KnownWorld c w) (mir
   still_moves seat (step.Wipe x) s h = Wipes x (wiped_outside c w n known mirrors others st x (h.holder))
   still_moves seat step.Begin s h =
       Renews (map no_longer_fresh w.allocations) (same_places no_longer_fresh w.allocations fresh_leaves)
-      (λ a. ap (λ (y : PlacedAllocation). y.released) (changed_at no_longer_fresh w.allocations a refl))
-      (λ a. ap (λ (y : PlacedAllocation). y.freed) (changed_at no_longer_fresh w.allocations a refl))
+      (λ a. ap (λ (y : PlacedAllocation). y.released) (changed_at no_longer_fresh w.allocations a refl)) (λ a. ap (λ (y : PlacedAllocation). y.freed) (changed_at no_longer_fresh w.allocations a refl))
   still_moves seat step.Release s h = releases c w n known mirrors safe ready st (others.marks (eqb-true (w.now.words.phase % 8) 3 h.phase)) (plain_at seat h.kind h)
   still_moves seat _ s h = Rests
 
@@ -156,9 +146,8 @@ module _ (c : Config) (w : World) (n : NeverState) (known : KnownWorld c w) (mir
   gone_for k lt in_call = elim (cases_Bool (is_run_gone w.now.words w.now.seats.holding.freed)) [
     | inl e ↦ e
     | inr e ↦
-        let s : Shows w.now.words.turn (gate_in (view_of w.now) k) k InCall =
-        subst (λ s. Shows w.now.words.turn (gate_in (view_of w.now) k) k s) in_call (known.now.orderly.each k lt) in
-        let g = mirrors.alone e k lt s.1 in
+        let s : Shows w.now.words.turn (gate_in (view_of w.now) k) k InCall = subst (λ s. Shows w.now.words.turn (gate_in (view_of w.now) k) k s) in_call (known.now.orderly.each k lt) in
+        let g = others.gates e k lt s.1 in
         let one = s.0 in
         absurd (omega arith)
   ]
@@ -166,8 +155,7 @@ module _ (c : Config) (w : World) (n : NeverState) (known : KnownWorld c w) (mir
   quiet_at : (k p v : ℕ) → MeetsOf c w (Caller k) (step.Quar p v) → is_run_cell w.now.words (target c.pages w.now.words (flight_of w.now (Caller k))) ≡ true → (j : ℕ) → j ≢ k
       → is_past_probe (flight_among w.now.seats.flights j).stage ≡ false
   quiet_at k p v h run j ne =
-      let held : others_are_held c.callers w.now.words (Caller k) ≡ true =
-      either_held (is_run_cell w.now.words (target c.pages w.now.words (flight_of w.now (Caller k)))) (others_are_held c.callers w.now.words (Caller k)) run h.gates in
+      let held : others_are_held c.callers w.now.words (Caller k) ≡ true = either_held (is_run_cell w.now.words (target c.pages w.now.words (flight_of w.now (Caller k)))) (others_are_held c.callers w.now.words (Caller k)) run h.gates in
       ap is_past_probe (others_idle c (view_of w.now) k known.now.orderly (others_held c w.now (Caller k) held) j ne)
     where
       either_held : (a b : Bool) → a ≡ true → (not a || b) ≡ true → b ≡ true
@@ -175,8 +163,7 @@ module _ (c : Config) (w : World) (n : NeverState) (known : KnownWorld c w) (mir
       either_held false b e g = absurd (false≢true e)
 
   grant_phase : (p : ℕ) → ((p == 0) || (p == 1)) ≡ true → p ≢ 4
-  grant_phase p h = elim
-      (or_cases (p == 0) (p == 1) h) [ inl e ↦ λ x. absurd (let y = eqb-true p 0 e in omega (arith, x, y)) | inr e ↦ λ x. absurd (let y = eqb-true p 1 e in omega (arith, x, y)) ]
+  grant_phase p h = elim (or_cases (p == 0) (p == 1) h) [ inl e ↦ λ x. absurd (let y = eqb-true p 0 e in omega (arith, x, y)) | inr e ↦ λ x. absurd (let y = eqb-true p 1 e in omega (arith, x, y)) ]
 
   caller_goes : (k : ℕ) (x : Step) → MeetsOf c w (Caller k) x → AdmittedOf c w n (record { seat = Caller k; step = x }) → Goes c w n safe (record { seat = Caller k; step = x })
   caller_goes k (step.Enter o) h ad = enter_leads c w n known mirrors safe ready k o h
@@ -197,12 +184,10 @@ module _ (c : Config) (w : World) (n : NeverState) (known : KnownWorld c w) (mir
       let f = flight_of w.now (Caller k) in
       begins c w n known mirrors safe ready k f.op o _ (ap is_put (at_take f.stage f.op o h.order).0)
   caller_goes k (step.Take None) h ad = absurd (at_no_take (flight_of w.now (Caller k)).stage (flight_of w.now (Caller k)).op h.order)
-  caller_goes k step.Give h ad = let f =
-      flight_of w.now (Caller k) in bare_on c w n known mirrors safe ready k f.op at_rest (turn_plain f.stage (of_turn f.stage f.op step.Give refl refl h.order)) refl
+  caller_goes k step.Give h ad = let f = flight_of w.now (Caller k) in bare_on c w n known mirrors safe ready k f.op at_rest (turn_plain f.stage (of_turn f.stage f.op step.Give refl refl h.order)) refl
   caller_goes k (step.Look x) h ad = look_by c w n known mirrors others safe ready st k (ltb-true k c.callers h.seat) (flight_of w.now (Caller k)) x refl
   caller_goes k (step.Quar p v) h ad =
-      quar_by c w n known mirrors others safe ready st k (ltb-true k c.callers h.seat) (flight_of w.now (Caller k)) p v
-      (cell_freed c.pages w.now.words (flight_of w.now (Caller k)) p v) refl refl (quiet_at k p v h)
+      quar_by c w n known mirrors others safe ready st k (ltb-true k c.callers h.seat) (flight_of w.now (Caller k)) p v (cell_freed c.pages w.now.words (flight_of w.now (Caller k)) p v) refl refl (quiet_at k p v h)
   caller_goes k step.Grant h ad =
       let f = flight_of w.now (Caller k) in
       let lt = ltb-true k c.callers h.seat in

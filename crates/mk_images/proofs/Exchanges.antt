@@ -33,7 +33,7 @@ use Rattle.mk_images.specs.Mirrors.{Mirrors}
 use Rattle.mk_images.specs.Laws.{OthersSayAlong, HistoriesCompareValues}
 use Rattle.mk_images.proofs.KnownWorlds.{KnownWorld, known_world}
 use Rattle.mk_images.proofs.Stands.{stands_of}
-use Rattle.mk_images.proofs.ReadyWorlds.{ready_of}
+use Rattle.mk_images.proofs.Before.{ready_of}
 use Rattle.mk_images.proofs.RegMoves.{flight}
 use Rattle.mk_images.proofs.CallMoves.{cas_compares}
 use Rattle.mk_images.proofs.CallSorts.{admitted_call, there_is, own_registers}
@@ -54,9 +54,6 @@ told b u v is = (λ e. equal_from_same u v (sym is ∙ one b e), λ e. ap (λ (x
 abbrev cas_of : ℕ → Event
 cas_of k = record { seat = Caller k; step = step.Cas }
 
-cas_literal : (f : Flight) (o : Op) → f.stage ≡ stage.Cas → f.op ≡ o → f ≡ flight stage.Cas o f.q f.p f.r f.loaded
-cas_literal f o at is = ap (λ s. flight s f.op f.q f.p f.r f.loaded) at ∙ ap (λ (y : Op). flight stage.Cas y f.q f.p f.r f.loaded) is
-
 compares_values : (c : Config) (w : World) (n : NeverState) (k q i p r number place : ℕ) → KnownWorld c w → OthersSay c w → Mirrors c w n → MeetsAll c w.now (cas_of k)
     → (flight_of w.now (Caller k)).op ≡ op.CasPtr q i p r → AreAdmitted c.globals n (asked (call_decided c w.now (cas_of k)))
     → target_of n (register_at n k q) i ≡ WordOf number place
@@ -69,10 +66,9 @@ compares_values c w n k q i p r number place known others mirrors h is ad target
     let lt = ltb-true k c.callers h.seat in
     let st = at_its_stage f.stage f.op step.Cas refl h.order in
     let o = op.CasPtr q i p r in
-    let lit = cas_literal f o st is in
+    let lit : f ≡ flight stage.Cas o f.q f.p f.r f.loaded = ap (λ s. flight s f.op f.q f.p f.r f.loaded) st ∙ ap (λ (y : Op). flight stage.Cas y f.q f.p f.r f.loaded) is in
     let admitted : IsAdmitted c.globals n k o = subst (λ (y : Op). IsAdmitted c.globals n k y) is (admitted_call c.globals n k f.op _ (ap is_under_turn is) ad) in
-    let compared = cas_compares c.globals safe.0 (scene_of w) n k ready (there_is c w n known mirrors safe.0 ready k lt)
-    (own_registers c w n known mirrors safe.0 ready k lt) q i p r f.q f.p f.r f.loaded x
+    let compared = cas_compares c.globals safe.0 (scene_of w) n k ready (there_is c w n known mirrors safe.0 ready k lt) (own_registers c w n known mirrors safe.0 ready k lt) q i p r f.q f.p f.r f.loaded x
     (subst (λ (g : Flight). CarriesOwn (bases_of w.allocations) n k g) lit (ready.images.carried k)) (subst (λ (g : Flight). ProbedOwn n k g) lit (ready.images.probed k))
     (ap (λ (g : Flight). slice_index w.now.words.heap (word_met g)) lit) admitted in
     let word : word_at n compared.0.number compared.0.place ≡ word_at n number place = ap (word_of_target n) (sym compared.0.target ∙ target) in

@@ -1,5 +1,5 @@
 -- What is asked of the others holds of the first world.
-use Rattle.std.proofs.Common.{◌≡◌, ℕ, false, sym, ap, ◌∙◌, arith}
+use Rattle.std.proofs.Common.{◌≡◌, ℕ, ◌*◌, false, sym, ap, ◌∙◌, arith}
 use Rattle.std.specs.Prelude.{◌==◌}
 use Rattle.std.proofs.lemmas.Bool.{false≢true}
 use Rattle.std.proofs.lemmas.Nat.Bits.{bit_at-zero}
@@ -19,9 +19,10 @@ others_at_first c =
       apart = λ i j u v ne. absurd (false≢true (sym u));
       taken = λ place k e lt new. cc;
       freed_run = λ run e. cc;
+      gates = λ e. absurd (false≢true (sym e));
       shown = λ i u f. absurd (false≢true (sym u));
-      within = λ cell h. absurd (false≢true (sym (bare_word cell.index) ∙ ap (λ x. has_bit x cell.index) (sym (at_first c.pages cell.page 0)) ∙ h));
       freed = λ cell h. absurd (false≢true (sym (bare_word cell.index) ∙ ap (λ x. has_bit x cell.index) (sym (at_first c.pages cell.page 0)) ∙ h));
       kept = λ i u. absurd (false≢true (sym u));
+      zero_words = λ n ne. absurd (ne (at_first (64 * c.pages) n 0));
       marks = λ e. absurd (omega arith);
     }

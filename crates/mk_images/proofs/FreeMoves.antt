@@ -30,7 +30,7 @@ use Rattle.mk_images.proofs.Moves.{is_bare, Move, Decides, Frees}
 use Rattle.mk_images.proofs.Kept.{base_at, exists_placed}
 use Rattle.mk_images.proofs.Ready.{Ready, pointed_word}
 use Rattle.mk_images.proofs.Refusals.{goes_bare}
-use Rattle.mk_images.proofs.ReadyWorlds.{words_fit, words_are}
+use Rattle.mk_images.proofs.Before.{words_fit, words_are}
 use Rattle.mk_core.proofs.ChangedAllocations.{changed_at, freed_leaves, freed_released}
 use Rattle.mk_images.proofs.KeptPlaces.{same_places}
 
@@ -46,8 +46,7 @@ abbrev is_released_in : Words → Option Cell → Bool
 is_released_in w (Some cell) = is_released w cell
 is_released_in w None = false
 
-module _ (c : Config) (w : World) (n : NeverState) (known : KnownWorld c w) (mirrors : Mirrors c w n) (safe : ℕ → Bool) (ready : Ready c.globals safe (scene_of w) n)
-    (st : Stands c w.now.words w.allocations) where
+module _ (c : Config) (w : World) (n : NeverState) (known : KnownWorld c w) (mirrors : Mirrors c w n) (safe : ℕ → Bool) (ready : Ready c.globals safe (scene_of w) n) (st : Stands c w.now.words w.allocations) where
   -- the cell that a value points into
   pub pointer_cell : (a t o p : ℕ) → IsSound n (Ptr a t o) → IsSafe safe (Ptr a t o) → p ≡ image_of (bases_of w.allocations) (Ptr a t o)
       → pointed_cell c.pages w.now.words.pages p ≡ Some (cell_of_allocation c (placed_at w.allocations a))
@@ -66,9 +65,7 @@ module _ (c : Config) (w : World) (n : NeverState) (known : KnownWorld c w) (mir
       → p ≡ image_of (bases_of w.allocations) v → p ≢ 0
       → pointed_cell c.pages w.now.words.pages p ≡ Some cell → is_freed w.now.words cell ≡ false
       → (is_run_cell w.now.words (Some cell) ≡ true → (j : ℕ) → j ≢ k → is_past_probe (flight_among w.now.seats.flights j).stage ≡ false)
-      → Move safe (scene_of w) n
-      (record (scene_of w) { flights = slice_set w.now.seats.flights k f; allocations = map (freed_where_it_stands w.now.words (Some cell)) w.allocations })
-      (after_free n v) × (free_reply n v ≡ reply.Done)
+      → Move safe (scene_of w) n (record (scene_of w) { flights = slice_set w.now.seats.flights k f; allocations = map (freed_where_it_stands w.now.words (Some cell)) w.allocations }) (after_free n v) × (free_reply n v ≡ reply.Done)
   free_by others k o f p cell Null at sound is e ne points not_freed quiet = absurd (ne e)
   free_by others k o f p cell (Num m) at sound is e ne points not_freed quiet = absurd sound
   free_by others k o f p cell (Ptr a t x) at sound is e ne points not_freed quiet =
@@ -84,15 +81,13 @@ module _ (c : Config) (w : World) (n : NeverState) (known : KnownWorld c w) (mir
         | inr z ↦ z
       ] in (
         Frees k a f (map (freed_where_it_stands w.now.words (Some cell)) w.allocations) at (same_places (freed_where_it_stands w.now.words (Some cell)) w.allocations leaves)
-            (λ b. ap (λ (y : PlacedAllocation). y.released) (changed_at (freed_where_it_stands w.now.words (Some cell)) w.allocations b leaves.none)
-            ∙ freed_released w.now.words (Some cell) (placed_at w.allocations b))
+            (λ b. ap (λ (y : PlacedAllocation). y.released) (changed_at (freed_where_it_stands w.now.words (Some cell)) w.allocations b leaves.none) ∙ freed_released w.now.words (Some cell) (placed_at w.allocations b))
             sound.0
             (λ b ne2. ap (λ (y : PlacedAllocation). y.freed) (changed_at (freed_where_it_stands w.now.words (Some cell)) w.allocations b leaves.none)
             ∙ ap (λ t. (if t then record (placed_at w.allocations b) { freed = true; fresh = true } else placed_at w.allocations b).freed) (apart_from b a cell u first ne2))
             (ap (λ (y : PlacedAllocation). y.freed) (changed_at (freed_where_it_stands w.now.words (Some cell)) w.allocations a leaves.none)
             ∙ ap (λ t. (if t then record (placed_at w.allocations a) { freed = true; fresh = true } else placed_at w.allocations a).freed)
-            (and_from (not (placed_at w.allocations a).released) ((placed_at w.allocations a).base == first_word w.now.words cell) (ap not u)
-            (eq-eqb (placed_at w.allocations a).base (first_word w.now.words cell) (sym first))))
+            (and_from (not (placed_at w.allocations a).released) ((placed_at w.allocations a).base == first_word w.now.words cell) (ap not u) (eq-eqb (placed_at w.allocations a).base (first_word w.now.words cell) (sym first))))
             (λ un. quiet (ap (is_run_cell w.now.words) cells ∙ st.run a u (ap (λ l. nat_lt 32 l) (sym (words_are c w n known mirrors a lt)) ∙ un))),
         ap (λ b. if b then reply.Double else reply.Done) (sym (mirrors.twins.freed a lt) ∙ its),
       )
@@ -102,8 +97,7 @@ module _ (c : Config) (w : World) (n : NeverState) (known : KnownWorld c w) (mir
       apart_from b a cell ua first ne = elim (cases_Bool (stands_in w.now.words cell (placed_at w.allocations b))) [
         | inl h ↦
             let parts = and_parts (not (placed_at w.allocations b).released) ((placed_at w.allocations b).base == first_word w.now.words cell) h in
-            absurd (st.apart b a (not-true (placed_at w.allocations b).released parts.0) ua ne
-            (eqb-true (placed_at w.allocations b).base (first_word w.now.words cell) parts.1 ∙ first))
+            absurd (st.apart b a (not-true (placed_at w.allocations b).released parts.0) ua ne (eqb-true (placed_at w.allocations b).base (first_word w.now.words cell) parts.1 ∙ first))
         | inr h ↦ h
       ]
 
@@ -124,8 +118,7 @@ module _ (c : Config) (w : World) (n : NeverState) (known : KnownWorld c w) (mir
         | inr released ↦ absurd (false≢true (sym (others.kept a u) ∙ ap (is_released_in w.now.words) (sym cells) ∙ released))
       ] in
       let never : (allocation_at n a).freed ≡ true = sym (mirrors.twins.freed a lt) ∙ its in (
-        subst (λ (m : NeverState). Move safe (scene_of w) n (record (scene_of w) { flights = slice_set w.now.seats.flights k f }) m) (sym (same_never a never))
-            (goes_bare safe (scene_of w) n k f was bare),
+        subst (λ (m : NeverState). Move safe (scene_of w) n (record (scene_of w) { flights = slice_set w.now.seats.flights k f }) m) (sym (same_never a never)) (goes_bare safe (scene_of w) n k f was bare),
         ap (λ b. if b then reply.Double else reply.Done) never,
       )
     where

@@ -1,22 +1,30 @@
 -- The run that a Free unmaps is what its register points to.
-use Rattle.std.proofs.Common.{◌≡◌, ◌≢◌, ℕ, ◌+◌, ◌*◌, ◌/◌, ◌%◌, ◌<◌, true, false, length, refl, sym, ap, subst, ◌∙◌, inl, inr, arith}
-use Rattle.std.specs.Prelude.{slice_index, not, Option, Some, None}
+use Rattle.std.proofs.Common.{◌≡◌, ◌≢◌, ◌⊎◌, ℕ, ◌+◌, ◌*◌, ◌/◌, ◌%◌, ◌<◌, Bool, true, false, length, refl, sym, ap, subst, ◌∙◌, inl, inr, arith}
+use Rattle.std.specs.Prelude.{slice_index, slice_index_or, slice_set, ◌&&◌, not, if◌then◌else◌, Option, Some, None}
 use Rattle.std.proofs.lemmas.Bool.{cases_Bool, cases_eq, cases_lt, ltb-true, false≢true}
 use Rattle.std.proofs.lemmas.List.{get_or-set_same, get_or-set_other, get_or_append_left, length-map, get_or_past}
 use Rattle.mk_never.specs.declared.operations.Op.{Op}
 use Rattle.mk_never.specs.declared.operations.Op.TheVariants as op
 use Rattle.mk_never.specs.declared.values.Value.{Value}
 use Rattle.mk_never.specs.declared.values.Value.TheVariants.{Null, Num, Ptr}
-use Rattle.mk_never.specs.NeverHeap.{NeverState, register_at, after_calls}
+use Rattle.mk_never.specs.NeverHeap.{NeverState, register_at, after_calls, after_free}
 use Rattle.mk_never.specs.Admitted.{AreAdmitted}
+use Rattle.mk_never.specs.Laws.{AreNotBy}
 use Rattle.mk_never.specs.Typed.{IsSound}
 use Rattle.mk_never.proofs.Registers.{admitted_keep}
+use Rattle.mk_never.proofs.Edits.{set_by}
 use Rattle.mk_geom.specs.declared.addresses.Cell.{Cell}
+use Rattle.mk_geom.specs.declared.headers.Header.{Header}
+use Rattle.mk_geom.specs.declared.headers.Header.TheVariants.{Run, LeafRun}
+use Rattle.mk_geom.specs.PageUses.{or_else}
 use Rattle.mk_core.specs.declared.config.Config.{Config}
+use Rattle.mk_core.specs.declared.events.Answer.{Answer}
 use Rattle.mk_core.specs.declared.events.Answer.TheVariants as answer
 use Rattle.mk_core.specs.declared.events.Event.{Event}
 use Rattle.mk_core.specs.declared.events.Seat.{Seat}
 use Rattle.mk_core.specs.declared.events.Seat.TheVariants.{Caller, Marker, Host}
+use Rattle.mk_core.specs.declared.events.Word.{Word}
+use Rattle.mk_core.specs.declared.events.Word.TheVariants as word
 use Rattle.mk_core.specs.declared.events.Step.{Step}
 use Rattle.mk_core.specs.declared.events.Step.TheVariants as step
 use Rattle.mk_core.specs.declared.seats.Stage.{Stage}
@@ -25,24 +33,27 @@ use Rattle.mk_core.specs.declared.seats.Flight.{Flight}
 use Rattle.mk_core.specs.declared.seats.Progress.{Progress}
 use Rattle.mk_core.specs.declared.seats.Holding.{Holding}
 use Rattle.mk_core.specs.declared.seats.RunPages.{RunPages}
+use Rattle.mk_core.specs.Words.{Words}
 use Rattle.mk_core.specs.Image.{image_of}
 use Rattle.mk_core.specs.Calls.{at_rest, p_of, still}
-use Rattle.mk_core.specs.Cells.{header_in, pointed_cell}
+use Rattle.mk_core.specs.Cells.{header_in, run_headed, pointed_cell, heads_run}
 use Rattle.mk_core.specs.Decided.{entry_of, asked}
-use Rattle.mk_core.specs.Moments.{flight_of, is_phase}
+use Rattle.mk_core.specs.Moments.{Moment, flight_of, is_phase, nothing_done}
 use Rattle.mk_core.specs.NewPlaces.{is_undecided_free, is_small_object}
 use Rattle.mk_core.specs.Order.{comes_next, is_of_any_holder}
 use Rattle.mk_core.specs.TurnConditions.{cell_freed}
 use Rattle.mk_core.specs.Accesses.{found}
 use Rattle.mk_core.specs.Allocations.{PlacedAllocation, placed_at, cell_of_allocation}
 use Rattle.mk_core.specs.StandingAllocations.{object_placed}
-use Rattle.mk_core.specs.Effects.{progress, progress_freed, run_of_cell, answer_decided}
+use Rattle.mk_core.specs.Effects.{decided, sees_double, progress, progress_freed, holding_behind, run_of_cell, answer_decided}
 use Rattle.mk_core.specs.History.{World, world_behind, bases_of, call_decided}
 use Rattle.mk_core.proofs.PlacesNow.{freed_cell}
 use Rattle.mk_core.proofs.ObjectHeaders.{small_heads_none}
 use Rattle.mk_core.proofs.StandingAllocations.{typed_size, run_begins, first_page_shows}
 use Rattle.mk_protocol.specs.Protocol.{is_decided_free}
-use Rattle.mk_protocol.proofs.Views.{view_of, HoldsTurn}
+use Rattle.mk_protocol.proofs.Standings.{Standing, Resting, InCall, UnderTurn, standing}
+use Rattle.mk_protocol.proofs.Views.{View, view_of, flight_in, HoldsTurn}
+use Rattle.mk_protocol.proofs.Moves.{Move as ProtocolMove, Stays, Enters, GoesOn, Leaves, Takes, Gives, Works, Holds, Opens, Phases, Attends, Quits, Scans}
 use Rattle.mk_protocol.proofs.Orderly.{turn_of}
 use Rattle.mk_protocol.proofs.Actors.{Meets}
 use Rattle.mk_protocol.proofs.OrderlyLists.{not_astray, actor_of}
@@ -59,11 +70,132 @@ use Rattle.mk_images.proofs.Kept.{base_at}
 use Rattle.mk_images.proofs.Freeing.{decided_free_stands, decided_free_gives, frees_run}
 use Rattle.mk_images.proofs.Stands.{Stands, stands_of}
 use Rattle.mk_images.proofs.Ready.{Ready}
-use Rattle.mk_images.proofs.ReadyWorlds.{ready_of}
+use Rattle.mk_images.proofs.Before.{ready_of}
 use Rattle.mk_images.proofs.RegMoves.{flight}
 use Rattle.mk_images.proofs.FreeMoves.{pointer_cell}
 use Rattle.mk_images.proofs.CallSorts.{literal}
-use Rattle.mk_images.proofs.FreeingSteps.{never_after, event_of, freed_behind, gives, WasFreed, was_freed, was_under, give_still, no_run, headed, free_keeps, not_by, Before, Now}
+
+-- the heap that never reuses storage, behind an event
+abbrev pub never_after : Config → World → NeverState → Event → NeverState
+never_after c w n e = after_calls n (asked (call_decided c w.now e))
+
+abbrev event_of : Seat → Step → Event
+event_of seat x = record { seat = seat; step = x }
+
+-- the run that is freed behind a step
+abbrev freed_behind : Config → World → Seat → Flight → Step → Option RunPages
+freed_behind c w seat f x = (holding_behind c w.now seat f (found c w.now (event_of seat x)) x w.now.seats.holding).freed
+
+abbrev gives : Step → Bool
+gives step.Give = true
+gives _ = false
+
+-- It was freed before, or is freed by this step.
+data WasFreed (c : Config) (w : World) (f : Flight) (run : RunPages) : Step → Type 0 where
+  Before : {x : Step} → w.now.seats.holding.freed ≡ Some run → gives x ≡ false → WasFreed c w f run x
+  Now : (p v : ℕ) → run_of_cell w.now.words (cell_freed c.pages w.now.words f p v) ≡ Some run → WasFreed c w f run (step.Quar p v)
+
+take_freed : (b : Bool) (h : Holding) (run : RunPages) → (if b then nothing_done else h).freed ≡ Some run → h.freed ≡ Some run
+take_freed true h run e = cc
+take_freed false h run e = e
+
+else_freed : (x y : Option RunPages) (run : RunPages) → or_else x y ≡ Some run → (x ≡ Some run) ⊎ (y ≡ Some run)
+else_freed None y run e = inr e
+else_freed (Some r) y run e = inl e
+
+was_freed : (c : Config) (w : World) (seat : Seat) (f : Flight) (x : Step) (run : RunPages) → freed_behind c w seat f x ≡ Some run → WasFreed c w f run x
+was_freed c w seat f (step.Take o) run e = Before (take_freed _ w.now.seats.holding run e) refl
+was_freed c w seat f step.Give run e = cc
+was_freed c w seat f (step.Quar p v) run e = elim (else_freed (run_of_cell w.now.words (cell_freed c.pages w.now.words f p v)) w.now.seats.holding.freed run e) [
+  | inl new ↦ Now p v new
+  | inr old ↦ Before old refl
+]
+was_freed c w seat f _ run e = Before e refl
+
+-- Who is under the turn behind a step of its own was so, where somebody had the turn.
+
+holds_now : (c : Config) (v : View) (seat : Seat) (k : ℕ) → seat ≡ Caller k → HoldsTurn c v seat → standing (flight_in v k) ≡ UnderTurn
+holds_now c v seat k e hold = by (subst (λ (s : Seat). HoldsTurn c v s) e hold)
+  where
+    by : HoldsTurn c v (Caller k) → standing (flight_in v k) ≡ UnderTurn
+    by h = h.1
+
+set_under : (v : View) (j k : ℕ) (f : Flight) (s : Standing) → standing f ≡ s → s ≢ UnderTurn
+    → standing (slice_index_or (slice_set v.flights j f) k at_rest) ≡ UnderTurn → standing (flight_in v k) ≡ UnderTurn
+set_under v j k f s is ne =
+    set_by (λ (x : Flight). standing x ≡ UnderTurn → standing (flight_in v k) ≡ UnderTurn) v.flights j k f at_rest (λ e h. absurd (ne (sym is ∙ h))) (λ h. h)
+
+was_under : (c : Config) (v : View) (seat : Seat) (u : View) (k : ℕ) → ProtocolMove c v seat u → seat ≡ Caller k → v.turn ≢ 0
+    → standing (flight_in u k) ≡ UnderTurn → standing (flight_in v k) ≡ UnderTurn
+was_under c v seat u k Stays e t h = h
+was_under c v seat u k (Enters {k = j} f a b d g) e t h = set_under v j k f InCall g (λ x. cc) h
+was_under c v seat u k (GoesOn {k = j} f a b d) e t h = set_under v j k f InCall d (λ x. cc) h
+was_under c v seat u k (Leaves {k = j} a b) e t h = set_under v j k at_rest Resting refl (λ x. cc) h
+was_under c v seat u k (Takes f z m) e t h = absurd (t z)
+was_under c v seat u k (Gives hold a b) e t h = holds_now c v seat k e hold
+was_under c v seat u k (Works f g hold s) e t h = holds_now c v seat k e hold
+was_under c v seat u k (Holds j hold a b d) e t h = holds_now c v seat k e hold
+was_under c v seat u k (Opens j hold a b d g) e t h = holds_now c v seat k e hold
+was_under c v seat u k (Phases g hold a b p) e t h = holds_now c v seat k e hold
+was_under c v seat u k (Attends x a b d g i) e t h = h
+was_under c v seat u k (Quits a b) e t h = h
+was_under c v seat u k (Scans x a b d) e t h = h
+
+-- At Give a holder's step but `give` leaves the call as it is.
+
+none_freed_at : (b : Bool) (f : Flight) → progress_freed f (if b && false then None else None) ≡ still f
+none_freed_at true f = refl
+none_freed_at false f = refl
+
+none_seen : (w : Words) (x : Word) → sees_double w None x ≡ false
+none_seen w (word.Quar p) = refl
+none_seen w _ = refl
+
+give_still : (c : Config) (m : Moment) (o : Op) (q p r l n : ℕ) (x : Step) → is_of_any_holder x ≡ true → gives x ≡ false
+    → progress c m (flight stage.Give o q p r l) n x ≡ still (flight stage.Give o q p r l)
+give_still c m o q p r l n (step.Enter y) h g = absurd (false≢true h)
+give_still c m o q p r l n step.Leave h g = absurd (false≢true h)
+give_still c m o q p r l n step.Reg h g = absurd (false≢true h)
+give_still c m o q p r l n step.Probe h g = absurd (false≢true h)
+give_still c m o q p r l n step.Read h g = absurd (false≢true h)
+give_still c m o q p r l n step.Write h g = absurd (false≢true h)
+give_still c m o q p r l n step.Cas h g = absurd (false≢true h)
+give_still c m o q p r l n step.Getg h g = absurd (false≢true h)
+give_still c m o q p r l n step.Setg h g = absurd (false≢true h)
+give_still c m o q p r l n step.Dirty h g = absurd (false≢true h)
+give_still c m o q p r l n (step.Take y) h g = absurd (false≢true h)
+give_still c m o q p r l n step.Grant h g = absurd (false≢true h)
+give_still c m o q p r l n step.Full h g = absurd (false≢true h)
+give_still c m o q p r l n step.Give h g = absurd (false≢true (sym g))
+give_still c m o q p r l n (step.Quar y v) h g = none_freed_at (not (is_phase m.words 4)) (flight stage.Give o q p r l)
+give_still c m o q p r l n (step.Look x) h g =
+    let f = flight stage.Give o q p r l in
+    ap (λ (b : Bool). if b then decided f answer.Double else still f) (none_seen m.words x)
+give_still c m o q p r l n _ h g = refl
+
+no_run : (w : Words) (b : Bool) (run : RunPages) → run_of_cell w (if b && false then None else None) ≡ Some run → ⊥
+no_run w true run e = cc
+no_run w false run e = cc
+
+abbrev page_in : Option RunPages → ℕ
+page_in (Some r) = r.page
+page_in None = 0
+
+-- what heads a run
+headed : (h : Option Header) (page : ℕ) (run : RunPages) → run_headed h page ≡ Some run → (run.page ≡ page) × (heads_run h ≡ true)
+headed (Some (Run count mapped)) page run e = (sym (ap page_in e), refl)
+headed (Some (LeafRun count)) page run e = (sym (ap page_in e), refl)
+headed None page run e = cc
+headed (Some _) page run e = cc
+
+free_keeps : (n : NeverState) (v : Value) (k r : ℕ) → register_at (after_free n v) k r ≡ register_at n k r
+free_keeps n Null k r = refl
+free_keeps n (Num m) k r = refl
+free_keeps n (Ptr a t o) k r = refl
+
+not_by : (j k : ℕ) (o : Op) (a : Option Answer) → j ≢ k → AreNotBy k (asked (entry_of j o a))
+not_by j k o None ne = tt
+not_by j k o (Some a) ne = (ne, tt)
 
 module _ (c : Config) (w : World) (n : NeverState) (known : KnownWorld c w) (others : OthersSay c w) (mirrors : Mirrors c w n) where
   st : Stands c w.now.words w.allocations
@@ -143,8 +275,7 @@ module _ (c : Config) (w : World) (n : NeverState) (known : KnownWorld c w) (oth
       let f = flight_of w.now (Caller k) in
       let behind = flight_of (world_behind c w e).now (Caller k) in
       let under = decided_free_stands behind.stage behind.op free in
-      let was = was_under c (view_of w.now) (Caller k) (view_of (world_behind c w e).now) k
-      (moves c w.now (Caller k) x (not_astray c w.now known.now.orderly) (actor_of c w.now (Caller k) x known.now.orderly h) h)
+      let was = was_under c (view_of w.now) (Caller k) (view_of (world_behind c w e).now) k (moves c w.now (Caller k) x (not_astray c w.now known.now.orderly) (actor_of c w.now (Caller k) x known.now.orderly h) h)
       refl (turn_taken run old) under in
       let was_free = frees_run c w.now k run known.now.orderly (lt, was) old in
       let at_give = decided_free_gives f.stage f.op was_free in
@@ -166,8 +297,7 @@ module _ (c : Config) (w : World) (n : NeverState) (known : KnownWorld c w) (oth
       let same : flight_of (world_behind c w e).now (Caller k) ≡ flight_of w.now (Caller k) = get_or-set_other w.now.seats.flights j k _ at_rest (λ y. ne (sym y)) in
       subst (λ (y : Flight). PointsAtRun (world_behind c w e) (never_after c w n e) k (p_of y.op) run) (sym same)
       (points_on e k (p_of (flight_of w.now (Caller k)).op) run grows
-      (admitted_keep c.globals n k (asked (call_decided c w.now e)) ad (not_by j k (flight_of w.now (Caller j)).op (answer_decided c w.now e) ne)
-      (p_of (flight_of w.now (Caller k)).op) (ready.small k).1)
+      (admitted_keep c.globals n k (asked (call_decided c w.now e)) ad (not_by j k (flight_of w.now (Caller j)).op (answer_decided c w.now e) ne) (p_of (flight_of w.now (Caller k)).op) (ready.small k).1)
       (mirrors.freed_run run old k (subst (λ (y : Flight). is_decided_free y ≡ true) same free)))
 
   -- a run that is freed by this step
@@ -183,8 +313,7 @@ module _ (c : Config) (w : World) (n : NeverState) (known : KnownWorld c w) (oth
       let there : k < length w.now.seats.flights = (let l = known.now.orderly.flights in omega (arith, l)) in
       let same : (flight_of (world_behind c w ev).now (Caller k)).op ≡ f.op =
       ap (λ (y : Flight). y.op) (get_or-set_same w.now.seats.flights k _ at_rest there) ∙ ap (λ (y : Option Cell). (progress_freed f y).flight.op) e in
-      let never : never_after c w n ev ≡ after_calls n (asked (entry_of k f.op (Some answer.Done))) =
-      ap (λ (y : Option Cell). after_calls n (asked (entry_of k f.op (progress_freed f y).answer))) e in
+      let never : never_after c w n ev ≡ after_calls n (asked (entry_of k f.op (Some answer.Done))) = ap (λ (y : Option Cell). after_calls n (asked (entry_of k f.op (progress_freed f y).answer))) e in
       subst (λ (o : Op). PointsAtRun (world_behind c w ev) (never_after c w n ev) k (p_of o) run) (sym same)
       (points_on ev k (p_of f.op) run grows (ap (λ m. register_at m k (p_of f.op)) never ∙ new.1) new.0)
 
@@ -193,20 +322,17 @@ module _ (c : Config) (w : World) (n : NeverState) (known : KnownWorld c w) (oth
   other_new j k p v run ne h free =
       let f = flight_of w.now (Caller j) in
       let lj = ltb-true j c.callers h.seat in
-      let same : flight_of (world_behind c w (event_of (Caller j) (step.Quar p v))).now (Caller k) ≡ flight_of w.now (Caller k) =
-      get_or-set_other w.now.seats.flights j k _ at_rest (λ y. ne (sym y)) in
+      let same : flight_of (world_behind c w (event_of (Caller j) (step.Quar p v))).now (Caller k) ≡ flight_of w.now (Caller k) = get_or-set_other w.now.seats.flights j k _ at_rest (λ y. ne (sym y)) in
       let was : is_decided_free (flight_of w.now (Caller k)) ≡ true = subst (λ (y : Flight). is_decided_free y ≡ true) same free in
       let lk : k < c.callers = there k was in
-      let tj = turn_of c (view_of w.now) (Caller j) known.now.orderly
-      (lj, turns_stand f.stage f.op (of_turn f.stage f.op (step.Quar p v) refl refl h.order) (not_astray c w.now known.now.orderly j lj)) in
+      let tj = turn_of c (view_of w.now) (Caller j) known.now.orderly (lj, turns_stand f.stage f.op (of_turn f.stage f.op (step.Quar p v) refl refl h.order) (not_astray c w.now known.now.orderly j lj)) in
       let tk = turn_of c (view_of w.now) (Caller k) known.now.orderly (holds k lk was) in
       absurd (ne (omega arith))
     where
       there : (k : ℕ) → is_decided_free (flight_of w.now (Caller k)) ≡ true → k < c.callers
       there k free = elim (cases_lt k c.callers) [
         | inl lt ↦ lt
-        | inr le ↦ absurd (false≢true
-            (ap (λ (y : Flight). is_decided_free y) (sym (get_or_past w.now.seats.flights k at_rest (let e = known.now.orderly.flights in omega (arith, e)))) ∙ free))
+        | inr le ↦ absurd (false≢true (ap (λ (y : Flight). is_decided_free y) (sym (get_or_past w.now.seats.flights k at_rest (let e = known.now.orderly.flights in omega (arith, e)))) ∙ free))
       ]
 
   caller_owns : (j : ℕ) (x : Step) → Meets c w.now (Caller j) x → GrowsBehind (Caller j) x → AreAdmitted c.globals n (asked (call_decided c w.now (event_of (Caller j) x)))

@@ -1,6 +1,6 @@
 -- The words of the place of a New are 0 when it is granted, and a wiped word is in no mapped allocation.
-use Rattle.std.proofs.Common.{◌≡◌, ◌≢◌, ℕ, ◌+◌, ◌-◌, ◌*◌, ◌/◌, ◌<◌, ◌≤◌, true, false, length, refl, sym, ap, ◌∙◌, inl, inr, arith}
-use Rattle.std.specs.Prelude.{slice_index, nat_le, nat_lt, Option, Some, None}
+use Rattle.std.proofs.Common.{◌≡◌, ◌≢◌, ℕ, ◌+◌, ◌-◌, ◌*◌, ◌/◌, ◌<◌, ◌≤◌, Bool, true, false, length, refl, sym, ap, ◌∙◌, inl, inr, arith}
+use Rattle.std.specs.Prelude.{slice_index, nat_le, nat_lt, ◌&&◌, not, Option, Some, None}
 use Rattle.std.proofs.lemmas.Bool.{cases_eq, and_parts, leb-true, eqb-true, or_cases, ltb-true, false≢true, true≢false}
 use Rattle.mk_never.specs.NeverHeap.{NeverState, allocation_at, words_of, is_unmapped}
 use Rattle.mk_geom.specs.declared.addresses.Cell.{Cell}
@@ -25,12 +25,11 @@ use Rattle.mk_core.proofs.StandingAllocations.{typed_size, cells_begin}
 use Rattle.mk_core.proofs.GrantedAllocations.{placed_stands, placed_headers}
 use Rattle.mk_core.proofs.PointedAllocations.{word_points}
 use Rattle.mk_images.specs.Mirrors.{Mirrors}
-use Rattle.mk_images.specs.OthersSay.{IsPlaceOfNone, OthersSay}
-use Rattle.mk_images.specs.ZeroWords.{MayHold, OfMapped, OfReleased, OfFreedRun}
+use Rattle.mk_images.specs.OthersSay.{IsPlaceOfNone, MayHoldWords, OfMapped, OfReleased, OfFreedRun, OthersSay}
 use Rattle.mk_images.proofs.KnownWorlds.{KnownWorld}
 use Rattle.mk_images.proofs.Kept.{exists_placed}
-use Rattle.mk_images.proofs.Stands.{unreleased_of, is_gone, Stands}
-use Rattle.mk_images.proofs.ReadyWorlds.{words_fit, unmapped_is}
+use Rattle.mk_images.proofs.Stands.{is_gone, Stands}
+use Rattle.mk_images.proofs.Before.{words_fit, unmapped_is}
 
 -- the cell of a place, by the allocation that is granted there
 pub record FillsCell (c : Config) (w : Words) (a : PlacedAllocation) : Type 0 where
@@ -60,10 +59,10 @@ module _ (c : Config) (w : World) (n : NeverState) (known : KnownWorld c w) (mir
       → (i : ℕ) → i < storage_words c a → slice_index w.now.words.heap (a.base + i) ≡ 0
   place_is_zero a place no_run phase base h fills i lt = elim (cases_eq (slice_index w.now.words.heap (a.base + i)) 0) [
     | inl z ↦ z
-    | inr ne ↦ absurd (by (mirrors.zero_words (a.base + i) ne))
+    | inr ne ↦ absurd (by (others.zero_words (a.base + i) ne))
   ]
     where
-      by : MayHold c w (a.base + i) → ⊥
+      by : MayHoldWords c w (a.base + i) → ⊥
       by (OfMapped j m is) =
           let x = placed_at w.allocations j in
           let u = unreleased_of x.released (is_gone c x) m in
@@ -72,7 +71,11 @@ module _ (c : Config) (w : World) (n : NeverState) (known : KnownWorld c w) (mir
           let cells : Some (cell_of_allocation c x) ≡ Some (cell_of_allocation c a) =
           sym (st.cell j (a.base + i - x.base) u (let high = is.1 in omega arith)) ∙ ap (λ y. pointed_cell c.pages w.now.words.pages (address_of y)) there ∙ fills.cell i lt in
           h.alone j u (sym (st.first j u) ∙ ap (first_in w.now.words) cells ∙ fills.first ∙ base)
-      by (OfReleased cell r) = phase (eqb-true (phase_of w.now.words) 4 (and_parts (is_phase w.now.words 4) (is_left_unmarked w.now.words cell) r.released).0)
+        where
+          unreleased_of : (r g : Bool) → (not r && not g) ≡ true → r ≡ false
+          unreleased_of false g e = refl
+          unreleased_of true g e = cc
+      by (OfReleased cell p r) = phase (eqb-true (phase_of w.now.words) 4 (and_parts (is_phase w.now.words 4) (is_left_unmarked w.now.words cell) r).0)
       by (OfFreedRun run e is) = no_run run e
 
   -- a word that is wiped

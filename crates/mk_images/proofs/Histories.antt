@@ -1,7 +1,6 @@
 -- All histories: the answers are the images of the replies, and what is reached isn't released.
 use Rattle.std.proofs.Common.{◌≡◌, ℕ, ◌*◌, ◌/◌, ◌%◌, Bool, true, false, List, [], ◌∷◌, ◌++◌, replicate, refl, sym, ap, subst, ◌∙◌, append-nil, append_assoc, arith}
 use Rattle.std.specs.Prelude.{slice_index, slice_index_or}
-use Rattle.std.proofs.lemmas.Bool.{true≢false}
 use Rattle.std.proofs.lemmas.List.{map-append, length-replicate}
 use Rattle.mk_never.specs.declared.values.Value.{Value}
 use Rattle.mk_never.specs.declared.values.Value.TheVariants.{Null, Num, Ptr}
@@ -33,7 +32,7 @@ use Rattle.mk_images.proofs.Pairs.{bare_carries}
 use Rattle.mk_images.proofs.OneEvent.{Follows, one_event}
 use Rattle.mk_images.proofs.Saying.{images_say}
 use Rattle.mk_images.proofs.Bases.{IsLonger}
-use Rattle.mk_images.proofs.FreeingSteps.{never_after}
+use Rattle.mk_images.proofs.FreedRuns.{never_after}
 
 -- what events leave and decide, from a world on
 record FollowsAll (c : Config) (w : World) (n : NeverState) (es : List Event) : Type 0 where
@@ -104,8 +103,7 @@ first_mirrors c =
       typed = start_is_typed c.globals c.types c.callers;
       twins = record { count = refl; ty = λ a lt. absurd (omega arith); freed = λ a lt. absurd (omega arith) };
       images = record {
-        registers = λ k. subst (λ (f : Flight). shown f (k % 8) (slice_index (replicate 128 0) k) ≡ image_of [] (slice_index_or (replicate (8 * c.callers) Null) k Null))
-            (sym (at_first c.callers (k / 8) at_rest))
+        registers = λ k. subst (λ (f : Flight). shown f (k % 8) (slice_index (replicate 128 0) k) ≡ image_of [] (slice_index_or (replicate (8 * c.callers) Null) k Null)) (sym (at_first c.callers (k / 8) at_rest))
             (at_first 128 k 0 ∙ sym (ap (image_of []) (at_first (8 * c.callers) k Null)));
         globals = λ g. at_first 64 g 0 ∙ sym (ap (image_of []) (at_first 64 g Null));
         heap = λ a i u m lt. absurd (omega arith);
@@ -113,8 +111,6 @@ first_mirrors c =
         probed = λ j. subst (λ (f : Flight). ProbedOwn (never_first c) j f) (sym (at_first c.callers j at_rest)) (λ past. cc);
       };
       freed_run = λ run e. cc;
-      alone = λ e. absurd (true≢false e);
-      zero_words = λ m ne. absurd (ne (at_first (64 * c.pages) m 0));
       safe = first_safe c;
     }
 

@@ -1,6 +1,5 @@
 pub mod Moves
 pub mod Pairs
-pub mod KeptCalls
 pub mod Kept
 pub mod SafeKept
 pub mod Ready
@@ -12,7 +11,7 @@ pub mod KnownWorlds
 pub mod Stands
 pub mod HeldGates
 pub mod KeptPlaces
-pub mod ReadyWorlds
+pub mod Before
 pub mod CallSorts
 pub mod FreeMoves
 pub mod ReleaseMoves
@@ -25,12 +24,5 @@ pub mod FirstWorlds
 pub mod Exchanges
 pub mod Bases
 pub mod Freeing
-pub mod FreeingSteps
 pub mod FreedRuns
-pub mod FreePages
 pub mod Saying
-pub mod GoneRuns
-pub mod RunGates
-pub mod MappedWords
-pub mod ReleasedWords
-pub mod ZeroWords

@@ -55,11 +55,7 @@ pub data Move (safe : ℕ → Bool) (s : Scene) (n : NeverState) : Scene → Nev
       → Move safe s n (record s { flights = slice_set s.flights k f }) (with_register n k (d_of f.op) v)
   Pays : (k : ℕ) (f : Flight) → k < length s.flights → 8 * k + 7 < length s.registers → (flight_among s.flights k).stage ≡ stage.Put → d_of (flight_among s.flights k).op < 8
       → is_bare f.stage ≡ true
-      → Move safe s n (record s {
-        flights = slice_set s.flights k f;
-        registers =
-            slice_set s.registers (8 * k + d_of (flight_among s.flights k).op) (flight_among s.flights k).loaded;
-      }) n
+      → Move safe s n (record s { flights = slice_set s.flights k f; registers = slice_set s.registers (8 * k + d_of (flight_among s.flights k).op) (flight_among s.flights k).loaded }) n
   Stores : (k d x : ℕ) (f : Flight) (v : Value) → Decides s n k f → 8 * k + 7 < length s.registers → d < 8 → x ≡ image_of (bases_of s.allocations) v → IsSafe safe v
       → Move safe s n (record s { flights = slice_set s.flights k f; registers = slice_set s.registers (8 * k + d) x }) (with_register n k d v)
   Shares : (k g x : ℕ) (f : Flight) (v : Value) → Decides s n k f → g < length s.globals → g < length n.globals → x ≡ image_of (bases_of s.allocations) v → IsSafe safe v

@@ -17,14 +17,11 @@ use Rattle.mk_images.specs.OthersSay.{OthersSay}
 use Rattle.mk_images.specs.Mirrors.{Mirrors}
 use Rattle.mk_images.proofs.KnownWorlds.{KnownWorld}
 use Rattle.mk_images.proofs.Bases.{IsLonger, bases_grow}
-use Rattle.mk_images.proofs.ZeroWords.{words_stay_zero}
-use Rattle.mk_images.proofs.RunGates.{run_stays_alone}
-use Rattle.mk_images.proofs.FreeingSteps.{never_after}
-use Rattle.mk_images.proofs.FreedRuns.{freed_run_stays}
+use Rattle.mk_images.proofs.FreedRuns.{never_after, freed_run_stays}
 use Rattle.mk_images.proofs.Kept.{images_kept}
 use Rattle.mk_images.proofs.SafeKept.{safe_kept, twins_kept}
 use Rattle.mk_images.proofs.Stands.{stands_of}
-use Rattle.mk_images.proofs.ReadyWorlds.{ready_of}
+use Rattle.mk_images.proofs.Before.{ready_of}
 use Rattle.mk_images.proofs.EventSorts.{goes}
 
 -- what an event leaves, and that what it decides is right, where more is granted later too
@@ -49,11 +46,8 @@ one_event c w n e known others mirrors on ad =
         global_count = stays.globals ∙ mirrors.global_count;
         typed = calls_keep c.globals n (asked (call_decided c w.now e)) mirrors.typed ad;
         twins = twins_kept safe.0 (scene_of w) (scene_of (world_behind c w e)) n (never_after c w n e) mirrors.twins leads.0;
-        images = images_kept c.globals safe.0 (scene_of w) (scene_of (world_behind c w e)) n
-            (never_after c w n e) mirrors.images ready.small mirrors.typed mirrors.twins.count ready.apart leads.0;
+        images = images_kept c.globals safe.0 (scene_of w) (scene_of (world_behind c w e)) n (never_after c w n e) mirrors.images ready.small mirrors.typed mirrors.twins.count ready.apart leads.0;
         freed_run = freed_run_stays c w n e known others mirrors (enabled_meets c w.now e on) grows ad;
-        alone = run_stays_alone c w n e known others mirrors (enabled_meets c w.now e on) ad;
-        zero_words = words_stay_zero c w n e known others mirrors (enabled_meets c w.now e on) ad;
         safe = safe_kept safe.0 (scene_of w) (scene_of (world_behind c w e)) n (never_after c w n e) safe.1 mirrors.twins.count leads.0;
       };
       bases = grows;

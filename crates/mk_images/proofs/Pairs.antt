@@ -22,8 +22,7 @@ pub set_both : {A B : Type 0} (P : A → B → Type 0) (xs : List A) (ys : List 
 set_both P xs ys k i x dx y dy lx ly new old = elim (cases_eq i k) [
   | inl e ↦ subst (λ (j : ℕ). P (get_or (set xs k x) j dx) (get_or (set ys k y) j dy)) (sym e)
       (subst (λ a. P a (get_or (set ys k y) k dy)) (sym (get_or-set_same xs k x dx lx)) (subst (λ b. P x b) (sym (get_or-set_same ys k y dy ly)) (new e)))
-  | inr ne ↦ subst (λ a. P a (get_or (set ys k y) i dy)) (sym (get_or-set_other xs k i x dx ne))
-      (subst (λ b. P (get_or xs i dx) b) (sym (get_or-set_other ys k i y dy ne)) (old ne))
+  | inr ne ↦ subst (λ a. P a (get_or (set ys k y) i dy)) (sym (get_or-set_other xs k i x dx ne)) (subst (λ b. P (get_or xs i dx) b) (sym (get_or-set_other ys k i y dy ne)) (old ne))
 ]
 
 -- a stage that carries nothing

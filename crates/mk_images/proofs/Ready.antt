@@ -20,8 +20,7 @@ use Rattle.mk_images.specs.Images.{Scene, AreImages}
 use Rattle.mk_core.specs.Allocations.{placed_at}
 use Rattle.mk_images.specs.SafeSets.{IsSafe, IsSafeSet}
 use Rattle.mk_images.proofs.Moves.{Move}
-use Rattle.mk_images.proofs.KeptCalls.{AreApart, AreSmall}
-use Rattle.mk_images.proofs.Kept.{base_at}
+use Rattle.mk_images.proofs.Kept.{AreApart, AreSmall, base_at}
 
 pub record Ready (listed : List ℕ) (safe : ℕ → Bool) (s : Scene) (n : NeverState) : Type 0 where
   pub images : AreImages s n
@@ -64,8 +63,7 @@ image_same listed safe s n h (Ptr a t o) (Ptr b u i) su sv fu fv e =
           let oi : o ≡ i = omega arith in
           let tu : t ≡ u = su.1 ∙ ap (λ x. (allocation_at n x).ty) ab ∙ sym sv.1 in
           cc
-      | inr ne ↦ absurd (h.apart a b o i (h.set.unreleased a fu) (h.set.unreleased b fv) (pointed_word listed safe s n h a t o su)
-          (pointed_word listed safe s n h b u i sv) ne places)
+      | inr ne ↦ absurd (h.apart a b o i (h.set.unreleased a fu) (h.set.unreleased b fv) (pointed_word listed safe s n h a t o su) (pointed_word listed safe s n h b u i sv) ne places)
     ]
 
 pub image_test : (listed : List ℕ) (safe : ℕ → Bool) (s : Scene) (n : NeverState) → Ready listed safe s n → (u v : Value) → IsSound n u → IsSound n v → IsSafe safe u

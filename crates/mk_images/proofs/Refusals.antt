@@ -94,16 +94,13 @@ refuses safe s n k (op.GetNum q' i) q p r a t is there long was ld none e answer
     decides_nothing safe s n k (op.GetNum q' i) (flight stage.Leave (op.GetNum q' i) q p r 0) a refl was refl refl
     (λ bs. answer bs ∙ ap (answer_of bs) (sym (refused_reply (target_of n (register_at n k q') i) t (λ a w. Number (number_of (word_at n a w))) e none)))
 refuses safe s n k (op.SetNum q' i m) q p r a t is there long was ld none e answer =
-    decides_nothing safe s n k (op.SetNum q' i m) (flight stage.Leave (op.SetNum q' i m) q p r 0) a refl was refl
-    (refused_left (target_of n (register_at n k q') i) t n (λ a w. with_word n a w (Num m)) e none)
+    decides_nothing safe s n k (op.SetNum q' i m) (flight stage.Leave (op.SetNum q' i m) q p r 0) a refl was refl (refused_left (target_of n (register_at n k q') i) t n (λ a w. with_word n a w (Num m)) e none)
     (λ bs. answer bs ∙ ap (answer_of bs) (sym (refused_reply (target_of n (register_at n k q') i) t (λ a w. Done) e none)))
 refuses safe s n k (op.SetPtr q' i p') q p r a t is there long was ld none e answer =
-    decides_nothing safe s n k (op.SetPtr q' i p') (flight stage.Leave (op.SetPtr q' i p') q p r 0) a refl was refl
-    (refused_left (target_of n (register_at n k q') i) t n (λ a w. with_word n a w (register_at n k p')) e none)
+    decides_nothing safe s n k (op.SetPtr q' i p') (flight stage.Leave (op.SetPtr q' i p') q p r 0) a refl was refl (refused_left (target_of n (register_at n k q') i) t n (λ a w. with_word n a w (register_at n k p')) e none)
     (λ bs. answer bs ∙ ap (answer_of bs) (sym (refused_reply (target_of n (register_at n k q') i) t (λ a w. Done) e none)))
 refuses safe s n k (op.CasPtr q' i p' r') q p r a t is there long was ld none e answer =
-    decides_nothing safe s n k (op.CasPtr q' i p' r') (flight stage.Leave (op.CasPtr q' i p' r') q p r 0) a refl was refl
-    (refused_left (target_of n (register_at n k q') i) t n (λ a w. if is_same (word_at n a w) (register_at n k p') then with_word n a w (register_at n k r') else n) e none)
+    decides_nothing safe s n k (op.CasPtr q' i p' r') (flight stage.Leave (op.CasPtr q' i p' r') q p r 0) a refl was refl (refused_left (target_of n (register_at n k q') i) t n (λ a w. if is_same (word_at n a w) (register_at n k p') then with_word n a w (register_at n k r') else n) e none)
     (λ bs. answer bs ∙ ap (answer_of bs) (sym (refused_reply (target_of n (register_at n k q') i) t (λ a w. Number (bit (is_same (word_at n a w) (register_at n k p')))) e none)))
 refuses safe s n k (op.GetPtr d q' i) q p r a t is there long was ld none e answer =
     owes_null safe s n k d (op.GetPtr d q' i) (flight stage.Put (op.GetPtr d q' i) q p r 0) a refl there long was refl refl ld refl

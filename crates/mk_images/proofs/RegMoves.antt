@@ -36,15 +36,7 @@ flight st o q p r l = record { stage = st; op = o; q = q; p = p; r = r; loaded =
 -- only q is carried
 carries_q : (bs : List ℕ) (f : Flight) (a b d : Value) → f.q ≡ image_of bs a → f.q ≢ 0 → has_p f.stage f.op ≡ false → has_some_p f.stage f.op ≡ false
     → has_r f.stage f.op ≡ false → Carries bs f a b d
-carries_q bs f a b d e ne p sp r =
-    record {
-      q = λ x. e;
-      some_q = λ x. ne;
-      p = λ x. let y : false ≡ true = sym p ∙ x in cc;
-      some_p = λ x. let y : false ≡ true = sym sp ∙ x in cc;
-      r =
-          λ x. let y : false ≡ true = sym r ∙ x in cc;
-    }
+carries_q bs f a b d e ne p sp r = record { q = λ x. e; some_q = λ x. ne; p = λ x. let y : false ≡ true = sym p ∙ x in cc; some_p = λ x. let y : false ≡ true = sym sp ∙ x in cc; r = λ x. let y : false ≡ true = sym r ∙ x in cc }
 
 -- behind the load of q, an access carries q alone
 record BehindLoadQ (s : Stage) (o : Op) : Type 0 where
@@ -81,8 +73,7 @@ lea_value listed safe s n h (Ptr a t o) x i sound is e ne meets =
     let room = h.room in
     (omega arith, is, refl)
 
-module _ (listed : List ℕ) (safe : ℕ → Bool) (s : Scene) (n : NeverState) (k : ℕ) (h : Ready listed safe s n) (there : k < length s.flights)
-    (long : 8 * k + 7 < length n.registers) (longs : 8 * k + 7 < length s.registers) where
+module _ (listed : List ℕ) (safe : ℕ → Bool) (s : Scene) (n : NeverState) (k : ℕ) (h : Ready listed safe s n) (there : k < length s.flights) (long : 8 * k + 7 < length n.registers) (longs : 8 * k + 7 < length s.registers) where
   null_at : (q x : ℕ) → x ≡ image_of (bases_of s.allocations) (register_at n k q) → (x == 0) ≡ true → register_at n k q ≡ Null
   null_at q x e z = image_zero n (bases_of s.allocations) (register_at n k q) (h.typed.registers (8 * k + q)) (sym e ∙ eqb-true x 0 z)
 
@@ -113,8 +104,7 @@ module _ (listed : List ℕ) (safe : ℕ → Bool) (s : Scene) (n : NeverState) 
       (ap (λ v. with_register n k d (moved_on v i)) (null_at q' x e z)) (λ bs. ap (λ v. answer_of bs (lea_reply v)) (sym (null_at q' x e z))))
       (λ nz. flies_on safe s n k (op.Lea d q' i) (flight stage.Store (op.Lea d q' i) x p r l) was refl (carries_q _ _ _ _ _ e (eqb-false x 0 nz) refl refl refl) (λ y. cc))
   reg_q (op.Move d q') q p r l x is ld a car e =
-      flies_on safe s n k (op.Move d q') (flight stage.Store (op.Move d q') x p r l) (ap (λ (f : Flight). is_put f.stage) is) refl
-      (record { q = λ y. e; some_q = λ y. cc; p = λ y. cc; some_p = λ y. cc; r = λ y. cc }) (λ y. cc)
+      flies_on safe s n k (op.Move d q') (flight stage.Store (op.Move d q') x p r l) (ap (λ (f : Flight). is_put f.stage) is) refl (record { q = λ y. e; some_q = λ y. cc; p = λ y. cc; some_p = λ y. cc; r = λ y. cc }) (λ y. cc)
   reg_q (op.Same p' q') q p r l x is ld a car e =
       let u = register_at n k p' in
       let v = register_at n k q' in
@@ -131,17 +121,13 @@ module _ (listed : List ℕ) (safe : ℕ → Bool) (s : Scene) (n : NeverState) 
       → CarriesOwn (bases_of s.allocations) n k (flight stage.LoadP o q p r l)
       → x ≡ image_of (bases_of s.allocations) (register_at n k (p_of o)) → LeadsBy safe s n k o s (progress_p (flight stage.LoadP o q p r l) o x)
   reg_p (op.SetPtr q' i p') q p r l x is a car e =
-      flies_on safe s n k (op.SetPtr q' i p') (flight stage.Probe (op.SetPtr q' i p') q x r l) (ap (λ (f : Flight). is_put f.stage) is) refl
-      (record { q = λ y. car.q refl; some_q = λ y. car.some_q refl; p = λ y. e; some_p = λ y. cc; r = λ y. cc }) (λ y. cc)
+      flies_on safe s n k (op.SetPtr q' i p') (flight stage.Probe (op.SetPtr q' i p') q x r l) (ap (λ (f : Flight). is_put f.stage) is) refl (record { q = λ y. car.q refl; some_q = λ y. car.some_q refl; p = λ y. e; some_p = λ y. cc; r = λ y. cc }) (λ y. cc)
   reg_p (op.CasPtr q' i p' r') q p r l x is a car e =
-      flies_on safe s n k (op.CasPtr q' i p' r') (flight stage.LoadR (op.CasPtr q' i p' r') q x r l) (ap (λ (f : Flight). is_put f.stage) is) refl
-      (record { q = λ y. car.q refl; some_q = λ y. car.some_q refl; p = λ y. e; some_p = λ y. cc; r = λ y. cc }) (λ y. cc)
+      flies_on safe s n k (op.CasPtr q' i p' r') (flight stage.LoadR (op.CasPtr q' i p' r') q x r l) (ap (λ (f : Flight). is_put f.stage) is) refl (record { q = λ y. car.q refl; some_q = λ y. car.some_q refl; p = λ y. e; some_p = λ y. cc; r = λ y. cc }) (λ y. cc)
   reg_p (op.SetGlobal g p') q p r l x is a car e =
-      flies_on safe s n k (op.SetGlobal g p') (flight stage.Setg (op.SetGlobal g p') q x r l) (ap (λ (f : Flight). is_put f.stage) is) refl
-      (record { q = λ y. cc; some_q = λ y. cc; p = λ y. e; some_p = λ y. cc; r = λ y. cc }) (λ y. cc)
+      flies_on safe s n k (op.SetGlobal g p') (flight stage.Setg (op.SetGlobal g p') q x r l) (ap (λ (f : Flight). is_put f.stage) is) refl (record { q = λ y. cc; some_q = λ y. cc; p = λ y. e; some_p = λ y. cc; r = λ y. cc }) (λ y. cc)
   reg_p (op.Same p' q') q p r l x is a car e =
-      flies_on safe s n k (op.Same p' q') (flight stage.LoadQ (op.Same p' q') q x r l) (ap (λ (f : Flight). is_put f.stage) is) refl
-      (record { q = λ y. cc; some_q = λ y. cc; p = λ y. e; some_p = λ y. cc; r = λ y. cc }) (λ y. cc)
+      flies_on safe s n k (op.Same p' q') (flight stage.LoadQ (op.Same p' q') q x r l) (ap (λ (f : Flight). is_put f.stage) is) refl (record { q = λ y. cc; some_q = λ y. cc; p = λ y. e; some_p = λ y. cc; r = λ y. cc }) (λ y. cc)
   reg_p (op.IsNull p') q p r l x is a car e =
       let v = register_at n k p' in
       let tests : (x == 0) ≡ is_same v Null = ap (λ y. y == 0) e ∙ image_test listed safe s n h v Null (h.typed.registers (8 * k + p')) tt (h.set.registers (8 * k + p')) tt in
@@ -150,10 +136,8 @@ module _ (listed : List ℕ) (safe : ℕ → Bool) (s : Scene) (n : NeverState) 
   reg_p (op.Free p') q p r l x is a car e =
       let was = ap (λ (f : Flight). is_put f.stage) is in
       either_leads safe s n k (op.Free p') s (x == 0) _ _
-      (λ z. decides_nothing safe s n k (op.Free p') (flight stage.Give (op.Free p') q x r l) answer.Done refl was refl (ap (λ v. after_free n v) (null_at p' x e z))
-      (λ bs. ap (λ v. answer_of bs (free_reply n v)) (sym (null_at p' x e z))))
-      (λ nz. flies_on safe s n k (op.Free p') (flight stage.Turn (op.Free p') q x r l) was refl
-      (record { q = λ y. cc; some_q = λ y. cc; p = λ y. e; some_p = λ y. eqb-false x 0 nz; r = λ y. cc }) (λ y. cc))
+      (λ z. decides_nothing safe s n k (op.Free p') (flight stage.Give (op.Free p') q x r l) answer.Done refl was refl (ap (λ v. after_free n v) (null_at p' x e z)) (λ bs. ap (λ v. answer_of bs (free_reply n v)) (sym (null_at p' x e z))))
+      (λ nz. flies_on safe s n k (op.Free p') (flight stage.Turn (op.Free p') q x r l) was refl (record { q = λ y. cc; some_q = λ y. cc; p = λ y. e; some_p = λ y. eqb-false x 0 nz; r = λ y. cc }) (λ y. cc))
   reg_p (op.New d ty full) q p r l x is a car e = cc
   reg_p _ q p r l x is a car e = cc
 
@@ -169,34 +153,26 @@ module _ (listed : List ℕ) (safe : ℕ → Bool) (s : Scene) (n : NeverState) 
   reg_store : (o : Op) (q p r l : ℕ) → flight_among s.flights k ≡ flight stage.Store o q p r l → d_of o < 8 → is_astray (standing_at stage.Store o) ≡ false
       → CarriesOwn (bases_of s.allocations) n k (flight stage.Store o q p r l)
       → AreAdmitted listed n (asked (entry_of k o (Some answer.Done)))
-      → LeadsBy safe s n k o (record s { registers = slice_set s.registers (8 * k + d_of o) (value_for (flight stage.Store o q p r l) o) })
-      (onward (flight stage.Store o q p r l) (Some answer.Done))
+      → LeadsBy safe s n k o (record s { registers = slice_set s.registers (8 * k + d_of o) (value_for (flight stage.Store o q p r l) o) }) (onward (flight stage.Store o q p r l) (Some answer.Done))
   reg_store (op.Lea d q' i) q p r l is ld a car ad =
       let admitted : IsAdmitted listed n k (op.Lea d q' i) = ad.0 in
-      let lea = lea_value listed safe s n h (register_at n k q') q i (h.typed.registers (8 * k + q')) (h.set.registers (8 * k + q')) (car.q refl)
-      (car.some_q refl) admitted.access in (
-        Stores k d _ (flight stage.Leave (op.Lea d q' i) q p r l) (moved_on (register_at n k q') i)
-            (record { there = there; registers = long; was = ap (λ (f : Flight). is_put f.stage) is; bare = refl }) longs ld lea.0 lea.1,
+      let lea = lea_value listed safe s n h (register_at n k q') q i (h.typed.registers (8 * k + q')) (h.set.registers (8 * k + q')) (car.q refl) (car.some_q refl) admitted.access in (
+        Stores k d _ (flight stage.Leave (op.Lea d q' i) q p r l) (moved_on (register_at n k q') i) (record { there = there; registers = long; was = ap (λ (f : Flight). is_put f.stage) is; bare = refl }) longs ld lea.0 lea.1,
         λ more. one_right (bases_of s.allocations ++ more) answer.Done n k (op.Lea d q' i) (ap (answer_of (bases_of s.allocations ++ more)) (sym lea.2)),
       )
   reg_store (op.Move d q') q p r l is ld a car ad = (
-    Stores k d _ (flight stage.Leave (op.Move d q') q p r l) (register_at n k q')
-        (record { there = there; registers = long; was = ap (λ (f : Flight). is_put f.stage) is; bare = refl }) longs ld (car.q refl) (h.set.registers (8 * k + q')),
+    Stores k d _ (flight stage.Leave (op.Move d q') q p r l) (register_at n k q') (record { there = there; registers = long; was = ap (λ (f : Flight). is_put f.stage) is; bare = refl }) longs ld (car.q refl) (h.set.registers (8 * k + q')),
     λ more. refl,
   )
-  reg_store (op.Clear d) q p r l is ld a car ad = (
-    Stores k d 0 (flight stage.Leave (op.Clear d) q p r l) Null
-        (record { there = there; registers = long; was = ap (λ (f : Flight). is_put f.stage) is; bare = refl }) longs ld refl tt,
-    λ more. refl,
-  )
+  reg_store (op.Clear d) q p r l is ld a car ad =
+      (Stores k d 0 (flight stage.Leave (op.Clear d) q p r l) Null (record { there = there; registers = long; was = ap (λ (f : Flight). is_put f.stage) is; bare = refl }) longs ld refl tt, λ more. refl)
   reg_store (op.New d ty full) q p r l is ld a car ad = cc
   reg_store _ q p r l is ld a car ad = cc
 
   reg_put : (o : Op) (q p r l : ℕ) → flight_among s.flights k ≡ flight stage.Put o q p r l → d_of o < 8
       → Leads safe s n k o (record s { registers = slice_set s.registers (8 * k + d_of o) l; flights = slice_set s.flights k (flight stage.Leave o q p r l) }) None
   reg_put o q p r l is ld = (
-    subst (λ (g : Flight). Move safe s n
-        (record s { registers = slice_set s.registers (8 * k + d_of g.op) g.loaded; flights = slice_set s.flights k (flight stage.Leave o q p r l) }) n) is
+    subst (λ (g : Flight). Move safe s n (record s { registers = slice_set s.registers (8 * k + d_of g.op) g.loaded; flights = slice_set s.flights k (flight stage.Leave o q p r l) }) n) is
         (Pays k (flight stage.Leave o q p r l) there longs (ap (λ (f : Flight). f.stage) is) (subst (λ (f : Flight). d_of f.op < 8) (sym is) ld) refl),
     λ more. refl,
   )

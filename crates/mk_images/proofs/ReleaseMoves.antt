@@ -33,7 +33,7 @@ use Rattle.mk_images.proofs.Moves.{Move, Releases}
 use Rattle.mk_images.proofs.Pairs.{shows_plain}
 use Rattle.mk_images.proofs.Kept.{base_at, exists_placed}
 use Rattle.mk_images.proofs.Ready.{Ready, pointed_word}
-use Rattle.mk_images.proofs.ReadyWorlds.{type_is, words_fit, unmapped_is}
+use Rattle.mk_images.proofs.Before.{type_is, words_fit, unmapped_is}
 use Rattle.mk_core.proofs.ChangedAllocations.{changed_at, released_leaves}
 use Rattle.mk_images.proofs.KeptPlaces.{same_places}
 
@@ -49,8 +49,7 @@ is_number_kind : (kind : Kind) → is_number kind ≡ true → kind ≡ Number
 is_number_kind Number h = refl
 is_number_kind (To t o) h = cc
 
-module _ (c : Config) (w : World) (n : NeverState) (known : KnownWorld c w) (mirrors : Mirrors c w n) (safe : ℕ → Bool) (ready : Ready c.globals safe (scene_of w) n)
-    (st : Stands c w.now.words w.allocations)
+module _ (c : Config) (w : World) (n : NeverState) (known : KnownWorld c w) (mirrors : Mirrors c w n) (safe : ℕ → Bool) (ready : Ready c.globals safe (scene_of w) n) (st : Stands c w.now.words w.allocations)
     (marks : MarksAreClosed c w) (plain : (j : ℕ) → is_put (flight_among w.now.seats.flights j).stage ≡ false) where
   abbrev cut : ℕ → Bool
   cut a = safe a && is_marked w.now.words (cell_of_allocation c (placed_at w.allocations a))
@@ -64,8 +63,7 @@ module _ (c : Config) (w : World) (n : NeverState) (known : KnownWorld c w) (mir
       let word = pointed_word c.globals safe (scene_of w) n ready a t o sound in
       let fits = words_fit c w n known mirrors a lt in
       let cell = ap (λ b. pointed_cell c.pages w.now.words.pages (address_of (b + o))) (base_at w.allocations a) ∙ st.cell a o u (omega arith) in
-      and_from (safe a) (is_marked w.now.words (cell_of_allocation c (placed_at w.allocations a))) is
-      (ap (λ (x : Option Cell). is_none_or (is_marked w.now.words) x) (sym cell) ∙ well)
+      and_from (safe a) (is_marked w.now.words (cell_of_allocation c (placed_at w.allocations a))) is (ap (λ (x : Option Cell). is_none_or (is_marked w.now.words) x) (sym cell) ∙ well)
 
   -- a root that is the image of a value
   root_cut : (x : ℕ) (v : Value) → points_well c.pages w.now.words x ≡ true → x ≡ image_of (bases_of w.allocations) v → IsSound n v → IsSafe safe v → IsSafe cut v
@@ -133,8 +131,7 @@ module _ (c : Config) (w : World) (n : NeverState) (known : KnownWorld c w) (mir
             (sym (shows_plain (flight_among w.now.seats.flights (k / 8)) (k % 8) (slice_index w.now.words.registers k) (plain (k / 8))) ∙ ready.images.registers k)
             (mirrors.typed.registers k) (ready.set.registers k);
         globals = λ g. root_cut (slice_index w.now.words.globals g) (global_at n g) (marks.globals g) (ready.images.globals g) (mirrors.typed.globals g) (ready.set.globals g);
-        closed = λ a i ka mapped. let parts =
-            and_parts (safe a) (is_marked w.now.words (cell_of_allocation c (placed_at w.allocations a))) ka in word_cut a i parts.0 parts.1 mapped;
+        closed = λ a i ka mapped. let parts = and_parts (safe a) (is_marked w.now.words (cell_of_allocation c (placed_at w.allocations a))) ka in word_cut a i parts.0 parts.1 mapped;
         unreleased = λ a ka.
             let parts = and_parts (safe a) (is_marked w.now.words (cell_of_allocation c (placed_at w.allocations a))) ka in
             let u = ready.set.unreleased a parts.0 in

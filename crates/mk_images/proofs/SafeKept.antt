@@ -61,8 +61,7 @@ module _ (safe : ℕ → Bool) (s : Scene) (n : NeverState) (h : IsSafeSet safe 
         globals = h.globals;
         closed = λ b j sb mb.
             let was = h.closed b j sb (sym (written_alike n a i v b).1 ∙ mb) in
-            set_by (λ (x : NeverAllocation). IsSafe safe (slice_index_or x.words j Null)) n.allocations a b
-            (record (allocation_at n a) { words = slice_set (words_of n a) i v }) no_allocation
+            set_by (λ (x : NeverAllocation). IsSafe safe (slice_index_or x.words j Null)) n.allocations a b (record (allocation_at n a) { words = slice_set (words_of n a) i v }) no_allocation
             (λ e. set_by (λ x. IsSafe safe x) (words_of n a) i j v Null (λ e2. is) (subst (λ y. IsSafe safe (word_at n y j)) e was)) was;
         unreleased = h.unreleased;
       }
@@ -84,20 +83,17 @@ module _ (safe : ℕ → Bool) (s : Scene) (n : NeverState) (h : IsSafeSet safe 
   of_new k d base ty same =
       let m = length n.allocations in
       record {
-        registers = λ i. set_by (λ x. IsSafe (λ a. safe a || (a == m)) x) n.registers (8 * k + d) i (Ptr m ty 0) Null (λ e. or_true (safe m) (m == m) (eq-eqb m m refl))
-            (wider safe m _ (h.registers i));
+        registers = λ i. set_by (λ x. IsSafe (λ a. safe a || (a == m)) x) n.registers (8 * k + d) i (Ptr m ty 0) Null (λ e. or_true (safe m) (m == m) (eq-eqb m m refl)) (wider safe m _ (h.registers i));
         globals = λ g. wider safe m _ (h.globals g);
         closed = λ b j sb mb. elim (cases_eq b m) [
-          | inl e ↦ subst (λ (x : NeverAllocation). IsSafe (λ a. safe a || (a == m)) (slice_index_or x.words j Null))
-              (sym (ap (allocation_at (with_new n ty)) e ∙ new_never n ty)) (zero_safe _ (kinds_of n.types ty) j)
+          | inl e ↦ subst (λ (x : NeverAllocation). IsSafe (λ a. safe a || (a == m)) (slice_index_or x.words j Null)) (sym (ap (allocation_at (with_new n ty)) e ∙ new_never n ty)) (zero_safe _ (kinds_of n.types ty) j)
           | inr ne ↦
               let na = old_never n ty b ne in
               subst (λ (x : NeverAllocation). IsSafe (λ a. safe a || (a == m)) (slice_index_or x.words j Null)) (sym na)
               (wider safe m _ (h.closed b j (old b ne sb) (sym (ap (λ (x : NeverAllocation). is_unmapped x) na) ∙ mb)))
         ];
         unreleased = λ b sb. elim (cases_eq b m) [
-          | inl e ↦ ap (λ (x : PlacedAllocation). x.released)
-              (ap (placed_at (s.allocations ++ fresh_one base ty ∷ [])) (e ∙ sym same) ∙ new_placed s.allocations (fresh_one base ty))
+          | inl e ↦ ap (λ (x : PlacedAllocation). x.released) (ap (placed_at (s.allocations ++ fresh_one base ty ∷ [])) (e ∙ sym same) ∙ new_placed s.allocations (fresh_one base ty))
           | inr ne ↦ ap (λ (x : PlacedAllocation). x.released) (old_placed s.allocations (fresh_one base ty) b (λ e. ne (e ∙ same))) ∙ h.unreleased b (old b ne sb)
         ];
       }
@@ -150,10 +146,8 @@ twins_freed xs ys n a p la others is h =
       ty = λ b lt. p.each b ∙ h.ty b (let e = p.count in omega (arith, e))
           ∙ set_by (λ (y : NeverAllocation). (allocation_at n b).ty ≡ y.ty) n.allocations a b new no_allocation (λ e. ap (λ j. (allocation_at n j).ty) e) refl;
       freed = λ b lt. elim (cases_eq b a) [
-        | inl e ↦ ap (λ j. (placed_at ys j).freed) e ∙ is
-            ∙ sym (ap (λ j. (allocation_at (with_freed n a) j).freed) e ∙ ap (λ (y : NeverAllocation). y.freed) (get_or-set_same n.allocations a new no_allocation la))
-        | inr ne ↦ others b ne ∙ h.freed b (let e = p.count in omega (arith, e))
-            ∙ sym (ap (λ (y : NeverAllocation). y.freed) (get_or-set_other n.allocations a b new no_allocation ne))
+        | inl e ↦ ap (λ j. (placed_at ys j).freed) e ∙ is ∙ sym (ap (λ j. (allocation_at (with_freed n a) j).freed) e ∙ ap (λ (y : NeverAllocation). y.freed) (get_or-set_same n.allocations a new no_allocation la))
+        | inr ne ↦ others b ne ∙ h.freed b (let e = p.count in omega (arith, e)) ∙ sym (ap (λ (y : NeverAllocation). y.freed) (get_or-set_other n.allocations a b new no_allocation ne))
       ];
     }
 
@@ -165,16 +159,12 @@ twins_new xs n base ty h =
     record {
       count = length-append xs (y ∷ []) ∙ ap (λ i. i + 1) same ∙ sym (length-append n.allocations (new_words n ty ∷ []));
       ty = λ b lt. elim (cases_eq b (length xs)) [
-        | inl e ↦ ap (λ (x : PlacedAllocation). x.ty) (ap (placed_at (xs ++ y ∷ [])) e ∙ new_placed xs y)
-            ∙ sym (ap (λ (x : NeverAllocation). x.ty) (ap (allocation_at (with_new n ty)) (e ∙ same) ∙ new_never n ty))
-        | inr ne ↦ ap (λ (x : PlacedAllocation). x.ty) (old_placed xs y b ne) ∙ h.ty b (omega arith)
-            ∙ sym (ap (λ (x : NeverAllocation). x.ty) (old_never n ty b (λ e. ne (e ∙ sym same))))
+        | inl e ↦ ap (λ (x : PlacedAllocation). x.ty) (ap (placed_at (xs ++ y ∷ [])) e ∙ new_placed xs y) ∙ sym (ap (λ (x : NeverAllocation). x.ty) (ap (allocation_at (with_new n ty)) (e ∙ same) ∙ new_never n ty))
+        | inr ne ↦ ap (λ (x : PlacedAllocation). x.ty) (old_placed xs y b ne) ∙ h.ty b (omega arith) ∙ sym (ap (λ (x : NeverAllocation). x.ty) (old_never n ty b (λ e. ne (e ∙ sym same))))
       ];
       freed = λ b lt. elim (cases_eq b (length xs)) [
-        | inl e ↦ ap (λ (x : PlacedAllocation). x.freed) (ap (placed_at (xs ++ y ∷ [])) e ∙ new_placed xs y)
-            ∙ sym (ap (λ (x : NeverAllocation). x.freed) (ap (allocation_at (with_new n ty)) (e ∙ same) ∙ new_never n ty))
-        | inr ne ↦ ap (λ (x : PlacedAllocation). x.freed) (old_placed xs y b ne) ∙ h.freed b (omega arith)
-            ∙ sym (ap (λ (x : NeverAllocation). x.freed) (old_never n ty b (λ e. ne (e ∙ sym same))))
+        | inl e ↦ ap (λ (x : PlacedAllocation). x.freed) (ap (placed_at (xs ++ y ∷ [])) e ∙ new_placed xs y) ∙ sym (ap (λ (x : NeverAllocation). x.freed) (ap (allocation_at (with_new n ty)) (e ∙ same) ∙ new_never n ty))
+        | inr ne ↦ ap (λ (x : PlacedAllocation). x.freed) (old_placed xs y b ne) ∙ h.freed b (omega arith) ∙ sym (ap (λ (x : NeverAllocation). x.freed) (old_never n ty b (λ e. ne (e ∙ sym same))))
       ];
     }
 

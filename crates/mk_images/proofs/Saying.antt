@@ -46,15 +46,13 @@ use Rattle.mk_images.specs.OthersSay.{OthersSay}
 use Rattle.mk_images.specs.Mirrors.{Mirrors}
 use Rattle.mk_images.specs.ImagesSay.{IsCellOfUnreleased, IsMappedWord, ImagesSay}
 use Rattle.mk_images.proofs.KnownWorlds.{KnownWorld}
-use Rattle.mk_images.proofs.KeptCalls.{own_plain}
-use Rattle.mk_images.proofs.Kept.{exists_placed}
+use Rattle.mk_images.proofs.Kept.{own_plain, exists_placed}
 use Rattle.mk_images.proofs.Stands.{Stands, stands_of, is_gone}
 use Rattle.mk_images.proofs.Ready.{Ready}
 use Rattle.mk_images.proofs.Reached.{Reaches, reaches}
-use Rattle.mk_images.proofs.ReadyWorlds.{words_fit, unmapped_is, ready_of}
+use Rattle.mk_images.proofs.Before.{words_fit, unmapped_is, ready_of}
 use Rattle.mk_images.proofs.RegMoves.{flight}
 use Rattle.mk_images.proofs.Freeing.{decided_free_gives}
-use Rattle.mk_images.proofs.FreePages.{free_page_is_zero}
 use Rattle.mk_images.proofs.FreeMoves.{pointer_cell}
 use Rattle.mk_images.proofs.CallSorts.{call_outside, admitted_call, literal}
 
@@ -83,11 +81,10 @@ module _ (c : Config) (w : World) (n : NeverState) (known : KnownWorld c w) (oth
 
   free_target : (k : ℕ) (s : Stage) (o : Op) (q p r l : ℕ) (cell : Cell) → is_undecided_free (flight s o q p r l) ≡ true → pointed_cell c.pages w.now.words.pages p ≡ Some cell
       → CarriesOwn (bases_of w.allocations) n k (flight s o q p r l) → IsCellOfUnreleased c w cell
-  free_target k stage.Turn (op.Free p') q p r l cell undecided points car =
-      value_cell (register_at n k p') p cell (own_sound k p') (own_safe k p') (car.p refl) (car.some_p refl) points
+  free_target k stage.Turn (op.Free p') q p r l cell undecided points car = value_cell (register_at n k p') p cell (own_sound k p') (own_safe k p') (car.p refl) (car.some_p refl) points
   free_target k _ _ q p r l cell undecided points car = absurd (false≢true undecided)
 
-  pub target_cell : (seat : Seat) (cell : Cell) → target c.pages w.now.words (flight_of w.now seat) ≡ Some cell → IsCellOfUnreleased c w cell
+  target_cell : (seat : Seat) (cell : Cell) → target c.pages w.now.words (flight_of w.now seat) ≡ Some cell → IsCellOfUnreleased c w cell
   target_cell (Caller k) cell e =
       let f = flight_of w.now (Caller k) in
       let is = target_is c.pages w.now.words f cell e in
@@ -144,12 +141,9 @@ module _ (c : Config) (w : World) (n : NeverState) (known : KnownWorld c w) (oth
       → ProbedOwn n k (flight stage.Write o q p r l)
       → IsAdmitted c.globals n k o → IsMappedWord c w ((q - 65536) / 8 + i_of o)
   write_word k (op.SetNum q' i m) q p r l a car pro ad =
-      reached_word k i q _ IsNumber
-      (reaches c.globals mirrors.safe.0 (scene_of w) n ready (register_at n k q') q i IsNumber (car.q refl) (car.some_q refl) (own_sound k q') (own_safe k q') (pro refl) ad.access)
+      reached_word k i q _ IsNumber (reaches c.globals mirrors.safe.0 (scene_of w) n ready (register_at n k q') q i IsNumber (car.q refl) (car.some_q refl) (own_sound k q') (own_safe k q') (pro refl) ad.access)
   write_word k (op.SetPtr q' i p') q p r l a car pro ad =
-      reached_word k i q _ IsPointer
-      (reaches c.globals mirrors.safe.0 (scene_of w) n ready (register_at n k q') q i IsPointer (car.q refl) (car.some_q refl) (own_sound k q') (own_safe k q')
-      (pro refl) ad.access)
+      reached_word k i q _ IsPointer (reaches c.globals mirrors.safe.0 (scene_of w) n ready (register_at n k q') q i IsPointer (car.q refl) (car.some_q refl) (own_sound k q') (own_safe k q') (pro refl) ad.access)
   write_word k (op.New d ty full) q p r l a car pro ad = cc
   write_word k _ q p r l a car pro ad = cc
 
@@ -157,13 +151,11 @@ module _ (c : Config) (w : World) (n : NeverState) (known : KnownWorld c w) (oth
       → ProbedOwn n k (flight stage.Cas o q p r l)
       → IsAdmitted c.globals n k o → IsMappedWord c w ((q - 65536) / 8 + i_of o)
   cas_word k (op.CasPtr q' i p' r') q p r l a car pro ad =
-      reached_word k i q _ IsPointer
-      (reaches c.globals mirrors.safe.0 (scene_of w) n ready (register_at n k q') q i IsPointer (car.q refl) (car.some_q refl) (own_sound k q') (own_safe k q')
-      (pro refl) ad.access)
+      reached_word k i q _ IsPointer (reaches c.globals mirrors.safe.0 (scene_of w) n ready (register_at n k q') q i IsPointer (car.q refl) (car.some_q refl) (own_sound k q') (own_safe k q') (pro refl) ad.access)
   cas_word k (op.New d ty full) q p r l a car pro ad = cc
   cas_word k _ q p r l a car pro ad = cc
 
-  pub stored_word : (k : ℕ) (x : Step) → (x ≡ step.Write) ⊎ (x ≡ step.Cas) → MeetsAll c w.now (record { seat = Caller k; step = x })
+  stored_word : (k : ℕ) (x : Step) → (x ≡ step.Write) ⊎ (x ≡ step.Cas) → MeetsAll c w.now (record { seat = Caller k; step = x })
       → AreAdmitted c.globals n (asked (call_decided c w.now (record { seat = Caller k; step = x }))) → IsMappedWord c w (word_met (flight_of w.now (Caller k)))
   stored_word k step.Write is h ad =
       let f = flight_of w.now (Caller k) in
@@ -190,5 +182,4 @@ module _ (c : Config) (w : World) (n : NeverState) (known : KnownWorld c w) (oth
         target = target_cell;
         marked = run_marked;
         stored = λ k x now. stored_word k x now.step (enabled_meets c w.now _ now.enabled) now.admitted;
-        free = free_page_is_zero c w n known others mirrors;
       }

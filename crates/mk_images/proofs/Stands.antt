@@ -1,5 +1,5 @@
 -- What stands where, as lookups show it.
-use Rattle.std.proofs.Common.{refl, ◌≡◌, ◌≢◌, ℕ, ◌+◌, ◌*◌, ◌/◌, ◌<◌, ◌≤◌, Bool, true, false, List, sym, ap, subst, ◌∙◌, inl, inr, arith}
+use Rattle.std.proofs.Common.{◌≡◌, ◌≢◌, ℕ, ◌+◌, ◌*◌, ◌/◌, ◌<◌, ◌≤◌, Bool, true, false, List, sym, ap, subst, ◌∙◌, inl, inr, arith}
 use Rattle.std.specs.Prelude.{◌&&◌, ◌==◌, not, Option, Some, None}
 use Rattle.std.proofs.lemmas.Bool.{cases_Bool, and_parts, and_from, eqb-true, eq-eqb, not-true, true≢false}
 use Rattle.mk_never.specs.Types.{kinds_of, is_large}
@@ -25,17 +25,6 @@ use Rattle.mk_images.specs.OthersSay.{run_of_allocation, IsLaidOut, OthersSay}
 -- A large allocation that was freed is unmapped.
 abbrev pub is_gone : Config → PlacedAllocation → Bool
 is_gone c a = a.freed && is_large (kinds_of c.types a.ty)
-
--- what is mapped is unreleased, and not gone
-
-pub unreleased_of : (r g : Bool) → (not r && not g) ≡ true → r ≡ false
-unreleased_of false g e = refl
-unreleased_of true g e = cc
-
-pub kept_of : (r g : Bool) → (not r && not g) ≡ true → g ≡ false
-kept_of false false e = refl
-kept_of false true e = cc
-kept_of true g e = cc
 
 -- of the unreleased allocations
 pub record Stands (c : Config) (w : Words) (xs : List PlacedAllocation) : Type 0 where
@@ -79,8 +68,7 @@ pub stands_of : (c : Config) (w : World) → IsWithinLimits c → OthersSay c w 
 stands_of c w limits others =
     record {
       cell = λ a i u lt.
-          let h = others.laid_out a u in word_points c w.now.words (placed_at w.allocations a) limits h.stands h.headers ((placed_at w.allocations a).base + i)
-          (omega arith, omega arith);
+          let h = others.laid_out a u in word_points c w.now.words (placed_at w.allocations a) limits h.stands h.headers ((placed_at w.allocations a).base + i) (omega arith, omega arith);
       first = λ a u. let h = others.laid_out a u in (cells_begin c w.now.words (placed_at w.allocations a) limits h.stands h.headers).0;
       inside = λ a u. (others.laid_out a u).stands.within;
       apart = others.apart;

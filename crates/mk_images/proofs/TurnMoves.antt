@@ -70,8 +70,7 @@ sees_freed w (Some cell) _ h = cc
 sees_freed w None (word.Quar p) h = cc
 sees_freed w None _ h = cc
 
-module _ (c : Config) (w : World) (n : NeverState) (known : KnownWorld c w) (mirrors : Mirrors c w n) (others : OthersSay c w) (safe : ℕ → Bool)
-    (ready : Ready c.globals safe (scene_of w) n) (st : Stands c w.now.words w.allocations)
+module _ (c : Config) (w : World) (n : NeverState) (known : KnownWorld c w) (mirrors : Mirrors c w n) (others : OthersSay c w) (safe : ℕ → Bool) (ready : Ready c.globals safe (scene_of w) n) (st : Stands c w.now.words w.allocations)
     (k : ℕ) (lt : k < c.callers) where
   pub grant_by : (s : Stage) (o : Op) (q p r l : ℕ) (placing : Placing) → flight_of w.now (Caller k) ≡ flight s o q p r l → comes_next s o step.Grant ≡ true
       → is_used_once placing ≡ true
@@ -104,13 +103,7 @@ module _ (c : Config) (w : World) (n : NeverState) (known : KnownWorld c w) (mir
           allocations = w.allocations ++ a ∷ [];
         }) (with_register (with_new n ty) k d (Ptr (length n.allocations) ty 0))) word
             (Grants k d (base_made o place) ty (flight stage.Give (op.New d ty full) q p r l)
-            (record {
-              there = there_is c w n known mirrors safe ready k lt;
-              registers = own_registers c w n known mirrors safe ready k lt;
-              was =
-                  ap (λ (f : Flight). is_put f.stage) is;
-              bare = refl;
-            })
+            (record { there = there_is c w n known mirrors safe ready k lt; registers = own_registers c w n known mirrors safe ready k lt; was = ap (λ (f : Flight). is_put f.stage) is; bare = refl })
             (own_words c w n known mirrors safe ready k lt) (operands_of c (op.New d ty full) operands).d
             (λ i li. zero_there i (let small = subst (λ (types : List (List Kind)). i < length (kinds_of types ty)) mirrors.types li in omega arith))),
         λ more. refl,
@@ -120,35 +113,20 @@ module _ (c : Config) (w : World) (n : NeverState) (known : KnownWorld c w) (mir
 
   pub full_by : (s : Stage) (o : Op) (q p r l : ℕ) → flight_among w.now.seats.flights k ≡ flight s o q p r l → comes_next s o step.Full ≡ true
       → Leads safe (scene_of w) n k o (record (scene_of w) { flights = slice_set w.now.seats.flights k (flight stage.Give o q p r l) }) (Some answer.Full)
-  full_by stage.Turn (op.New d ty full) q p r l is next =
-      (goes_bare safe (scene_of w) n k (flight stage.Give (op.New d ty full) q p r l) (ap (λ (f : Flight). is_put f.stage) is) refl, λ more. refl)
+  full_by stage.Turn (op.New d ty full) q p r l is next = (goes_bare safe (scene_of w) n k (flight stage.Give (op.New d ty full) q p r l) (ap (λ (f : Flight). is_put f.stage) is) refl, λ more. refl)
   full_by _ _ q p r l is next = absurd (false≢true next)
 
   freed_by : (s : Stage) (o : Op) (q p r l : ℕ) (cell : Cell) → flight_among w.now.seats.flights k ≡ flight s o q p r l → is_undecided_free (flight s o q p r l) ≡ true
       → pointed_cell c.pages w.now.words.pages p ≡ Some cell → is_freed w.now.words cell ≡ false
       → (is_run_cell w.now.words (Some cell) ≡ true → (j : ℕ) → j ≢ k → is_past_probe (flight_among w.now.seats.flights j).stage ≡ false)
       → CarriesOwn (bases_of w.allocations) n k (flight s o q p r l)
-      → Leads safe (scene_of w) n k o
-      (record (scene_of w) {
-        flights = slice_set w.now.seats.flights k (flight stage.Give o q p r l);
-        allocations =
-            map (freed_where_it_stands w.now.words (Some cell)) w.allocations;
-      }) (Some answer.Done)
+      → Leads safe (scene_of w) n k o (record (scene_of w) { flights = slice_set w.now.seats.flights k (flight stage.Give o q p r l); allocations = map (freed_where_it_stands w.now.words (Some cell)) w.allocations }) (Some answer.Done)
   freed_by stage.Turn (op.Free p') q p r l cell is undecided points fresh quiet car =
       let f = flight stage.Give (op.Free p') q p r l in
       let free = free_by c w n known mirrors safe ready st others k (op.Free p') f p cell (register_at n k p')
-      (record {
-        there = there_is c w n known mirrors safe ready k lt;
-        registers = own_registers c w n known mirrors safe ready k lt;
-        was =
-            ap (λ (g : Flight). is_put g.stage) is;
-        bare = refl;
-      })
-      (mirrors.typed.registers (8 * k + p')) (ready.set.registers (8 * k + p')) (car.p refl) (car.some_p refl) points fresh quiet in (
-        free.0,
-        λ more. one_right (bases_of (map (freed_where_it_stands w.now.words (Some cell)) w.allocations) ++ more) answer.Done n k (op.Free p')
-            (ap (answer_of (bases_of (map (freed_where_it_stands w.now.words (Some cell)) w.allocations) ++ more)) (sym free.1)),
-      )
+      (record { there = there_is c w n known mirrors safe ready k lt; registers = own_registers c w n known mirrors safe ready k lt; was = ap (λ (g : Flight). is_put g.stage) is; bare = refl })
+      (mirrors.typed.registers (8 * k + p')) (ready.set.registers (8 * k + p')) (car.p refl) (car.some_p refl) points fresh quiet in
+      (free.0, λ more. one_right (bases_of (map (freed_where_it_stands w.now.words (Some cell)) w.allocations) ++ more) answer.Done n k (op.Free p') (ap (answer_of (bases_of (map (freed_where_it_stands w.now.words (Some cell)) w.allocations) ++ more)) (sym free.1)))
   freed_by _ _ q p r l cell is undecided points fresh quiet car = absurd (false≢true undecided)
 
   twice_by : (s : Stage) (o : Op) (q p r l : ℕ) (cell : Cell) → flight_among w.now.seats.flights k ≡ flight s o q p r l → is_undecided_free (flight s o q p r l) ≡ true
@@ -165,14 +143,10 @@ module _ (c : Config) (w : World) (n : NeverState) (known : KnownWorld c w) (mir
   -- `quar`
   pub quar_by : (f : Flight) (p v : ℕ) (x : Option Cell) → flight_among w.now.seats.flights k ≡ f → cell_freed c.pages w.now.words f p v ≡ x
       → (is_run_cell w.now.words (target c.pages w.now.words f) ≡ true → (j : ℕ) → j ≢ k → is_past_probe (flight_among w.now.seats.flights j).stage ≡ false)
-      → Leads safe (scene_of w) n k f.op
-      (record (scene_of w) { flights = slice_set w.now.seats.flights k (progress_freed f x).flight; allocations = map (freed_where_it_stands w.now.words x) w.allocations })
-      (progress_freed f x).answer
+      → Leads safe (scene_of w) n k f.op (record (scene_of w) { flights = slice_set w.now.seats.flights k (progress_freed f x).flight; allocations = map (freed_where_it_stands w.now.words x) w.allocations }) (progress_freed f x).answer
   quar_by f p v None is e quiet =
-      subst (λ (xs : List PlacedAllocation). Leads safe (scene_of w) n k f.op (record (scene_of w) { flights = slice_set w.now.seats.flights k f; allocations = xs }) None)
-      (sym (none_freed w.now.words w.allocations))
-      (subst (λ (g : Flight). Leads safe (scene_of w) n k g.op (record (scene_of w) { flights = slice_set w.now.seats.flights k g }) None) is
-      (stays c w n known mirrors safe ready k (flight_among w.now.seats.flights k).op))
+      subst (λ (xs : List PlacedAllocation). Leads safe (scene_of w) n k f.op (record (scene_of w) { flights = slice_set w.now.seats.flights k f; allocations = xs }) None) (sym (none_freed w.now.words w.allocations))
+      (subst (λ (g : Flight). Leads safe (scene_of w) n k g.op (record (scene_of w) { flights = slice_set w.now.seats.flights k g }) None) is (stays c w n known mirrors safe ready k (flight_among w.now.seats.flights k).op))
   quar_by f p v (Some cell) is e quiet =
       let freed = freed_cell c.pages w.now.words f p v cell e in
       freed_by f.stage f.op f.q f.p f.r f.loaded cell is freed.free freed.pointed freed.unfreed (λ r. quiet (ap (is_run_cell w.now.words) freed.at ∙ r))
@@ -180,14 +154,11 @@ module _ (c : Config) (w : World) (n : NeverState) (known : KnownWorld c w) (mir
 
   -- a look
   pub look_by : (f : Flight) (x : Word) → flight_among w.now.seats.flights k ≡ f
-      → Leads safe (scene_of w) n k f.op (record (scene_of w) { flights = slice_set w.now.seats.flights k (progress_look c w.now.words f x).flight })
-      (progress_look c w.now.words f x).answer
+      → Leads safe (scene_of w) n k f.op (record (scene_of w) { flights = slice_set w.now.seats.flights k (progress_look c w.now.words f x).flight }) (progress_look c w.now.words f x).answer
   look_by f x is =
       either_leads safe (scene_of w) n k f.op (scene_of w) (sees_double w.now.words (target c.pages w.now.words f) x) (decided f answer.Double) (still f)
       (λ sees.
       let t = sees_freed w.now.words (target c.pages w.now.words f) x sees in
       let points = target_is c.pages w.now.words f t.cell t.is in
-      twice_by f.stage f.op f.q f.p f.r f.loaded t.cell is points.free points.pointed t.freed
-      (subst (λ (g : Flight). CarriesOwn (bases_of w.allocations) n k g) is (ready.images.carried k)))
-      (λ sees. subst (λ (g : Flight). Leads safe (scene_of w) n k g.op (record (scene_of w) { flights = slice_set w.now.seats.flights k g }) None) is
-      (stays c w n known mirrors safe ready k (flight_among w.now.seats.flights k).op))
+      twice_by f.stage f.op f.q f.p f.r f.loaded t.cell is points.free points.pointed t.freed (subst (λ (g : Flight). CarriesOwn (bases_of w.allocations) n k g) is (ready.images.carried k)))
+      (λ sees. subst (λ (g : Flight). Leads safe (scene_of w) n k g.op (record (scene_of w) { flights = slice_set w.now.seats.flights k g }) None) is (stays c w n known mirrors safe ready k (flight_among w.now.seats.flights k).op))

@@ -1,5 +1,5 @@
--- What the images tell the other groups, in one world.
-use Rattle.std.specs.Prelude.{◌≡◌, ◌⊎◌, ℕ, ◌+◌, ◌*◌, ◌<◌, slice_index, true, false, Some}
+-- What the images tell the layout, the quarantine and the zero words, in one world.
+use Rattle.std.specs.Prelude.{◌≡◌, ◌⊎◌, ℕ, true, false, Some}
 use Rattle.mk_never.specs.NeverHeap.{NeverState}
 use Rattle.mk_never.specs.Admitted.{AreAdmitted}
 use Rattle.mk_geom.specs.declared.addresses.Cell.{Cell}
@@ -10,7 +10,7 @@ use Rattle.mk_core.specs.declared.events.Seat.TheVariants.{Caller}
 use Rattle.mk_core.specs.declared.events.Step.{Step}
 use Rattle.mk_core.specs.declared.events.Step.TheVariants as step
 use Rattle.mk_core.specs.declared.seats.RunPages.{RunPages}
-use Rattle.mk_core.specs.Words.{phase_of, header_at}
+use Rattle.mk_core.specs.Words.{phase_of}
 use Rattle.mk_core.specs.Calls.{word_met}
 use Rattle.mk_core.specs.Cells.{is_marked}
 use Rattle.mk_core.specs.Moments.{flight_of}
@@ -46,5 +46,3 @@ pub record ImagesSay (c : Config) (w : World) (n : NeverState) : Type 0 where
       → is_marked w.now.words (record { page = run.page; index = 0 }) ≡ true
   -- Callers store to words of mapped allocations.
   pub stored : (k : ℕ) (x : Step) → StoresNow c w n k x → IsMappedWord c w (word_met (flight_of w.now (Caller k)))
-  -- The words of a page without a header are 0.
-  pub free : (p i : ℕ) → header_at w.now.words p ≡ 0 → i < 64 → slice_index w.now.words.heap (64 * p + i) ≡ 0

@@ -10,7 +10,7 @@ use Rattle.mk_images.specs.OthersSay.{OthersSay}
 use Rattle.mk_images.specs.Mirrors.{Mirrors}
 use Rattle.mk_images.specs.ImagesSay.{ImagesSay}
 
--- The layout, the quarantine and the marks are as they should be behind each front.
+-- The layout, the quarantine, the zero words and the marks are as they should be behind each front.
 abbrev pub OthersSayAlong : Config → List Event → Type 0
 OthersSayAlong c es = (front rest : List Event) → front ++ rest ≡ es → OthersSay c (left c front)
 

@@ -1,5 +1,5 @@
 -- A world mirrors the heap that never reuses storage: the group of facts that each admitted event keeps.
-use Rattle.std.specs.Prelude.{◌≢◌, ◌+◌, ◌<◌, false, slice_index, ◌≡◌, ℕ, ◌*◌, true, length, Some}
+use Rattle.std.specs.Prelude.{◌≡◌, ℕ, ◌*◌, true, length, Some}
 use Rattle.mk_never.specs.declared.values.Value.TheVariants.{Ptr}
 use Rattle.mk_never.specs.NeverHeap.{NeverState, register_at}
 use Rattle.mk_never.specs.Typed.{IsTyped}
@@ -7,14 +7,12 @@ use Rattle.mk_core.specs.declared.config.Config.{Config}
 use Rattle.mk_core.specs.declared.events.Seat.TheVariants.{Caller}
 use Rattle.mk_core.specs.declared.seats.RunPages.{RunPages}
 use Rattle.mk_core.specs.Calls.{p_of}
-use Rattle.mk_core.specs.NewPlaces.{is_run_gone}
 use Rattle.mk_core.specs.Moments.{flight_of}
 use Rattle.mk_core.specs.Allocations.{placed_at}
 use Rattle.mk_core.specs.History.{World}
 use Rattle.mk_protocol.specs.Protocol.{is_decided_free}
 use Rattle.mk_images.specs.Images.{scene_of, AreImages, AreTwins}
 use Rattle.mk_images.specs.SafeSets.{HasSafeSet}
-use Rattle.mk_images.specs.ZeroWords.{MayHold}
 
 -- The register points into the allocation of the run.
 pub record PointsAtRun (w : World) (n : NeverState) (k r : ℕ) (run : RunPages) : Type 0 where
@@ -30,12 +28,6 @@ OwnsFreedRun w n =
     (run : RunPages) → w.now.seats.holding.freed ≡ Some run → (k : ℕ) → is_decided_free (flight_of w.now (Caller k)) ≡ true
     → PointsAtRun w n k (p_of (flight_of w.now (Caller k)).op) run
 
--- Up to where the run that a Free unmaps is gone, the gates of the others are held.
-abbrev pub RunIsAlone : Config → World → Type 0
-RunIsAlone c w =
-    is_run_gone w.now.words w.now.seats.holding.freed ≡ false → (k : ℕ) → k < c.callers → w.now.words.turn ≢ 1 + k
-    → slice_index w.now.words.gates k ≡ 2
-
 pub record Mirrors (c : Config) (w : World) (n : NeverState) : Type 0 where
   -- That heap has the types, the callers' registers and the globals of the configuration, and its values are typed.
   pub types : n.types ≡ c.types
@@ -46,10 +38,7 @@ pub record Mirrors (c : Config) (w : World) (n : NeverState) : Type 0 where
   pub twins : AreTwins w.allocations n
   -- whose words are the images of its values.
   pub images : AreImages (scene_of w) n
-  -- A call keeps the pointer to the run that it unmaps, and nobody else is in a call.
+  -- A call keeps the pointer to the run that it unmaps.
   pub freed_run : OwnsFreedRun w n
-  pub alone : RunIsAlone c w
-  -- All words of the heap are 0 but those that may hold something.
-  pub zero_words : (m : ℕ) → slice_index w.now.words.heap m ≢ 0 → MayHold c w m
   -- What a program can get to isn't released.
   pub safe : HasSafeSet w.allocations n

@@ -1,5 +1,5 @@
-//! Callers see the heap that never reuses storage, where the layout, the quarantine and the marks are as they should be:
-//! facts alone, with no code.
+//! Callers see the heap that never reuses storage, where the layout, the quarantine, the zero words and the marks are as
+//! they should be: facts alone, with no code.
 #![tactic(auto)]
 
 ghost use Rattle.mk_images.specs.Laws.{HistoriesRefineNever, HistoriesMirrorNever, ReachedIsUnreleased, HistoriesCompareValues, HistoriesTellOthers};
@@ -9,7 +9,7 @@ pub fn answers_are_images()
     ensures { HistoriesRefineNever }
 {}
 
-/// Registers, globals and words of allocations are the images of that heap's values, and words that nobody owns are 0.
+/// Registers, globals and words of allocations are the images of that heap's values.
 pub fn words_are_images()
     ensures { HistoriesMirrorNever }
 {}
@@ -24,8 +24,7 @@ pub fn exchanges_compare_values()
     ensures { HistoriesCompareValues }
 {}
 
-/// What the images tell the other groups: what Frees point to, which run is marked, where callers store, and that pages
-/// without a header are 0.
+/// What the images tell the other groups: what Frees point to, which run is marked, and where callers store.
 pub fn images_tell_the_others()
     ensures { HistoriesTellOthers }
 {}
