@@ -32,7 +32,7 @@ use Rattle.mk_layout.proofs.QuarantineByKind.{quarantine_by_kind}
 use Rattle.mk_layout.proofs.QuarantineSteps.{none_released, unmarked}
 use Rattle.mk_layout.proofs.Readings.{none_set}
 
-laid_at_first : (c : Config) → IsLaidOut c (first_world c)
+pub laid_at_first : (c : Config) → IsLaidOut c (first_world c)
 laid_at_first c =
     record {
       scene = record {
@@ -52,7 +52,7 @@ laid_at_first c =
     free : (p : ℕ) → slice_index_or (replicate c.pages free_page) p free_page ≡ free_page
     free p = at_first c.pages p free_page
 
-quarantined_at_first : (c : Config) → IsQuarantined c (first_world c)
+pub quarantined_at_first : (c : Config) → IsQuarantined c (first_world c)
 quarantined_at_first c =
     record {
       small = λ p. (let z = zero_at p in omega arith, let z = zero_at p in omega arith);

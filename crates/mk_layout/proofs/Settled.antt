@@ -38,7 +38,7 @@ unreleased_stand c es limits laid i u =
     record { stands = s.stands; headers = s.headers; used = shown.used }
 
 -- No two numbers have one cell.
-numbers_apart : (c : Config) (run : Option RunPages) (xs : List PlacedAllocation) (i j : ℕ) → AreApart (claims_of c run xs) → (placed_at xs i).released ≡ false
+pub numbers_apart : (c : Config) (run : Option RunPages) (xs : List PlacedAllocation) (i j : ℕ) → AreApart (claims_of c run xs) → (placed_at xs i).released ≡ false
     → (placed_at xs j).released ≡ false
     → IsOfOneCell (claim_of c run (placed_at xs i)) (claim_of c run (placed_at xs j)) → i ≡ j
 numbers_apart c run [] i j apart u v same = absurd (true≢false u)

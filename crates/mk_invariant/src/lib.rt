@@ -1,0 +1,2 @@
+//! The groups of facts joined: facts alone, with no code.
+#![tactic(auto)]
