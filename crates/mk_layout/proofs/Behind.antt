@@ -43,7 +43,7 @@ not_four n m hn hm = ne_eqb (n % 8) 4 hn ∙ sym (ne_eqb (m % 8) 4 hm)
 same_low : (n m : ℕ) → n % 8 ≡ m % 8 → (n % 8 == 4) ≡ (m % 8 == 4)
 same_low n m e = ap (λ k. k == 4) e
 
-over_phase : (c : Config) (w : World) (seat : Seat) → Meets c w.now seat step.Over → w.now.words.phase % 8 ≡ 0
+pub over_phase : (c : Config) (w : World) (seat : Seat) → Meets c w.now seat step.Over → w.now.words.phase % 8 ≡ 0
 over_phase c w seat h = eqb-true (w.now.words.phase % 8) 0 (and_parts (host_has_turn c w.now) (is_phase w.now.words 0) h.holder).1
 
 pub phase_kind : (c : Config) (w : World) (seat : Seat) (x : Step) → Meets c w.now seat x

@@ -10,6 +10,7 @@ use Rattle.mk_core.specs.declared.config.Config.{Config}
 use Rattle.mk_core.specs.declared.seats.Placing.{Placing}
 use Rattle.mk_core.specs.declared.seats.Placing.TheVariants.{Granted, Used}
 use Rattle.mk_core.specs.declared.seats.RunPages.{RunPages}
+use Rattle.mk_core.proofs.Schedules.{by}
 use Rattle.mk_core.proofs.StandingAllocations.{made_begins}
 use Rattle.mk_layout.specs.Scene.{Among, Claim, IsLaidOn, IsShown, NoPlot}
 use Rattle.mk_layout.specs.Terrain.{HasLayout, IsAtCell, RunStands, Terrain, claim_of, claims_of, is_unmapping, mode_of, place_claim, scene_of}
@@ -23,6 +24,12 @@ pushed_at [] a zero u = inr refl
 pushed_at [] a (suc i) u = absurd (true≢false u)
 pushed_at (x ∷ xs) a zero u = inl (u, refl)
 pushed_at (x ∷ xs) a (suc i) u = pushed_at xs a i u
+
+pub pushed_any : (xs : List PlacedAllocation) (a : PlacedAllocation) (i : ℕ) → (placed_at (xs ++ a ∷ []) i ≡ placed_at xs i) ⊎ (placed_at (xs ++ a ∷ []) i ≡ a)
+pushed_any [] a zero = inr refl
+pushed_any [] a (suc i) = inl refl
+pushed_any (x ∷ xs) a zero = inl refl
+pushed_any (x ∷ xs) a (suc i) = pushed_any xs a i
 
 -- One that was there is.
 pub still_at : (xs : List PlacedAllocation) (a : PlacedAllocation) (i : ℕ) → (placed_at xs i).released ≡ false → placed_at (xs ++ a ∷ []) i ≡ placed_at xs i

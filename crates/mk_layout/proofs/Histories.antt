@@ -8,6 +8,7 @@ use Rattle.mk_geom.specs.declared.headers.Header.TheVariants.{Later}
 use Rattle.mk_geom.specs.declared.pages.Page.{Page}
 use Rattle.mk_core.specs.Accesses.{access, reached}
 use Rattle.mk_core.specs.Config.{IsWithinLimits}
+use Rattle.mk_core.specs.Effects.{taken}
 use Rattle.mk_core.specs.Enabled.{IsEnabled}
 use Rattle.mk_core.specs.History.{AreEnabledFrom, World, first_world, left, left_from, world_behind}
 use Rattle.mk_core.specs.Layout.{AreOfPages}
@@ -19,7 +20,9 @@ use Rattle.mk_core.specs.declared.events.Step.{Step}
 use Rattle.mk_core.proofs.Conditions.{enabled_meets}
 use Rattle.mk_core.proofs.EvaluatedHistories.{enabled}
 use Rattle.mk_core.proofs.Lengths.{accessed_lengths, histories_keep_lengths, zero_lengths}
+use Rattle.mk_core.proofs.SmallCycles.{small}
 use Rattle.mk_protocol.proofs.Actors.{Meets}
+use Rattle.mk_protocol.proofs.Kept.{kept}
 use Rattle.mk_protocol.proofs.Known.{Known, known_at_first, known_behind, known_left}
 use Rattle.mk_protocol.proofs.OthersMoves.{WorldBehind}
 use Rattle.mk_protocol.proofs.OrderlyLists.{at_first}
@@ -28,11 +31,13 @@ use Rattle.mk_layout.specs.Quarantine.{HasQuarantine, IsQuarantined}
 use Rattle.mk_layout.specs.Terrain.{IsLaidOut, object_now, terrain_of}
 use Rattle.mk_layout.proofs.Before.{Before, is_releasing_behind}
 use Rattle.mk_layout.proofs.Behind.{layout_behind, phase_kind, releasing_marks}
+use Rattle.mk_layout.proofs.KnownCells.{cells_known_behind}
 use Rattle.mk_layout.proofs.QuarantineByKind.{quarantine_by_kind}
 use Rattle.mk_layout.proofs.QuarantineSteps.{none_released, unmarked}
 use Rattle.mk_layout.proofs.Readings.{none_set}
+use Rattle.mk_layout.proofs.SnapshotKinds.{snapshot_behind}
 
-pub laid_at_first : (c : Config) → IsLaidOut c (first_world c)
+laid_at_first : (c : Config) → IsLaidOut c (first_world c)
 laid_at_first c =
     record {
       scene = record {
@@ -52,7 +57,7 @@ laid_at_first c =
     free : (p : ℕ) → slice_index_or (replicate c.pages free_page) p free_page ≡ free_page
     free p = at_first c.pages p free_page
 
-pub quarantined_at_first : (c : Config) → IsQuarantined c (first_world c)
+quarantined_at_first : (c : Config) → IsQuarantined c (first_world c)
 quarantined_at_first c =
     record {
       small = λ p. (let z = zero_at p in omega arith, let z = zero_at p in omega arith);
@@ -66,7 +71,16 @@ quarantined_at_first c =
     zero_at : (p : ℕ) → slice_index (replicate c.pages 0) p ≡ 0
     zero_at p = at_first c.pages p 0
 
-before : (c : Config) (w : World) → IsWithinLimits c → AreOfPages c.pages w.now.words → Known c w.now → OthersSay c w → IsQuarantined c w → Before c w
+pub in_order_at_first : (c : Config) → StandsInOrder c (first_world c)
+in_order_at_first c =
+    record {
+      laid = laid_at_first c;
+      quarantined = quarantined_at_first c;
+      known = λ p k h. absurd (none_set (slice_index (replicate c.pages 0) p) k (at_first c.pages p 0) h);
+      snapshot = record { fresh = λ i f. absurd (true≢false (sym f)); quarantined = λ on. absurd (true≢false (sym on)) };
+    }
+
+pub before : (c : Config) (w : World) → IsWithinLimits c → AreOfPages c.pages w.now.words → Known c w.now → OthersSay c w → IsQuarantined c w → Before c w
 before c w limits lengths known others q =
     record {
       limits = limits;
@@ -91,10 +105,17 @@ quarantine_behind c w seat x b h laid q =
 -- One event, from the world before it.
 pub order_behind : (c : Config) (w : World) (e : Event) → IsWithinLimits c → AreOfPages c.pages w.now.words → Known c w.now → IsEnabled c w.now e → OthersSay c w
     → StandsInOrder c w → StandsInOrder c (world_behind c w e)
-order_behind c w e limits lengths known on others both =
+order_behind c w e limits lengths known on others all =
     let h = enabled_meets c w.now e on in
-    let b = before c w limits lengths known others both.1 in
-    (layout_behind c w e.seat e.step b h both.0, quarantine_behind c w e.seat e.step b h both.0 both.1)
+    let b = before c w limits lengths known others all.quarantined in
+    let laid = layout_behind c w e.seat e.step b h all.laid in
+    let quarantined = quarantine_behind c w e.seat e.step b h all.laid all.quarantined in
+    record {
+      laid = laid;
+      quarantined = quarantined;
+      known = cells_known_behind c w e.seat e.step b h all.known laid quarantined;
+      snapshot = snapshot_behind c w e.seat e.step b h all.laid all.quarantined all.snapshot;
+    }
 
 pub events_keep_the_layout : EventsKeepTheLayout
 events_keep_the_layout c es e limits on enabled others both =
@@ -110,4 +131,4 @@ order_from c w (e ∷ es) limits lengths known on others both =
 
 pub histories_are_laid_out : HistoriesAreLaidOut
 histories_are_laid_out c es limits on others =
-    order_from c (first_world c) es limits (zero_lengths c.pages) (known_at_first c limits) on others (laid_at_first c, quarantined_at_first c)
+    order_from c (first_world c) es limits (zero_lengths c.pages) (known_at_first c limits) on others (in_order_at_first c)

@@ -22,7 +22,11 @@ pub mod Behind
 pub mod QuarantineSteps
 pub mod QuarantineChanges
 pub mod QuarantineByKind
+pub mod KnownCells
+pub mod OneCell
+pub mod SnapshotKinds
 pub mod Histories
+pub mod CycleSnapshots
 pub mod Apart
 pub mod OnClaims
 pub mod HeadersStand

@@ -14,7 +14,7 @@ use Rattle.mk_core.specs.Bits.{has_bit}
 use Rattle.mk_core.specs.Effects.{chosen, run_of_cell, taken}
 use Rattle.mk_core.specs.History.{World}
 use Rattle.mk_core.specs.Moments.{flight_of, is_phase, nothing_done}
-use Rattle.mk_core.specs.NewPlaces.{is_undecided_free, is_undecided_new, object_made, target}
+use Rattle.mk_core.specs.NewPlaces.{is_undecided_free, is_undecided_new, object_made, stands, target}
 use Rattle.mk_core.specs.StandingAllocations.{object_placed}
 use Rattle.mk_core.specs.StopConditions.{marks_place, may_end}
 use Rattle.mk_core.specs.TurnConditions.{cell_freed, frees, place_now}
@@ -32,6 +32,8 @@ use Rattle.mk_core.proofs.ChangedAllocations.{none_freed}
 use Rattle.mk_core.proofs.EvaluatedPlaces.{full}
 use Rattle.mk_core.proofs.PageSteps.{ItDrops, ItFrees, ItGivesBack, ItTakes, ItTakesSnapshot, QuarantineStep, UsedStep, quarantine_step, used_step}
 use Rattle.mk_core.proofs.PlacesNow.{FreesCell, chosen_used, freed_cell, undecided_free, undecided_new}
+use Rattle.mk_core.proofs.Schedules.{by}
+use Rattle.mk_core.proofs.SmallCycles.{small}
 use Rattle.mk_protocol.specs.Protocol.{has_place}
 use Rattle.mk_protocol.proofs.Actors.{Meets}
 use Rattle.mk_protocol.proofs.Ground.{KeepsGround, reg_ground, tally_ground}
@@ -55,11 +57,11 @@ use Rattle.mk_layout.proofs.Serving.{Laid, own_claim}
 abbrev pub QuarantinedAs : Config → Bool → World → Terrain → Type 0
 QuarantinedAs c releasing w t = HasQuarantine c releasing w.now.words.marks t
 
-abbrev QuarantinedNow : Config → World → Terrain → Type 0
+abbrev pub QuarantinedNow : Config → World → Terrain → Type 0
 QuarantinedNow c w t = QuarantinedAs c (is_phase w.now.words 4) w t
 
 -- What the layout says of an unreleased allocation's cell.
-shown_at : (c : Config) (w : World) (i : ℕ) → IsLaidOut c w → (placed_at w.allocations i).released ≡ false
+pub shown_at : (c : Config) (w : World) (i : ℕ) → IsLaidOut c w → (placed_at w.allocations i).released ≡ false
     → IsShown w.now.words.pages (claim_of c w.now.seats.holding.freed (placed_at w.allocations i))
 shown_at c w i laid u =
     let x : Claim = claim_of c w.now.seats.holding.freed (placed_at w.allocations i) in
@@ -68,7 +70,7 @@ shown_at c w i laid u =
 -- `quar`
 
 -- a step that frees, frees a cell
-frees_some : (pages : ℕ) (w : Words) (f : Flight) (p n : ℕ) → is_phase w 4 ≡ false → frees w (target pages w f) p n ≡ true → cell_freed pages w f p n ≡ None → ⊥
+pub frees_some : (pages : ℕ) (w : Words) (f : Flight) (p n : ℕ) → is_phase w 4 ≡ false → frees w (target pages w f) p n ≡ true → cell_freed pages w f p n ≡ None → ⊥
 frees_some pages w f p n off h none =
     let both : (not (is_phase w 4) && frees w (target pages w f) p n) ≡ true = and_from (not (is_phase w 4)) (frees w (target pages w f) p n) (ap not off) h in
     let at : target pages w f ≡ None = sym (cond-true (not (is_phase w 4) && frees w (target pages w f) p n) (target pages w f) None both) ∙ none in
@@ -105,6 +107,34 @@ quar_none c w f p n lf ls none (ItTakesSnapshot x) q =
     (subst (λ v. QuarantinedAs c false w (record (terrain_of w) { snapshot = slice_set w.now.words.snapshot p v })) (sym high)
     (snapshot_kept c w.now.words.marks (terrain_of w) p ls (subst (λ four. QuarantinedAs c four w (terrain_of w)) off q))))
 
+-- what a step that frees finds
+pub frees_here : (c : Config) (w : World) (seat : Seat) (p n : ℕ) (cell : Cell) → Before c w → Meets c w.now seat (step.Quar p n) → IsLaidOut c w
+    → FreesCell c.pages w.now.words (flight_of w.now seat) p n cell → FreesHere c w cell n
+frees_here c w seat p n cell b h laid x =
+    let own = b.others.target seat cell x.at in
+    let a : PlacedAllocation = placed_at w.allocations own.number in
+    let off : Laid c (object_now c w.now) false w (terrain_of w) = subst (λ four. Laid c (object_now c w.now) four w (terrain_of w)) x.phase laid in
+    let s = all_stand c (object_now c w.now) false w b.lengths.pages off own.number own.unreleased in
+    let shown = shown_at c w own.number laid own.unreleased in
+    let known : (cell_of_allocation c a).index < 32 = index_small (object_placed c a) (cell_of_allocation c a).index shown.sized shown.known in
+    let index : (cell_of_allocation c a).index ≡ cell.index = ap (λ (y : Cell). y.index) own.is in
+    let page = x.page in
+    let lt = ltb-true p c.pages h.range in
+    let f = b.lengths.freed in
+    let g = b.lengths.snapshot in
+    let turn = free_has_turn c w.now seat h.seat x.free in
+    record {
+      page = omega arith;
+      in_snapshot = omega arith;
+      index = omega arith;
+      own = own;
+      stands = ap (λ (y : Cell). stands_in w.now.words y a) (sym own.is) ∙ stands_in_its_cell c w.now.words a b.limits s.stands s.headers;
+      others = standing_cell c (object_now c w.now) w cell b.lengths.pages own off;
+      unset = x.unfreed;
+      value = x.value ∙ ap (λ i. quarantine_word (slice_index w.now.words.freed i + 2 ^ cell.index) (slice_index w.now.words.snapshot i)) page;
+      unplaced = false_from_ne_true (has_place w.now.seats.holding.placing) (λ has. not_both (flight_of w.now seat) (placed_undecided c w.now seat b.known turn has) x.free);
+    }
+
 quar_kept : (c : Config) (w : World) (seat : Seat) (p n : ℕ) → Before c w → Meets c w.now seat (step.Quar p n) → IsLaidOut c w → IsQuarantined c w
     → QuarantinedNow c w (terrain_of (WorldBehind c w seat (step.Quar p n)))
 quar_kept c w seat p n b h laid q = by (cell_freed c.pages w.now.words (flight_of w.now seat) p n) refl
@@ -114,31 +144,6 @@ quar_kept c w seat p n b h laid q = by (cell_freed c.pages w.now.words (flight_o
 
     ls : p < length w.now.words.snapshot
     ls = let lt = ltb-true p c.pages h.range in let len = b.lengths.snapshot in omega arith
-
-    here : (cell : Cell) → FreesCell c.pages w.now.words (flight_of w.now seat) p n cell → FreesHere c w cell n
-    here cell x =
-        let own = b.others.target seat cell x.at in
-        let a : PlacedAllocation = placed_at w.allocations own.number in
-        let off : Laid c (object_now c w.now) false w (terrain_of w) = subst (λ four. Laid c (object_now c w.now) four w (terrain_of w)) x.phase laid in
-        let s = all_stand c (object_now c w.now) false w b.lengths.pages off own.number own.unreleased in
-        let shown = shown_at c w own.number laid own.unreleased in
-        let known : (cell_of_allocation c a).index < 32 = index_small (object_placed c a) (cell_of_allocation c a).index shown.sized shown.known in
-        let index : (cell_of_allocation c a).index ≡ cell.index = ap (λ (y : Cell). y.index) own.is in
-        let page = x.page in
-        let f = lf in
-        let g = ls in
-        let turn = free_has_turn c w.now seat h.seat x.free in
-        record {
-          page = omega arith;
-          in_snapshot = omega arith;
-          index = omega arith;
-          own = own;
-          stands = ap (λ (y : Cell). stands_in w.now.words y a) (sym own.is) ∙ stands_in_its_cell c w.now.words a b.limits s.stands s.headers;
-          others = standing_cell c (object_now c w.now) w cell b.lengths.pages own off;
-          unset = x.unfreed;
-          value = x.value ∙ ap (λ i. quarantine_word (slice_index w.now.words.freed i + 2 ^ cell.index) (slice_index w.now.words.snapshot i)) page;
-          unplaced = false_from_ne_true (has_place w.now.seats.holding.placing) (λ has. not_both (flight_of w.now seat) (placed_undecided c w.now seat b.known turn has) x.free);
-        }
 
     by : (cell : Option Cell) → cell_freed c.pages w.now.words (flight_of w.now seat) p n ≡ cell → QuarantinedNow c w (Quarantined w p n cell)
     by None is =
@@ -152,7 +157,7 @@ quar_kept c w seat p n b h laid q = by (cell_freed c.pages w.now.words (flight_o
         (subst
         (λ i. QuarantinedAs c false w (record (Quarantined w p n (Some cell)) { freed = slice_set w.now.words.freed i (n % 2 ^ 32); snapshot = slice_set w.now.words.snapshot i (n / 2 ^ 32) }))
         (sym x.page)
-        (free_kept c w cell (or_else (run_of_cell w.now.words (Some cell)) w.now.seats.holding.freed) n (here cell x) (subst (λ four. QuarantinedAs c four w (terrain_of w)) x.phase q)))
+        (free_kept c w cell (or_else (run_of_cell w.now.words (Some cell)) w.now.seats.holding.freed) n (frees_here c w seat p n cell b h laid x) (subst (λ four. QuarantinedAs c four w (terrain_of w)) x.phase q)))
 
 -- `head` and `used`
 head_from : (four : Bool) (placing : Placing) (found : Option Place) (place : Place) → (if four then placing else chosen placing found) ≡ Used place → placing ≡ Used place
@@ -188,7 +193,7 @@ kept_ground c w x g q =
     (subst (λ (ss : List ℕ). QuarantinedNow c w (record (terrain_of w) { snapshot = ss })) (sym g.snapshot) q))
 
 -- `grant` and `end`
-grants_early : (w : World) → ((phase_of w.now.words == 0) || (phase_of w.now.words == 1)) ≡ true → is_phase w.now.words 4 ≡ false
+pub grants_early : (w : World) → ((phase_of w.now.words == 0) || (phase_of w.now.words == 1)) ≡ true → is_phase w.now.words 4 ≡ false
 grants_early w h = elim (or_cases (phase_of w.now.words == 0) (phase_of w.now.words == 1) h) [
   | inl e ↦ off_at w 0 e (λ x. absurd (omega arith))
   | inr e ↦ off_at w 1 e (λ x. absurd (omega arith))

@@ -9,9 +9,12 @@ use Rattle.mk_geom.specs.declared.addresses.Cell.{Cell}
 use Rattle.mk_geom.proofs.ClassTable.{cell_ends, class_words_within}
 use Rattle.mk_core.specs.Allocations.{PlacedAllocation, cell_of_allocation, freed_where_it_stands, no_longer_fresh, placed_at, stands_in, with_released}
 use Rattle.mk_core.specs.Bits.{has_bit}
+use Rattle.mk_core.specs.Calls.{still}
 use Rattle.mk_core.specs.Config.{IsWithinLimits}
+use Rattle.mk_core.specs.Counts.{ends}
+use Rattle.mk_core.specs.Effects.{taken}
 use Rattle.mk_core.specs.History.{World}
-use Rattle.mk_core.specs.NewPlaces.{class_made, is_small_object}
+use Rattle.mk_core.specs.NewPlaces.{class_made, is_small_object, stands}
 use Rattle.mk_core.specs.ObjectHeaders.{IsSized, cells_made}
 use Rattle.mk_core.specs.Words.{Words, quarantine_word}
 use Rattle.mk_core.specs.declared.config.Config.{Config}
@@ -24,6 +27,7 @@ use Rattle.mk_core.proofs.Sizes.{class_known, large_cells, small_cells}
 use Rattle.mk_core.proofs.SmallCycles.{small}
 use Rattle.mk_core.proofs.WordBits.{added_here, added_other, sum_is_or}
 use Rattle.mk_protocol.specs.Protocol.{has_place}
+use Rattle.mk_protocol.proofs.Kept.{kept}
 use Rattle.mk_layout.specs.Quarantine.{HasQuarantine, IsFreedCell, has_bit_of}
 use Rattle.mk_layout.specs.Scene.{is_released_in}
 use Rattle.mk_layout.specs.Terrain.{IsCellOf, Terrain, terrain_of}
@@ -183,6 +187,22 @@ pub record FreesHere (c : Config) (w : World) (cell : Cell) (n : ℕ) : Type 0 w
   pub value : n ≡ quarantine_word (slice_index w.now.words.freed cell.page + 2 ^ cell.index) (slice_index w.now.words.snapshot cell.page)
   pub unplaced : has_place w.now.seats.holding.placing ≡ false
 
+-- the halves of the value that it stores
+pub free_halves : (c : Config) (w : World) (cell : Cell) (n : ℕ) → FreesHere c w cell n → HasQuarantine c false w.now.words.marks (terrain_of w)
+    → (n % 2 ^ 32 ≡ slice_index w.now.words.freed cell.page + 2 ^ cell.index) × (n / 2 ^ 32 ≡ slice_index w.now.words.snapshot cell.page)
+free_halves c w cell n x q = let e = x.value in let s = sum in (omega arith, omega arith)
+  where
+    sum : slice_index w.now.words.freed cell.page + 2 ^ cell.index < 2 ^ 32
+    sum =
+        let a = (q.small cell.page).0 in
+        let lt = x.index in
+        let more : 2 * 2 ^ cell.index ≤ 2 ^ 32 =
+        (let le : suc cell.index ≤ 32 = omega arith in let p : 2 ^ suc cell.index ≤ 2 ^ 32 = pow_mono le in let s = pow-suc 2 cell.index in omega arith) in
+        let some : 1 ≤ 2 ^ cell.index = (let z : 0 ≤ cell.index = omega arith in let p : 2 ^ 0 ≤ 2 ^ cell.index = pow_mono z in omega arith) in
+        let b = or_lt 32 (slice_index w.now.words.freed cell.page) (2 ^ cell.index) a (omega arith) in
+        let e = sum_is_or (slice_index w.now.words.freed cell.page) cell.index x.unset in
+        omega arith
+
 pub free_kept : (c : Config) (w : World) (cell : Cell) (run : Option RunPages) (n : ℕ) → FreesHere c w cell n → HasQuarantine c false w.now.words.marks (terrain_of w)
     → HasQuarantine c false w.now.words.marks
     (record (terrain_of w) {
@@ -215,25 +235,11 @@ free_kept c w cell run n x q =
     leaves : LeavesCells (freed_where_it_stands w.now.words (Some cell))
     leaves = freeing_leaves w.now.words (Some cell)
 
-    old : ℕ
-    old = slice_index w.now.words.freed cell.page
-
-    sum : slice_index w.now.words.freed cell.page + 2 ^ cell.index < 2 ^ 32
-    sum =
-        let a = (q.small cell.page).0 in
-        let lt = x.index in
-        let more : 2 * 2 ^ cell.index ≤ 2 ^ 32 =
-        (let le : suc cell.index ≤ 32 = omega arith in let p : 2 ^ suc cell.index ≤ 2 ^ 32 = pow_mono le in let s = pow-suc 2 cell.index in omega arith) in
-        let some : 1 ≤ 2 ^ cell.index = (let z : 0 ≤ cell.index = omega arith in let p : 2 ^ 0 ≤ 2 ^ cell.index = pow_mono z in omega arith) in
-        let b = or_lt 32 (slice_index w.now.words.freed cell.page) (2 ^ cell.index) a (omega arith) in
-        let e = sum_is_or (slice_index w.now.words.freed cell.page) cell.index x.unset in
-        omega arith
-
     low : n % 2 ^ 32 ≡ slice_index w.now.words.freed cell.page + 2 ^ cell.index
-    low = let e = x.value in let s = sum in omega arith
+    low = (free_halves c w cell n x q).0
 
     high : n / 2 ^ 32 ≡ slice_index w.now.words.snapshot cell.page
-    high = let e = x.value in let s = sum in omega arith
+    high = (free_halves c w cell n x q).1
 
     set_here : has_bit (slice_index (slice_set w.now.words.freed cell.page (n % 2 ^ 32)) cell.page) cell.index ≡ true
     set_here = elim (bit_cases w.now.words.freed cell.page (n % 2 ^ 32) cell.page cell.index x.page) [

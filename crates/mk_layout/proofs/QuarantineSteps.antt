@@ -39,7 +39,7 @@ rest_bit n m k sub = ap (λ x. has_bit x k) same ∙ has_bit_without m n k
     same : m - n ≡ without m n
     same = ap (λ x. m - x) (sym turned)
 
-and_both : (a b : Bool) → a ≡ true → b ≡ false → (a && not b) ≡ true
+pub and_both : (a b : Bool) → a ≡ true → b ≡ false → (a && not b) ≡ true
 and_both a b x y = ap (λ z. z && not b) x ∙ ap not y
 
 and_none : (a b : Bool) → b ≡ true → (a && not b) ≡ false

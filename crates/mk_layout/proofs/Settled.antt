@@ -1,7 +1,7 @@
 -- What a laid out world says of its allocations; where nothing is on its way, its pages stand for the unreleased storage.
-use Rattle.std.proofs.Common.{List, [], ap, append-nil, false, inl, inr, length, refl, subst, suc, sym, true, zero, ℕ, ◌*◌, ◌++◌, ◌∙◌, ◌∷◌, ◌≡◌, ◌⊎◌}
+use Rattle.std.proofs.Common.{List, ap, append-nil, false, length, refl, subst, sym, true, ◌*◌, ◌++◌, ◌∙◌, ◌≡◌}
 use Rattle.std.specs.Prelude.{None, Option, Some}
-use Rattle.std.proofs.lemmas.Bool.{and_parts, cases_Bool, true≢false}
+use Rattle.std.proofs.lemmas.Bool.{and_parts}
 use Rattle.mk_geom.specs.Storages.{place_of}
 use Rattle.mk_geom.specs.declared.addresses.Cell.{Cell}
 use Rattle.mk_geom.proofs.Bridge.{same_places}
@@ -10,21 +10,23 @@ use Rattle.mk_core.specs.Cells.{words_are_zero}
 use Rattle.mk_core.specs.Config.{IsWithinLimits}
 use Rattle.mk_core.specs.History.{World, left}
 use Rattle.mk_core.specs.Moments.{is_phase}
-use Rattle.mk_core.specs.NewPlaces.{is_run_gone, is_run_unmapped}
+use Rattle.mk_core.specs.NewPlaces.{is_run_gone, is_run_unmapped, stands}
 use Rattle.mk_core.specs.declared.config.Config.{Config}
 use Rattle.mk_core.specs.declared.seats.Placing.{Placing}
 use Rattle.mk_core.specs.declared.seats.Placing.TheVariants.{Chosen, Granted, Unplaced, Used}
 use Rattle.mk_core.specs.declared.seats.RunPages.{RunPages}
 use Rattle.mk_core.proofs.Lengths.{histories_keep_lengths}
+use Rattle.mk_core.proofs.Schedules.{by}
 use Rattle.mk_protocol.specs.Protocol.{has_place}
-use Rattle.mk_layout.specs.Scene.{AreApart, Claim, IsLaidOn, IsOfOneCell, NoPlot, Plot}
+use Rattle.mk_layout.specs.Scene.{Claim, IsLaidOn, NoPlot, Plot}
 use Rattle.mk_layout.specs.SettledPages.{FirstFitIsThePlace, HeadersStand, IsSettled, UnreleasedAreApart, UnreleasedStand}
 use Rattle.mk_layout.specs.Terrain.{IsLaidOut, claim_of, claims_of, claims_placed, object_now, plot_of, terrain_of}
 use Rattle.mk_layout.proofs.Apart.{Rests, quiet_scene}
-use Rattle.mk_layout.proofs.Claims.{claim_among, front, gone_front}
+use Rattle.mk_layout.proofs.Claims.{claim_among}
 use Rattle.mk_layout.proofs.Freed.{gone_terrain}
 use Rattle.mk_layout.proofs.HeadersStand.{pages_stand}
 use Rattle.mk_layout.proofs.Joined.{apart_left}
+use Rattle.mk_layout.proofs.OneCell.{numbers_apart}
 use Rattle.mk_layout.proofs.Released.{all_stand}
 use Rattle.mk_layout.proofs.Serving.{Laid, own_claim}
 
@@ -36,32 +38,6 @@ unreleased_stand c es limits laid i u =
     let s = all_stand c (object_now c w.now) (is_phase w.now.words 4) w (histories_keep_lengths c es).pages laid i u in
     let shown = laid.scene.shown x (own_claim c (object_now c w.now) (terrain_of w) x (claim_among c w.now.seats.holding.freed w.allocations i u)) in
     record { stands = s.stands; headers = s.headers; used = shown.used }
-
--- No two numbers have one cell.
-pub numbers_apart : (c : Config) (run : Option RunPages) (xs : List PlacedAllocation) (i j : ℕ) → AreApart (claims_of c run xs) → (placed_at xs i).released ≡ false
-    → (placed_at xs j).released ≡ false
-    → IsOfOneCell (claim_of c run (placed_at xs i)) (claim_of c run (placed_at xs j)) → i ≡ j
-numbers_apart c run [] i j apart u v same = absurd (true≢false u)
-numbers_apart c run (x ∷ xs) i j apart u v same = by (cases_Bool x.released) i j u v same (λ rest m n. numbers_apart c run xs m n rest)
-  where
-    by : (x.released ≡ true) ⊎ (x.released ≡ false) → (i j : ℕ) → (placed_at (x ∷ xs) i).released ≡ false → (placed_at (x ∷ xs) j).released ≡ false
-        → IsOfOneCell (claim_of c run (placed_at (x ∷ xs) i)) (claim_of c run (placed_at (x ∷ xs) j))
-        → (AreApart (claims_of c run xs) → (m n : ℕ) → (placed_at xs m).released ≡ false → (placed_at xs n).released ≡ false
-        → IsOfOneCell (claim_of c run (placed_at xs m)) (claim_of c run (placed_at xs n)) → m ≡ n) → i ≡ j
-    by gone zero zero u v same rest = refl
-    by (inl r) zero (suc n) u v same rest = absurd (true≢false (sym r ∙ u))
-    by (inl r) (suc m) zero u v same rest = absurd (true≢false (sym r ∙ v))
-    by (inl r) (suc m) (suc n) u v same rest =
-        ap (λ k. suc k) (rest (subst (λ (ys : List Claim). AreApart ys) (gone_front c run x xs r) apart) m n u v same)
-    by (inr t) zero (suc n) u v same rest =
-        let ap2 : AreApart (claim_of c run x ∷ claims_of c run xs) = subst (λ (ys : List Claim). AreApart ys) (front c run x xs t) apart in
-        absurd (ap2.0 (claim_of c run (placed_at xs n)) (claim_among c run xs n v) same)
-    by (inr t) (suc m) zero u v same rest =
-        let ap2 : AreApart (claim_of c run x ∷ claims_of c run xs) = subst (λ (ys : List Claim). AreApart ys) (front c run x xs t) apart in
-        absurd (ap2.0 (claim_of c run (placed_at xs m)) (claim_among c run xs m u) (sym same.0, sym same.1))
-    by (inr t) (suc m) (suc n) u v same rest =
-        let ap2 : AreApart (claim_of c run x ∷ claims_of c run xs) = subst (λ (ys : List Claim). AreApart ys) (front c run x xs t) apart in
-        ap (λ k. suc k) (rest ap2.1 m n u v same)
 
 pub unreleased_are_apart : UnreleasedAreApart
 unreleased_are_apart c es laid i j u v same =

@@ -1,17 +1,17 @@
 -- What stands on the pages stays laid out behind each event, and the quarantine with it.
-use Rattle.std.specs.Prelude.{◌≡◌, true, List, [], ◌∷◌, ⊤, slice_index, Some}
+use Rattle.std.specs.Prelude.{List, Some, [], slice_index, true, ⊤, ◌∷◌, ◌≡◌}
 use Rattle.mk_geom.specs.declared.addresses.Cell.{Cell}
-use Rattle.mk_core.specs.declared.config.Config.{Config}
-use Rattle.mk_core.specs.declared.events.Seat.{Seat}
-use Rattle.mk_core.specs.declared.events.Event.{Event}
-use Rattle.mk_core.specs.declared.seats.RunPages.{RunPages}
-use Rattle.mk_core.specs.Config.{IsWithinLimits}
 use Rattle.mk_core.specs.Bits.{has_bit}
+use Rattle.mk_core.specs.Config.{IsWithinLimits}
+use Rattle.mk_core.specs.History.{AreEnabled, IsEnabledBehind, World, first_world, left, world_behind}
 use Rattle.mk_core.specs.Moments.{flight_of, is_phase}
 use Rattle.mk_core.specs.NewPlaces.{target}
-use Rattle.mk_core.specs.History.{World, first_world, world_behind, left, AreEnabled, IsEnabledBehind}
+use Rattle.mk_core.specs.declared.config.Config.{Config}
+use Rattle.mk_core.specs.declared.events.Event.{Event}
+use Rattle.mk_core.specs.declared.events.Seat.{Seat}
+use Rattle.mk_core.specs.declared.seats.RunPages.{RunPages}
+use Rattle.mk_layout.specs.Quarantine.{FreedCellsAreKnown, IsQuarantined, KeepsSnapshot}
 use Rattle.mk_layout.specs.Terrain.{IsCellOf, IsLaidOut}
-use Rattle.mk_layout.specs.Quarantine.{IsQuarantined}
 
 -- what other groups say of a world, where a step asks for it
 pub record OthersSay (c : Config) (w : World) : Type 0 where
@@ -20,8 +20,11 @@ pub record OthersSay (c : Config) (w : World) : Type 0 where
   -- At the end of the stop, the run that the call freed is marked.
   pub marked : is_phase w.now.words 3 ≡ true → (run : RunPages) → w.now.seats.holding.freed ≡ Some run → has_bit (slice_index w.now.words.marks run.page) 0 ≡ true
 
-abbrev pub StandsInOrder : Config → World → Type 0
-StandsInOrder c w = IsLaidOut c w × IsQuarantined c w
+pub record StandsInOrder (c : Config) (w : World) : Type 0 where
+  pub laid : IsLaidOut c w
+  pub quarantined : IsQuarantined c w
+  pub known : FreedCellsAreKnown w
+  pub snapshot : KeepsSnapshot c w
 
 -- One event, whatever it is: all stays in order.
 abbrev pub EventsKeepTheLayout : Type 0

@@ -2,4 +2,5 @@ pub mod LayoutLaws
 pub mod Quarantine
 pub mod Scene
 pub mod SettledPages
+pub mod Snapshots
 pub mod Terrain

@@ -1,12 +1,15 @@
 -- The quarantine: what the freed cells of the pages and their snapshot say of the allocations.
-use Rattle.std.specs.Prelude.{◌≡◌, ◌⊎◌, ℕ, ◌^◌, ◌<◌, Bool, true, false, List, slice_index}
+use Rattle.std.specs.Prelude.{Bool, List, false, nat_le, not, slice_index, true, ℕ, ◌&&◌, ◌<◌, ◌^◌, ◌≡◌, ◌⊎◌}
 use Rattle.mk_geom.specs.declared.pages.Place.{Place}
+use Rattle.mk_core.specs.Allocations.{PlacedAllocation, cell_of_allocation, placed_at}
+use Rattle.mk_core.specs.Bits.{has_bit}
+use Rattle.mk_core.specs.Cells.{cells_under, header_in}
+use Rattle.mk_core.specs.Effects.{taken}
+use Rattle.mk_core.specs.History.{World}
+use Rattle.mk_core.specs.Moments.{is_phase}
+use Rattle.mk_core.specs.Words.{phase_of}
 use Rattle.mk_core.specs.declared.config.Config.{Config}
 use Rattle.mk_core.specs.declared.seats.Placing.TheVariants.{Used}
-use Rattle.mk_core.specs.Bits.{has_bit}
-use Rattle.mk_core.specs.Moments.{is_phase}
-use Rattle.mk_core.specs.Allocations.{PlacedAllocation, placed_at, cell_of_allocation}
-use Rattle.mk_core.specs.History.{World}
 use Rattle.mk_layout.specs.Scene.{is_released_in}
 use Rattle.mk_layout.specs.Terrain.{Terrain, terrain_of}
 
@@ -40,3 +43,22 @@ pub record HasQuarantine (c : Config) (releasing : Bool) (marks : List ℕ) (t :
 
 abbrev pub IsQuarantined : Config → World → Type 0
 IsQuarantined c w = HasQuarantine c (is_phase w.now.words 4) w.now.words.marks (terrain_of w)
+
+-- Each freed bit is that of a cell of its page.
+abbrev pub FreedCellsAreKnown : World → Type 0
+FreedCellsAreKnown w = (p k : ℕ) → has_bit (slice_index w.now.words.freed p) k ≡ true → k < cells_under (header_in w.now.words p)
+
+-- The phase is one of a cycle's, from its `begin` to its `end`.
+abbrev pub is_cycling : ℕ → Bool
+is_cycling phase = nat_le 1 phase && nat_le phase 4
+
+-- What is freed behind the last `begin` is fresh, and what was freed before it is the cycle's snapshot.
+pub record HasSnapshot (c : Config) (cycling : Bool) (snapshot : List ℕ) (xs : List PlacedAllocation) : Type 0 where
+  -- A fresh allocation is freed, and not released.
+  pub fresh : (i : ℕ) → (placed_at xs i).fresh ≡ true → ((placed_at xs i).freed ≡ true) × ((placed_at xs i).released ≡ false)
+  -- In a cycle, an unreleased allocation's cell is in the snapshot exactly where it is freed and not fresh.
+  pub quarantined : cycling ≡ true → (i : ℕ) → (placed_at xs i).released ≡ false
+      → has_bit_of c snapshot (placed_at xs i) ≡ ((placed_at xs i).freed && not (placed_at xs i).fresh)
+
+abbrev pub KeepsSnapshot : Config → World → Type 0
+KeepsSnapshot c w = HasSnapshot c (is_cycling (phase_of w.now.words)) w.now.words.snapshot w.allocations

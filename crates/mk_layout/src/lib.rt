@@ -3,6 +3,7 @@
 
 ghost use Rattle.mk_layout.specs.LayoutLaws.{EventsKeepTheLayout, HistoriesAreLaidOut};
 ghost use Rattle.mk_layout.specs.SettledPages.{FirstFitIsThePlace, HeadersStand, UnreleasedAreApart, UnreleasedStand};
+ghost use Rattle.mk_layout.specs.Snapshots.{SnapshotsAreOfCycles};
 
 /// Whatever the event, what stands on the pages stays laid out, and the quarantine in order, where the other
 /// groups say what it asks.
@@ -13,6 +14,11 @@ pub fn events_keep_the_layout()
 /// So all is laid out behind every list of enabled events along which the other groups say so.
 pub fn histories_are_laid_out()
     ensures { HistoriesAreLaidOut }
+{}
+
+/// The snapshot's bits are those of the allocations that were freed before the cycle's `begin`.
+pub fn snapshots_are_of_cycles()
+    ensures { SnapshotsAreOfCycles }
 {}
 
 /// In a laid out world each unreleased allocation stands on the heap, in a cell of its own.
