@@ -38,7 +38,7 @@ use Rattle.mk_layout.proofs.Holders.{holding_object, new_has_turn, seat_operands
 use Rattle.mk_layout.proofs.Joined.{apart_across, apart_left}
 use Rattle.mk_layout.proofs.Released.{all_stand}
 use Rattle.mk_layout.proofs.Serving.{own_claim, placed_claim}
-use Rattle.mk_layout.proofs.Settled.{numbers_apart}
+use Rattle.mk_layout.proofs.OneCell.{numbers_apart}
 use Rattle.mk_layout.proofs.StandingClaims.{IsStanding, place_index}
 use Rattle.mk_layout.proofs.Unmapping.{shares_run}
 use Rattle.mk_images.specs.OthersSay.{IsCellOfFreed, IsFreedRun, IsPlaceOfNone, OthersSay, run_of_allocation}
@@ -147,7 +147,7 @@ module _ (c : Config) (w : World) (known : KnownWorld c w) (laid : IsLaidOut c w
             absurd (other (e ∙ ap (λ (y : RunPages). Some y) (ap (λ p. record { page = p; count = r.count }) there ∙ ap (λ k. record { page = a.base / 64; count = k }) count)))
       ]
 
-  laid_out : (i : ℕ) → (placed_at w.allocations i).released ≡ false → images.IsLaidOut c w.now.words w.now.seats.holding.freed (placed_at w.allocations i)
+  pub laid_out : (i : ℕ) → (placed_at w.allocations i).released ≡ false → images.IsLaidOut c w.now.words w.now.seats.holding.freed (placed_at w.allocations i)
   laid_out i u =
       let a : PlacedAllocation = placed_at w.allocations i in
       let s = standing i u in

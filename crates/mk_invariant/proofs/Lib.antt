@@ -1,1 +1,2 @@
 pub mod ForImages
+pub mod ForGuard

@@ -2,16 +2,13 @@
 use Rattle.mk_never.specs.NeverHeap.{NeverState}
 use Rattle.mk_core.specs.declared.config.Config.{Config}
 use Rattle.mk_core.specs.History.{World}
-use Rattle.mk_layout.specs.Quarantine.{IsQuarantined}
-use Rattle.mk_layout.specs.Terrain.{IsLaidOut}
+use Rattle.mk_layout.specs.LayoutLaws.{StandsInOrder}
 use Rattle.mk_images.specs.Mirrors.{Mirrors}
 use Rattle.mk_guard.specs.Guard.{MarksStand}
 
 pub record Invariant (c : Config) (w : World) (n : NeverState) : Type 0 where
-  -- The pages show what stands on them,
-  pub layout : IsLaidOut c w
-  -- and the freed cells and the snapshot are those of the allocations.
-  pub quarantine : IsQuarantined c w
+  -- The pages show what stands on them, and the quarantine is that of the freed allocations.
+  pub order : StandsInOrder c w
   -- Words are images of the values of the heap that never reuses storage.
   pub mirrors : Mirrors c w n
   -- While a cycle marks, black cells are guarded; from its `close` to its `release` the marks are closed.

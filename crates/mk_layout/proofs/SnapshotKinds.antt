@@ -36,7 +36,7 @@ use Rattle.mk_core.proofs.WordBits.{fewer_bits}
 use Rattle.mk_protocol.proofs.Actors.{Meets, grants_new}
 use Rattle.mk_protocol.proofs.Ground.{reg_ground, tally_ground}
 use Rattle.mk_protocol.proofs.OthersMoves.{WorldBehind}
-use Rattle.mk_protocol.proofs.Sorts.{reg_keeps, tally_keeps}
+use Rattle.mk_protocol.proofs.SameWords.{reg_keeps, tally_keeps}
 use Rattle.mk_layout.specs.Quarantine.{HasQuarantine, HasSnapshot, IsQuarantined, KeepsSnapshot, has_bit_of, is_cycling}
 use Rattle.mk_layout.specs.Scene.{Among, is_released_in}
 use Rattle.mk_layout.specs.Terrain.{IsLaidOut, Terrain, claims_of, claims_placed, object_now, place_claim, terrain_of}
