@@ -1,12 +1,11 @@
 -- What the layout and the zero words say to the guard.
-use Rattle.std.proofs.Common.{ap, arith, false, inl, inr, length, refl, subst, sym, true, ℕ, ◌*◌, ◌+◌, ◌-◌, ◌/◌, ◌<◌, ◌∙◌, ◌≡◌, ◌≢◌, ◌≤◌, ◌⊎◌}
+use Rattle.std.proofs.Common.{ap, arith, false, inl, inr, refl, subst, sym, true, ℕ, ◌*◌, ◌+◌, ◌-◌, ◌/◌, ◌<◌, ◌∙◌, ◌≡◌, ◌≢◌, ◌≤◌, ◌⊎◌}
 use Rattle.std.specs.Prelude.{Some, nat_le, nat_lt, not, slice_index, ◌&&◌, ◌==◌}
 use Rattle.std.proofs.lemmas.Bool.{and_parts, cases_Bool, cases_eq, cases_lt, leb-true, lt-ltb, ltb-true, not-true, true≢false}
 use Rattle.std.proofs.lemmas.List.{get_or_past}
 use Rattle.mk_never.specs.Types.{is_large, kinds_of}
 use Rattle.mk_geom.specs.Addresses.{head_page_under}
 use Rattle.mk_geom.specs.Headers.{header_of}
-use Rattle.mk_geom.specs.declared.headers.Header.{Header}
 use Rattle.mk_geom.specs.declared.headers.Header.TheVariants.{Later, Run}
 use Rattle.mk_geom.specs.declared.pages.Place.{Place}
 use Rattle.mk_core.specs.declared.config.Config.{Config}
@@ -17,22 +16,22 @@ use Rattle.mk_core.specs.declared.seats.Object.{Object}
 use Rattle.mk_core.specs.declared.seats.Placing.{Placing}
 use Rattle.mk_core.specs.declared.seats.Placing.TheVariants.{Chosen, Granted, Unplaced, Used}
 use Rattle.mk_core.specs.declared.seats.RunPages.{RunPages}
-use Rattle.mk_core.specs.Allocations.{PlacedAllocation, is_mapped, placed_at, storage_of}
+use Rattle.mk_core.specs.Allocations.{PlacedAllocation, is_mapped, placed_at}
 use Rattle.mk_core.specs.Bits.{has_bit}
 use Rattle.mk_core.specs.Calls.{at_rest}
 use Rattle.mk_core.specs.Cells.{cells_under, head_page, header_in, is_left_unmarked}
 use Rattle.mk_core.specs.History.{World}
 use Rattle.mk_core.specs.Moments.{flight_of, is_phase}
-use Rattle.mk_core.specs.NewPlaces.{header_made, is_small_object, is_undecided_new, object_made, pages_made, place_on_pages}
+use Rattle.mk_core.specs.NewPlaces.{header_made, is_small_object, is_undecided_new, object_made, pages_made}
 use Rattle.mk_core.specs.ObjectHeaders.{IsHeaderOf, IsSized, ShowsPart}
 use Rattle.mk_core.specs.Order.{seat_exists}
 use Rattle.mk_core.specs.StandingAllocations.{object_placed}
 use Rattle.mk_core.specs.TurnConditions.{place_now}
-use Rattle.mk_core.specs.Words.{header_at, phase_of}
-use Rattle.mk_core.proofs.ObjectHeaders.{later_part, made_shows, part_head}
+use Rattle.mk_core.specs.Words.{header_at}
+use Rattle.mk_core.proofs.ObjectHeaders.{later_part, made_shows}
 use Rattle.mk_core.proofs.PlacesNow.{AsChosen, AsUsed, ByFit, IsPlaced, placed_now}
 use Rattle.mk_core.proofs.Sizes.{pages_some, small_pages}
-use Rattle.mk_layout.specs.Scene.{Among, Claim, HasHeader, InPlot, IsClaimed, IsPlotShown, IsShown, Plot, PlotStands, Scene, Unmapping, head_on, header_on, is_released_in, is_released_on, run_count, shows_on, used_on}
+use Rattle.mk_layout.specs.Scene.{Among, Claim, InPlot, IsClaimed, IsPlotShown, IsShown, PlotStands, head_on, header_on, is_released_in, run_count, used_on}
 use Rattle.mk_layout.specs.Terrain.{IsLaidOut, claim_of, claims_placed, object_now, place_claim, plot_of, scene_of, terrain_of}
 use Rattle.mk_layout.proofs.Claims.{claim_among}
 use Rattle.mk_layout.proofs.Fits.{FitsInBlock, FitsOnFreePages, fits}
@@ -43,10 +42,10 @@ use Rattle.mk_layout.proofs.RunCounts.{part_count, small_count}
 use Rattle.mk_layout.proofs.Serving.{own_claim, placed_claim}
 use Rattle.mk_layout.proofs.StandingClaims.{ends_on_pages}
 use Rattle.mk_layout.proofs.Unmapping.{apart_of_plot}
-use Rattle.mk_images.specs.OthersSay.{MayHoldWords, OfFreedRun, OfMapped, OfReleased}
+use Rattle.mk_images.specs.OthersSay.{OfFreedRun, OfMapped, OfReleased}
 use Rattle.mk_images.proofs.KnownWorlds.{KnownWorld}
 use Rattle.mk_guard.specs.Guard.{IsMarking}
-use Rattle.mk_guard.specs.Kept.{OthersSay, PlaceIsBare, RunHasObject, StandsMapped}
+use Rattle.mk_guard.specs.Kept.{OthersSay, PlaceIsBare, RunHasObject}
 use Rattle.mk_invariant.specs.StillToCome.{StillToCome}
 use Rattle.mk_invariant.proofs.ForImages.{laid_out, run_of, shown_claim, standing}
 

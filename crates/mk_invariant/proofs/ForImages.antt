@@ -1,7 +1,7 @@
 -- What the layout, the quarantine and the rest say to the images.
-use Rattle.std.proofs.Common.{Bool, List, ap, arith, false, inl, inr, length, refl, subst, sym, true, zero, suc, ℕ, ◌+◌, ◌*◌, ◌/◌, ◌<◌, ◌∙◌, ◌≡◌, ◌≢◌, ◌≤◌, ◌⊎◌}
+use Rattle.std.proofs.Common.{Bool, List, ap, arith, false, inl, inr, length, refl, subst, sym, true, zero, suc, ℕ, ◌+◌, ◌/◌, ◌<◌, ◌∙◌, ◌≡◌, ◌≢◌, ◌≤◌}
 use Rattle.std.specs.Prelude.{None, Option, Some, not, slice_index, ◌&&◌, ◌==◌}
-use Rattle.std.proofs.lemmas.Bool.{and_parts, cases_Bool, eq-eqb, eqb-true, lt-ltb, true≢false}
+use Rattle.std.proofs.lemmas.Bool.{and_parts, cases_Bool, eq-eqb, eqb-true, lt-ltb}
 use Rattle.mk_never.specs.Types.{is_large, kinds_of}
 use Rattle.mk_geom.specs.declared.addresses.Cell.{Cell}
 use Rattle.mk_geom.specs.declared.pages.Place.{Place}
@@ -14,15 +14,14 @@ use Rattle.mk_core.specs.declared.seats.Placing.{Placing}
 use Rattle.mk_core.specs.declared.seats.Placing.TheVariants.{Used}
 use Rattle.mk_core.specs.declared.seats.RunPages.{RunPages}
 use Rattle.mk_core.specs.Allocations.{PlacedAllocation, cell_of_allocation, granted, is_mapped, placed_at}
-use Rattle.mk_core.specs.Bits.{has_bit}
 use Rattle.mk_core.specs.Bounded.{all_below}
-use Rattle.mk_core.specs.Cells.{is_freed, is_left_unmarked, is_released, pointed_cell}
+use Rattle.mk_core.specs.Cells.{is_released, pointed_cell}
 use Rattle.mk_core.specs.ClosedMarks.{MarksAreClosed}
 use Rattle.mk_core.specs.History.{World}
 use Rattle.mk_core.specs.Moments.{flight_of, is_phase}
-use Rattle.mk_core.specs.NewPlaces.{base_made, header_made, is_run_gone, is_small_object, is_undecided_new, object_made, pages_made, place_stands, stands, unmapped_header}
+use Rattle.mk_core.specs.NewPlaces.{base_made, header_made, is_small_object, is_undecided_new, object_made, pages_made, place_stands, stands, unmapped_header}
 use Rattle.mk_core.specs.ObjectHeaders.{cells_made}
-use Rattle.mk_core.specs.StandingAllocations.{HasItsHeaders, StandsOnHeap, object_placed}
+use Rattle.mk_core.specs.StandingAllocations.{object_placed}
 use Rattle.mk_core.specs.Words.{header_at, phase_of}
 use Rattle.mk_core.proofs.AllBelow.{all_below_more_is, all_below_zero_is}
 use Rattle.mk_core.proofs.BitsWithout.{has_bit_without}
@@ -31,7 +30,7 @@ use Rattle.mk_core.proofs.PointedAllocations.{base_points}
 use Rattle.mk_core.proofs.Sizes.{large_is_not_small, pages_some}
 use Rattle.mk_core.proofs.StandingAllocations.{typed_size}
 use Rattle.mk_layout.specs.Quarantine.{IsQuarantined}
-use Rattle.mk_layout.specs.Scene.{Among, Claim, HasHeader, IsShown, Mode, Mapped, Unmapped, Unmapping, is_released_in}
+use Rattle.mk_layout.specs.Scene.{Among, Claim, HasHeader, IsShown, Unmapping, is_released_in}
 use Rattle.mk_layout.specs.Terrain.{IsClaimedRun, IsLaidOut, RunStands, claim_of, claims_of, claims_placed, is_unmapping, mode_of, object_now, place_claim, scene_of, terrain_of}
 use Rattle.mk_layout.proofs.Claims.{claim_among, claim_is}
 use Rattle.mk_layout.proofs.Holders.{holding_object, new_has_turn, seat_operands}
@@ -220,7 +219,6 @@ module _ (c : Config) (w : World) (known : KnownWorld c w) (laid : IsLaidOut c w
             (subst (λ (x : Object). place.index < cells_made x) (sym e) shown.known) (subst (λ (x : Object). place.page + pages_made x ≤ c.pages) (sym e) pages)
             (subst (λ (x : Object). place_stands w.now.words x place ≡ true) (sym e) stand) is i u (same ∙ ap (λ (x : Object). base_made x place) (sym e));
       }
-
 
   pub say_to_images : IsQuarantined c w → StillToCome c w → (phase_of w.now.words ≡ 3 → MarksAreClosed c w) → OthersSay c w
   say_to_images q rest marks =

@@ -1,2 +1,5 @@
 pub mod ForImages
 pub mod ForGuard
+pub mod Joined
+pub mod Histories
+pub mod Theorems

@@ -1,0 +1,53 @@
+-- The groups joined: what each is told in one world, and one event.
+use Rattle.std.proofs.lemmas.Bool.{eqb-true}
+use Rattle.mk_never.specs.Admitted.{AreAdmitted}
+use Rattle.mk_never.specs.NeverHeap.{NeverState}
+use Rattle.mk_core.specs.declared.config.Config.{Config}
+use Rattle.mk_core.specs.declared.events.Event.{Event}
+use Rattle.mk_core.specs.Decided.{asked}
+use Rattle.mk_core.specs.Enabled.{IsEnabled}
+use Rattle.mk_core.specs.History.{World, call_decided, world_behind}
+use Rattle.mk_core.specs.Words.{phase_of}
+use Rattle.mk_core.proofs.Conditions.{enabled_meets}
+use Rattle.mk_layout.specs.LayoutLaws.{OthersSay}
+use Rattle.mk_layout.proofs.Histories.{order_behind}
+use Rattle.mk_images.specs.ImagesSay.{ImagesSay}
+use Rattle.mk_images.specs.OthersSay as images
+use Rattle.mk_images.proofs.FreedRuns.{never_after}
+use Rattle.mk_images.proofs.KnownWorlds.{KnownWorld}
+use Rattle.mk_images.proofs.OneEvent.{one_event}
+use Rattle.mk_images.proofs.Saying.{images_say}
+use Rattle.mk_guard.specs.Kept as guard
+use Rattle.mk_guard.proofs.Histories.{stopped_marks_are_closed}
+use Rattle.mk_guard.proofs.OneEvent.{marks_behind}
+use Rattle.mk_invariant.specs.Invariant.{Invariant}
+use Rattle.mk_invariant.specs.StillToCome.{StillToCome}
+use Rattle.mk_invariant.proofs.ForGuard.{say_to_guard}
+use Rattle.mk_invariant.proofs.ForImages.{say_to_images}
+
+module _ (c : Config) (w : World) (n : NeverState) (known : KnownWorld c w) (rest : StillToCome c w) (all : Invariant c w n) where
+  pub told_to_guard : guard.OthersSay c w
+  told_to_guard = say_to_guard c w known all.order.laid rest
+
+  pub told_to_images : images.OthersSay c w
+  told_to_images = say_to_images c w known all.order.laid all.order.quarantined rest (stopped_marks_are_closed c w known.limits told_to_guard all.marks)
+
+  told_by_images : ImagesSay c w n
+  told_by_images = images_say c w n known told_to_images all.mirrors
+
+  pub told_to_layout : OthersSay c w
+  told_to_layout =
+      record {
+        target = λ seat cell is. let x = told_by_images.target seat cell is in record { number = x.number; unreleased = x.unreleased; is = x.cell };
+        marked = λ three run is. told_by_images.marked (eqb-true (phase_of w.now.words) 3 three) run is;
+      }
+
+-- One event, whatever it is.
+pub invariant_behind : (c : Config) (w : World) (n : NeverState) (e : Event) → KnownWorld c w → StillToCome c w → Invariant c w n → IsEnabled c w.now e
+    → AreAdmitted c.globals n (asked (call_decided c w.now e)) → Invariant c (world_behind c w e) (never_after c w n e)
+invariant_behind c w n e known rest all on admitted =
+    record {
+      order = order_behind c w e known.limits known.lengths known.now on (told_to_layout c w n known rest all) all.order;
+      mirrors = (one_event c w n e known (told_to_images c w n known rest all) all.mirrors on admitted).mirrors;
+      marks = marks_behind c w e.seat e.step known.limits known.now known.lengths (told_to_guard c w n known rest all) (enabled_meets c w.now e on) all.marks;
+    }
