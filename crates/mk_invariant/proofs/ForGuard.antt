@@ -46,7 +46,8 @@ use Rattle.mk_images.specs.OthersSay.{OfFreedRun, OfMapped, OfReleased}
 use Rattle.mk_images.proofs.KnownWorlds.{KnownWorld}
 use Rattle.mk_guard.specs.Guard.{IsMarking}
 use Rattle.mk_guard.specs.Kept.{OthersSay, PlaceIsBare, RunHasObject}
-use Rattle.mk_invariant.specs.StillToCome.{StillToCome}
+use Rattle.mk_zeros.specs.Zeros.{HasZeros}
+use Rattle.mk_invariant.proofs.ZeroWords.{may_hold_words}
 use Rattle.mk_invariant.proofs.ForImages.{laid_out, run_of, shown_claim, standing}
 
 not_releasing : (w : World) → IsMarking w.now.words → is_phase w.now.words 4 ≡ false
@@ -67,11 +68,11 @@ new_exists c w Host known new = cc
 mapped_unreleased : (c : Config) (a : PlacedAllocation) → is_mapped c a ≡ true → a.released ≡ false
 mapped_unreleased c a m = not-true a.released (and_parts (not a.released) (not (a.freed && is_large (kinds_of c.types a.ty))) m).0
 
-module _ (c : Config) (w : World) (known : KnownWorld c w) (laid : IsLaidOut c w) (rest : StillToCome c w) where
+module _ (c : Config) (w : World) (known : KnownWorld c w) (laid : IsLaidOut c w) (zeros : HasZeros c w) where
   -- While a cycle marks, a word that isn't 0 is on a page of a claim.
   on_claim : IsMarking w.now.words → (n : ℕ) → slice_index w.now.words.heap n ≢ 0
       → IsOn (scene_of c (object_now c w.now) (is_phase w.now.words 4) w.now.words.marks (terrain_of w)) (n / 64)
-  on_claim early n some = elim (rest.zero_words n some) [
+  on_claim early n some = elim (may_hold_words c w zeros n some) [
     | OfMapped i m word ↦
         let a : PlacedAllocation = placed_at w.allocations i in
         let u = mapped_unreleased c a m in

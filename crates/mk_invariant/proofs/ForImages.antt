@@ -43,7 +43,9 @@ use Rattle.mk_layout.proofs.Unmapping.{shares_run}
 use Rattle.mk_images.specs.OthersSay.{IsCellOfFreed, IsFreedRun, IsPlaceOfNone, OthersSay, run_of_allocation}
 use Rattle.mk_images.specs.OthersSay as images
 use Rattle.mk_images.proofs.KnownWorlds.{KnownWorld}
+use Rattle.mk_zeros.specs.Zeros.{HasZeros}
 use Rattle.mk_invariant.specs.StillToCome.{StillToCome}
+use Rattle.mk_invariant.proofs.ZeroWords.{may_hold_words}
 
 -- A large allocation that is freed isn't mapped.
 gone_is : (c : Config) (a : PlacedAllocation) → a.released ≡ false → is_mapped c a ≡ not (a.freed && not (is_small_object (object_placed c a)))
@@ -220,8 +222,8 @@ module _ (c : Config) (w : World) (known : KnownWorld c w) (laid : IsLaidOut c w
             (subst (λ (x : Object). place_stands w.now.words x place ≡ true) (sym e) stand) is i u (same ∙ ap (λ (x : Object). base_made x place) (sym e));
       }
 
-  pub say_to_images : IsQuarantined c w → StillToCome c w → (phase_of w.now.words ≡ 3 → MarksAreClosed c w) → OthersSay c w
-  say_to_images q rest marks =
+  pub say_to_images : IsQuarantined c w → HasZeros c w → StillToCome c w → (phase_of w.now.words ≡ 3 → MarksAreClosed c w) → OthersSay c w
+  say_to_images q zeros rest marks =
       record {
         laid_out = laid_out;
         apart = bases_apart;
@@ -234,7 +236,7 @@ module _ (c : Config) (w : World) (known : KnownWorld c w) (laid : IsLaidOut c w
           | inr r ↦ inr (released_is w cell ∙ r)
         ];
         kept = λ i u. released_is w (cell_of_allocation c (placed_at w.allocations i)) ∙ kept_at i u (is_phase w.now.words 4) refl;
-        zero_words = rest.zero_words;
+        zero_words = may_hold_words c w zeros;
         marks = marks;
       }
     where

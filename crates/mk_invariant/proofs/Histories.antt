@@ -12,13 +12,14 @@ use Rattle.mk_images.proofs.FreedRuns.{never_after}
 use Rattle.mk_images.proofs.Histories.{first_mirrors}
 use Rattle.mk_images.proofs.KnownWorlds.{known_world}
 use Rattle.mk_guard.proofs.Histories.{marks_at_first}
+use Rattle.mk_zeros.proofs.Histories.{zeros_at_first}
 use Rattle.mk_invariant.specs.Invariant.{Invariant}
 use Rattle.mk_invariant.specs.StillToCome.{StillToComeAlong}
 use Rattle.mk_invariant.specs.Theorems.{EventsKeepTheInvariant, InvariantAtFirst, KeepsTheInvariant, OfHistories}
 use Rattle.mk_invariant.proofs.Joined.{invariant_behind}
 
 pub invariant_at_first : InvariantAtFirst
-invariant_at_first c = record { order = in_order_at_first c; mirrors = first_mirrors c; marks = marks_at_first c }
+invariant_at_first c = record { order = in_order_at_first c; zeros = zeros_at_first c; mirrors = first_mirrors c; marks = marks_at_first c }
 
 -- One event of a history, in the words of the list.
 pub events_keep_the_invariant : EventsKeepTheInvariant

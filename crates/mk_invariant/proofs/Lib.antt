@@ -1,3 +1,4 @@
+pub mod ZeroWords
 pub mod ForImages
 pub mod ForGuard
 pub mod Joined

@@ -5,10 +5,13 @@ use Rattle.mk_core.specs.History.{World}
 use Rattle.mk_layout.specs.LayoutLaws.{StandsInOrder}
 use Rattle.mk_images.specs.Mirrors.{Mirrors}
 use Rattle.mk_guard.specs.Guard.{MarksStand}
+use Rattle.mk_zeros.specs.Zeros.{HasZeros}
 
 pub record Invariant (c : Config) (w : World) (n : NeverState) : Type 0 where
   -- The pages show what stands on them, and the quarantine is that of the freed allocations.
   pub order : StandsInOrder c w
+  -- Heap words that hold no value are 0.
+  pub zeros : HasZeros c w
   -- Words are images of the values of the heap that never reuses storage.
   pub mirrors : Mirrors c w n
   -- While a cycle marks, black cells are guarded; from its `close` to its `release` the marks are closed.

@@ -6,10 +6,8 @@ use Rattle.mk_core.specs.NewPlaces.{is_run_gone}
 use Rattle.mk_core.specs.History.{World, left}
 use Rattle.mk_images.specs.OthersSay.{MayHoldWords}
 
--- Facts of one world.
+-- In one world.
 pub record StillToCome (c : Config) (w : World) : Type 0 where
-  -- A heap word that isn't 0 is one of a mapped allocation, of a released cell, or of the run that a Free unmaps.
-  pub zero_words : (n : ℕ) → slice_index w.now.words.heap n ≢ 0 → MayHoldWords c w n
   -- While a Free's run isn't unmapped and wiped, the gates of all others are held.
   pub run_gates : is_run_gone w.now.words w.now.seats.holding.freed ≡ false → (k : ℕ) → k < c.callers → w.now.words.turn ≢ 1 + k
       → slice_index w.now.words.gates k ≡ 2

@@ -42,7 +42,7 @@ run_small o x p (OfRun m first large leaf) s = absurd (true≢false (sym s ∙ l
 run_small o x p (OfLeafRun first large leaf) s = absurd (true≢false (sym s ∙ large))
 run_small o x p (OfLater m some large) s = absurd (omega arith)
 
-run_large : (o : Object) (x : Option Header) (p : ℕ) → ShowsPart o 0 x → is_small_object o ≡ false → run_headed x p ≡ Some (record { page = p; count = pages_made o })
+pub run_large : (o : Object) (x : Option Header) (p : ℕ) → ShowsPart o 0 x → is_small_object o ≡ false → run_headed x p ≡ Some (record { page = p; count = pages_made o })
 run_large o x p (OfBlock first small leaf) l = absurd (true≢false (sym small ∙ l))
 run_large o x p (OfLeafBlock first small leaf) l = absurd (true≢false (sym small ∙ l))
 run_large o x p (OfRun m first large leaf) l = refl

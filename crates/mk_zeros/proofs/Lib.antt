@@ -1,0 +1,5 @@
+pub mod MappedWords
+pub mod ReleasedWords
+pub mod FreedWords
+pub mod ByKind
+pub mod Histories

@@ -1,0 +1,45 @@
+-- The words of the heap that may not hold values are 0 behind each event.
+use Rattle.std.specs.Prelude.{◌≡◌, Bool, true, false, List, [], ◌∷◌, ⊤, Some}
+use Rattle.mk_geom.specs.declared.addresses.Cell.{Cell}
+use Rattle.mk_core.specs.declared.config.Config.{Config}
+use Rattle.mk_core.specs.declared.events.Step.{Step}
+use Rattle.mk_core.specs.declared.events.Step.TheVariants as step
+use Rattle.mk_core.specs.declared.events.Event.{Event}
+use Rattle.mk_core.specs.Config.{IsWithinLimits}
+use Rattle.mk_core.specs.Calls.{word_met}
+use Rattle.mk_core.specs.Moments.{flight_of}
+use Rattle.mk_core.specs.NewPlaces.{target}
+use Rattle.mk_core.specs.History.{World, first_world, world_behind, left, AreEnabled, IsEnabledBehind}
+use Rattle.mk_layout.specs.Terrain.{IsCellOf}
+use Rattle.mk_layout.specs.LayoutLaws.{StandsInOrder}
+use Rattle.mk_zeros.specs.Zeros.{IsMappedWord, HasZeros}
+
+-- the step of a caller that stores to the heap
+abbrev pub stores : Step → Bool
+stores step.Write = true
+stores step.Cas = true
+stores _ = false
+
+-- what other groups say of a world and of the event that comes
+pub record OthersSay (c : Config) (w : World) (e : Event) : Type 0 where
+  pub in_order : StandsInOrder c w
+  -- The target of an admitted Free is the cell of an unreleased allocation.
+  pub target : (cell : Cell) → target c.pages w.now.words (flight_of w.now e.seat) ≡ Some cell → IsCellOf c w.allocations cell
+  -- An admitted store is to a word of a mapped allocation.
+  pub stored : stores e.step ≡ true → IsMappedWord c w.allocations (word_met (flight_of w.now e.seat))
+
+-- One event, whatever it is: all other words stay 0.
+abbrev pub EventsKeepTheZeros : Type 0
+EventsKeepTheZeros =
+    (c : Config) (es : List Event) (e : Event) → IsWithinLimits c → AreEnabled c es → IsEnabledBehind c es e → OthersSay c (left c es) e
+    → HasZeros c (left c es) → HasZeros c (world_behind c (left c es) e)
+
+-- The other groups say so before each event.
+unfoldable pub OthersSayFrom : Config → World → List Event → Type 0
+OthersSayFrom c w [] = ⊤
+OthersSayFrom c w (e ∷ es) = OthersSay c w e × OthersSayFrom c (world_behind c w e) es
+
+-- Then they are 0 behind every list of enabled events.
+abbrev pub ZerosStandBehindLists : Type 0
+ZerosStandBehindLists =
+    (c : Config) (es : List Event) → IsWithinLimits c → AreEnabled c es → OthersSayFrom c (first_world c) es → HasZeros c (left c es)

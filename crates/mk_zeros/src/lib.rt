@@ -1,0 +1,15 @@
+//! Words of the heap that hold no value are 0, at every moment: facts alone, with no code.
+#![tactic(auto)]
+
+ghost use Rattle.mk_zeros.specs.ZeroLaws.{EventsKeepTheZeros, ZerosStandBehindLists};
+
+/// Whatever the event, only words of mapped allocations, of released cells that are still used and of the run that a
+/// call is unmapping aren't 0, where the other groups say what it asks.
+pub fn events_keep_the_zeros()
+    ensures { EventsKeepTheZeros }
+{}
+
+/// So it is behind every list of enabled events along which the other groups say so.
+pub fn zeros_stand_behind_lists()
+    ensures { ZerosStandBehindLists }
+{}
