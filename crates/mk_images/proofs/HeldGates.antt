@@ -28,7 +28,7 @@ held_resting t k InCall g e h = absurd (let x = h.0 in omega arith)
 held_resting t k UnderTurn g e h = absurd (let x = h.0 in omega arith)
 held_resting t k Astray g e h = absurd h
 
-held_idle : (c : Config) (v : View) (j : ℕ) → Orderly c v → j < c.callers → gate_in v j ≡ 2 → (flight_in v j).stage ≡ stage.Idle
+pub held_idle : (c : Config) (v : View) (j : ℕ) → Orderly c v → j < c.callers → gate_in v j ≡ 2 → (flight_in v j).stage ≡ stage.Idle
 held_idle c v j p lt e =
     resting_idle (flight_in v j).op (flight_in v j).stage (held_resting v.turn j (standing (flight_in v j)) (gate_in v j) e (p.each j lt))
 

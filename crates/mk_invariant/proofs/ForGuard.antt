@@ -65,7 +65,7 @@ new_exists c w (Caller k) known new = elim (cases_lt k c.callers) [
 new_exists c w (Marker k) known new = cc
 new_exists c w Host known new = cc
 
-mapped_unreleased : (c : Config) (a : PlacedAllocation) → is_mapped c a ≡ true → a.released ≡ false
+pub mapped_unreleased : (c : Config) (a : PlacedAllocation) → is_mapped c a ≡ true → a.released ≡ false
 mapped_unreleased c a m = not-true a.released (and_parts (not a.released) (not (a.freed && is_large (kinds_of c.types a.ty))) m).0
 
 module _ (c : Config) (w : World) (known : KnownWorld c w) (laid : IsLaidOut c w) (zeros : HasZeros c w) where

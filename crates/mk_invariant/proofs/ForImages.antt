@@ -44,7 +44,7 @@ use Rattle.mk_images.specs.OthersSay.{IsCellOfFreed, IsFreedRun, IsPlaceOfNone, 
 use Rattle.mk_images.specs.OthersSay as images
 use Rattle.mk_images.proofs.KnownWorlds.{KnownWorld}
 use Rattle.mk_zeros.specs.Zeros.{HasZeros}
-use Rattle.mk_invariant.specs.StillToCome.{StillToCome}
+use Rattle.mk_invariant.specs.RunGates.{HoldsRunGates}
 use Rattle.mk_invariant.proofs.ZeroWords.{may_hold_words}
 
 -- A large allocation that is freed isn't mapped.
@@ -222,14 +222,14 @@ module _ (c : Config) (w : World) (known : KnownWorld c w) (laid : IsLaidOut c w
             (subst (λ (x : Object). place_stands w.now.words x place ≡ true) (sym e) stand) is i u (same ∙ ap (λ (x : Object). base_made x place) (sym e));
       }
 
-  pub say_to_images : IsQuarantined c w → HasZeros c w → StillToCome c w → (phase_of w.now.words ≡ 3 → MarksAreClosed c w) → OthersSay c w
-  say_to_images q zeros rest marks =
+  pub say_to_images : IsQuarantined c w → HasZeros c w → HoldsRunGates c w → (phase_of w.now.words ≡ 3 → MarksAreClosed c w) → OthersSay c w
+  say_to_images q zeros gates marks =
       record {
         laid_out = laid_out;
         apart = bases_apart;
         taken = taken;
         freed_run = freed_run;
-        gates = rest.run_gates;
+        gates = gates;
         shown = q.shown;
         freed = λ cell is. elim (q.owned cell.page cell.index is) [
           | inl f ↦ inl (record { number = f.number; unreleased = f.unreleased; freed = f.freed; cell = f.cell })

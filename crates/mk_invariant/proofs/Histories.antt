@@ -1,4 +1,5 @@
 -- The invariant over all histories.
+use Rattle.std.proofs.lemmas.Bool.{true≢false}
 use Rattle.std.proofs.Common.{List, [], append-nil, append_assoc, ap, refl, subst, sym, ◌++◌, ◌∙◌, ◌∷◌, ◌≡◌}
 use Rattle.mk_never.specs.Admitted.{AreAdmitted}
 use Rattle.mk_never.specs.NeverHeap.{Call, NeverState, after_calls}
@@ -14,17 +15,16 @@ use Rattle.mk_images.proofs.KnownWorlds.{known_world}
 use Rattle.mk_guard.proofs.Histories.{marks_at_first}
 use Rattle.mk_zeros.proofs.Histories.{zeros_at_first}
 use Rattle.mk_invariant.specs.Invariant.{Invariant}
-use Rattle.mk_invariant.specs.StillToCome.{StillToComeAlong}
 use Rattle.mk_invariant.specs.Theorems.{EventsKeepTheInvariant, InvariantAtFirst, KeepsTheInvariant, OfHistories}
 use Rattle.mk_invariant.proofs.Joined.{invariant_behind}
 
 pub invariant_at_first : InvariantAtFirst
-invariant_at_first c = record { order = in_order_at_first c; zeros = zeros_at_first c; mirrors = first_mirrors c; marks = marks_at_first c }
+invariant_at_first c = record { order = in_order_at_first c; zeros = zeros_at_first c; run_gates = λ off. absurd (true≢false off); mirrors = first_mirrors c; marks = marks_at_first c }
 
 -- One event of a history, in the words of the list.
 pub events_keep_the_invariant : EventsKeepTheInvariant
 unfolding left_from AreEnabledFrom calls_from
-events_keep_the_invariant c es e h rest all =
+events_keep_the_invariant c es e h all =
     let before = earlier_part_is_history c es (e ∷ []) h in
     let w : World = left c es in
     let n : NeverState = never_behind c es in
@@ -32,20 +32,20 @@ events_keep_the_invariant c es e h rest all =
     let one : asked xs ≡ asked (call_decided c w.now e) = ap (λ (ys : List Decided). asked ys) (append-nil (call_decided c w.now e)) in
     let on = ((enabled_in_parts c es (e ∷ [])).0 h.enabled).1.0 in
     let admitted : AreAdmitted c.globals n (asked (call_decided c w.now e)) = subst (λ (ys : List Call). AreAdmitted c.globals n ys) one ((admitted_in_parts c es (e ∷ [])).0 h.admitted).1 in
-    let behind = invariant_behind c w n e (known_world c es before.within_limits before.enabled) rest all on admitted in
+    let behind = invariant_behind c w n e (known_world c es before.within_limits before.enabled) all on admitted in
     let never : never_behind c (es ++ e ∷ []) ≡ never_after c w n e = never_in_parts c es (e ∷ []) ∙ ap (λ (ys : List Call). after_calls n ys) one in
     subst (λ (v : World). Invariant c v (never_behind c (es ++ e ∷ []))) (sym (left_in_parts c es (e ∷ [])))
     (subst (λ (m : NeverState). Invariant c (world_behind c w e) m) (sym never) behind)
 
 -- The list is in two parts: the events that are done, and those that come.
-along : (c : Config) (done es : List Event) → IsHistory c (done ++ es) → StillToComeAlong c (done ++ es) → KeepsTheInvariant c done → KeepsTheInvariant c (done ++ es)
-along c done [] h rest all = subst (λ (xs : List Event). KeepsTheInvariant c xs) (sym (append-nil done)) all
-along c done (e ∷ es) h rest all =
+along : (c : Config) (done es : List Event) → IsHistory c (done ++ es) → KeepsTheInvariant c done → KeepsTheInvariant c (done ++ es)
+along c done [] h all = subst (λ (xs : List Event). KeepsTheInvariant c xs) (sym (append-nil done)) all
+along c done (e ∷ es) h all =
     let split : done ++ e ∷ es ≡ (done ++ e ∷ []) ++ es = sym (append_assoc done (e ∷ []) es) in
     let parts : IsHistory c ((done ++ e ∷ []) ++ es) = subst (λ (xs : List Event). IsHistory c xs) split h in
-    let next = events_keep_the_invariant c done e (earlier_part_is_history c (done ++ e ∷ []) es parts) (rest done (e ∷ es) refl) all in
-    subst (λ (xs : List Event). KeepsTheInvariant c xs) (sym split) (along c (done ++ e ∷ []) es parts (subst (λ (xs : List Event). StillToComeAlong c xs) split rest) next)
+    let next = events_keep_the_invariant c done e (earlier_part_is_history c (done ++ e ∷ []) es parts) all in
+    subst (λ (xs : List Event). KeepsTheInvariant c xs) (sym split) (along c (done ++ e ∷ []) es parts next)
 
-pub histories_keep_the_invariant : OfHistories StillToComeAlong KeepsTheInvariant
+pub histories_keep_the_invariant : OfHistories KeepsTheInvariant
 unfolding left_from calls_from
-histories_keep_the_invariant c es h rest = along c [] es h rest (invariant_at_first c)
+histories_keep_the_invariant c es h = along c [] es h (invariant_at_first c)

@@ -33,7 +33,7 @@ use Rattle.mk_core.specs.declared.events.Seat.TheVariants.{Caller, Host, Marker}
 use Rattle.mk_core.specs.declared.events.Step.{Step}
 use Rattle.mk_core.specs.declared.events.Step.TheVariants as step
 use Rattle.mk_invariant.specs.Invariant.{Invariant}
-use Rattle.mk_invariant.specs.StillToCome.{StillToCome}
+use Rattle.mk_invariant.proofs.RunGates.{run_gates_behind}
 use Rattle.mk_invariant.proofs.ForGuard.{say_to_guard}
 use Rattle.mk_invariant.proofs.ForImages.{say_to_images}
 
@@ -53,12 +53,12 @@ no_host step.Write is kind = cc
 no_host step.Cas is kind = cc
 no_host _ is kind = cc
 
-module _ (c : Config) (w : World) (n : NeverState) (known : KnownWorld c w) (rest : StillToCome c w) (all : Invariant c w n) where
+module _ (c : Config) (w : World) (n : NeverState) (known : KnownWorld c w) (all : Invariant c w n) where
   pub told_to_guard : guard.OthersSay c w
   told_to_guard = say_to_guard c w known all.order.laid all.zeros
 
   pub told_to_images : images.OthersSay c w
-  told_to_images = say_to_images c w known all.order.laid all.order.quarantined all.zeros rest (stopped_marks_are_closed c w known.limits told_to_guard all.marks)
+  told_to_images = say_to_images c w known all.order.laid all.order.quarantined all.zeros all.run_gates (stopped_marks_are_closed c w known.limits told_to_guard all.marks)
 
   told_by_images : ImagesSay c w n
   told_by_images = images_say c w n known told_to_images all.mirrors
@@ -89,12 +89,13 @@ module _ (c : Config) (w : World) (n : NeverState) (known : KnownWorld c w) (res
       }
 
 -- One event, whatever it is.
-pub invariant_behind : (c : Config) (w : World) (n : NeverState) (e : Event) → KnownWorld c w → StillToCome c w → Invariant c w n → IsEnabled c w.now e
+pub invariant_behind : (c : Config) (w : World) (n : NeverState) (e : Event) → KnownWorld c w → Invariant c w n → IsEnabled c w.now e
     → AreAdmitted c.globals n (asked (call_decided c w.now e)) → Invariant c (world_behind c w e) (never_after c w n e)
-invariant_behind c w n e known rest all on admitted =
+invariant_behind c w n e known all on admitted =
     record {
-      order = order_behind c w e known.limits known.lengths known.now on (told_to_layout c w n known rest all) all.order;
-      zeros = zeros_behind c w e known.limits known.lengths known.now on (told_to_zeros c w n known rest all e on admitted) all.zeros;
-      mirrors = (one_event c w n e known (told_to_images c w n known rest all) all.mirrors on admitted).mirrors;
-      marks = marks_behind c w e.seat e.step known.limits known.now known.lengths (told_to_guard c w n known rest all) (enabled_meets c w.now e on) all.marks;
+      order = order_behind c w e known.limits known.lengths known.now on (told_to_layout c w n known all) all.order;
+      zeros = zeros_behind c w e known.limits known.lengths known.now on (told_to_zeros c w n known all e on admitted) all.zeros;
+      run_gates = run_gates_behind c w known all.order.laid all.run_gates e.seat e.step (enabled_meets c w.now e on) (λ is. stored_word c w n known all e.seat e.step is on admitted);
+      mirrors = (one_event c w n e known (told_to_images c w n known all) all.mirrors on admitted).mirrors;
+      marks = marks_behind c w e.seat e.step known.limits known.now known.lengths (told_to_guard c w n known all) (enabled_meets c w.now e on) all.marks;
     }

@@ -1,6 +1,9 @@
 pub mod ZeroWords
 pub mod ForImages
 pub mod ForGuard
+pub mod SetGates
+pub mod RunWords
+pub mod RunGates
 pub mod Joined
 pub mod Histories
 pub mod Theorems

@@ -6,12 +6,15 @@ use Rattle.mk_layout.specs.LayoutLaws.{StandsInOrder}
 use Rattle.mk_images.specs.Mirrors.{Mirrors}
 use Rattle.mk_guard.specs.Guard.{MarksStand}
 use Rattle.mk_zeros.specs.Zeros.{HasZeros}
+use Rattle.mk_invariant.specs.RunGates.{HoldsRunGates}
 
 pub record Invariant (c : Config) (w : World) (n : NeverState) : Type 0 where
   -- The pages show what stands on them, and the quarantine is that of the freed allocations.
   pub order : StandsInOrder c w
   -- Heap words that hold no value are 0.
   pub zeros : HasZeros c w
+  -- While a run is being unmapped, the gates of all others are held.
+  pub run_gates : HoldsRunGates c w
   -- Words are images of the values of the heap that never reuses storage.
   pub mirrors : Mirrors c w n
   -- While a cycle marks, black cells are guarded; from its `close` to its `release` the marks are closed.

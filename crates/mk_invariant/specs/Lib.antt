@@ -1,3 +1,3 @@
 pub mod Invariant
-pub mod StillToCome
+pub mod RunGates
 pub mod Theorems

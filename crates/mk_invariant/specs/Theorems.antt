@@ -1,4 +1,4 @@
--- What holds of the histories that meet a premise.
+-- What holds of all histories.
 use Rattle.std.specs.Prelude.{◌≡◌, ℕ, false, List, [], ◌∷◌, ◌++◌}
 use Rattle.mk_never.specs.Reach.{IsReached}
 use Rattle.mk_geom.specs.StorageWords.{IsWordOf}
@@ -15,20 +15,19 @@ use Rattle.mk_core.specs.NewPlaces.{place_on_pages}
 use Rattle.mk_core.specs.Words.{phase_of}
 use Rattle.mk_layout.specs.SettledPages.{IsSettled, StandsUsed}
 use Rattle.mk_invariant.specs.Invariant.{Invariant}
-use Rattle.mk_invariant.specs.StillToCome.{StillToCome}
 
--- It holds of each history that meets the premise.
-abbrev pub OfHistories : (premise claim : Config → List Event → Type 0) → Type 0
-OfHistories premise claim = (c : Config) (es : List Event) → IsHistory c es → premise c es → claim c es
+-- It holds of each history.
+abbrev pub OfHistories : (Config → List Event → Type 0) → Type 0
+OfHistories claim = (c : Config) (es : List Event) → IsHistory c es → claim c es
 
 -- The invariant holds before any event,
 abbrev pub InvariantAtFirst : Type 0
 InvariantAtFirst = (c : Config) → Invariant c (first_world c) (never_first c)
 
--- and one event of a history keeps it, where the rest holds before this event.
+-- and one event of a history keeps it.
 abbrev pub EventsKeepTheInvariant : Type 0
 EventsKeepTheInvariant =
-    (c : Config) (es : List Event) (e : Event) → IsHistory c (es ++ e ∷ []) → StillToCome c (left c es)
+    (c : Config) (es : List Event) (e : Event) → IsHistory c (es ++ e ∷ [])
     → Invariant c (left c es) (never_behind c es) → Invariant c (left c (es ++ e ∷ [])) (never_behind c (es ++ e ∷ []))
 
 abbrev pub KeepsTheInvariant : Config → List Event → Type 0

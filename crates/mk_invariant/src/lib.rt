@@ -1,54 +1,52 @@
-//! The theorems over all histories, joined from the groups: facts alone, with no code. Each that speaks of
-//! `OfHistories StillToComeAlong` holds of the histories along which `StillToCome` holds: nothing proves this premise yet.
+//! The theorems over all histories, joined from the groups: facts alone, with no code.
 #![tactic(auto)]
 
 ghost use Rattle.mk_core.specs.Exchanges.{ExchangesCompareValues};
 ghost use Rattle.mk_core.specs.History.{RefinesNever};
-ghost use Rattle.mk_invariant.specs.StillToCome.{StillToComeAlong};
 ghost use Rattle.mk_invariant.specs.Theorems.{AllocationsAreDisjoint, AllocationsStand, ClosesFindMarksClosed, EventsKeepTheInvariant, FirstFitFindsThePlace};
 ghost use Rattle.mk_invariant.specs.Theorems.{GuardsBlackCells, InvariantAtFirst, KeepsTheInvariant, KeepsTheReach, MarksStayClosed, OfHistories, PagesShowTheStorage};
 
-/// The invariant holds at first, one event keeps it where the rest holds before it, and so it holds behind a history.
+/// The invariant holds at first, one event of a history keeps it, and so it holds behind each history.
 pub fn histories_keep_the_invariant()
     ensures at_first { InvariantAtFirst }
     ensures one_event { EventsKeepTheInvariant }
-    ensures along { OfHistories StillToComeAlong KeepsTheInvariant }
+    ensures along { OfHistories KeepsTheInvariant }
 {}
 
 /// The heap refines the one that never reuses storage: all answers are the images of its replies.
 pub fn answers_refine_never()
-    ensures { OfHistories StillToComeAlong RefinesNever }
+    ensures { OfHistories RefinesNever }
 {}
 
 /// What a program can get to isn't released.
 pub fn reach_is_kept()
-    ensures { OfHistories StillToComeAlong KeepsTheReach }
+    ensures { OfHistories KeepsTheReach }
 {}
 
 /// No ABA: a compare and exchange compares values, though storage is used again.
 pub fn exchanges_compare_values()
-    ensures { OfHistories StillToComeAlong ExchangesCompareValues }
+    ensures { OfHistories ExchangesCompareValues }
 {}
 
 /// Unreleased allocations stand on the heap, and no two have a word in common.
 pub fn allocations_stand_apart()
-    ensures stand { OfHistories StillToComeAlong AllocationsStand }
-    ensures disjoint { OfHistories StillToComeAlong AllocationsAreDisjoint }
+    ensures stand { OfHistories AllocationsStand }
+    ensures disjoint { OfHistories AllocationsAreDisjoint }
 {}
 
 /// Where nothing is on its way, the pages show the unreleased storage, and first fit over them finds the place.
 pub fn pages_show_the_storage()
-    ensures shown { OfHistories StillToComeAlong PagesShowTheStorage }
-    ensures first_fit { OfHistories StillToComeAlong FirstFitFindsThePlace }
+    ensures shown { OfHistories PagesShowTheStorage }
+    ensures first_fit { OfHistories FirstFitFindsThePlace }
 {}
 
 /// While a cycle marks, the words of black cells are guarded.
 pub fn black_cells_are_guarded()
-    ensures { OfHistories StillToComeAlong GuardsBlackCells }
+    ensures { OfHistories GuardsBlackCells }
 {}
 
 /// Each `close` finds the marks closed, and they stay so up to the `release`.
 pub fn marks_are_closed()
-    ensures at_close { OfHistories StillToComeAlong ClosesFindMarksClosed }
-    ensures stopped { OfHistories StillToComeAlong MarksStayClosed }
+    ensures at_close { OfHistories ClosesFindMarksClosed }
+    ensures stopped { OfHistories MarksStayClosed }
 {}

@@ -1,0 +1,10 @@
+-- While a Free's run isn't unmapped and wiped, the gates of all others are held.
+use Rattle.std.specs.Prelude.{false, slice_index, ℕ, ◌+◌, ◌<◌, ◌≡◌, ◌≢◌}
+use Rattle.mk_core.specs.declared.config.Config.{Config}
+use Rattle.mk_core.specs.History.{World}
+use Rattle.mk_core.specs.NewPlaces.{is_run_gone}
+
+abbrev pub HoldsRunGates : Config → World → Type 0
+HoldsRunGates c w =
+    is_run_gone w.now.words w.now.seats.holding.freed ≡ false → (k : ℕ) → k < c.callers → w.now.words.turn ≢ 1 + k
+    → slice_index w.now.words.gates k ≡ 2
