@@ -1,6 +1,6 @@
 -- The invariant over all histories.
 use Rattle.std.proofs.lemmas.Bool.{true≢false}
-use Rattle.std.proofs.Common.{List, [], append-nil, append_assoc, ap, refl, subst, sym, ◌++◌, ◌∙◌, ◌∷◌, ◌≡◌}
+use Rattle.std.proofs.Common.{List, [], append-nil, append_assoc, ap, subst, sym, ◌++◌, ◌∙◌, ◌∷◌, ◌≡◌}
 use Rattle.mk_never.specs.Admitted.{AreAdmitted}
 use Rattle.mk_never.specs.NeverHeap.{Call, NeverState, after_calls}
 use Rattle.mk_core.specs.declared.config.Config.{Config}

@@ -1,6 +1,6 @@
 -- A run that is unmapped and wiped stays so, up to the `give` of its call.
-use Rattle.std.proofs.Common.{Bool, ap, arith, false, inl, inr, length, refl, subst, suc, sym, true, zero, ℕ, ◌*◌, ◌+◌, ◌-◌, ◌/◌, ◌<◌, ◌∙◌, ◌≡◌, ◌≢◌, ◌⊎◌}
-use Rattle.std.specs.Prelude.{List, Option, Some, slice_index, slice_index_or, slice_set, ◌&&◌, ◌==◌}
+use Rattle.std.proofs.Common.{Bool, ap, arith, false, inl, inr, length, refl, subst, suc, sym, true, zero, ℕ, ◌*◌, ◌+◌, ◌-◌, ◌/◌, ◌<◌, ◌∙◌, ◌≡◌, ◌≢◌}
+use Rattle.std.specs.Prelude.{List, Option, Some, slice_index, slice_set, ◌&&◌}
 use Rattle.std.proofs.lemmas.Bool.{and_parts, cases_eq, cases_lt, eq-eqb, eqb-true, true≢false}
 use Rattle.std.proofs.lemmas.List.{get_or-set_other, get_or-set_same, set_past}
 use Rattle.mk_geom.specs.Headers.{header_of}
@@ -8,7 +8,6 @@ use Rattle.mk_geom.specs.Storages.{free_page}
 use Rattle.mk_geom.specs.declared.pages.Page.{Page}
 use Rattle.mk_core.specs.declared.config.Config.{Config}
 use Rattle.mk_core.specs.declared.events.Seat.{Seat}
-use Rattle.mk_core.specs.declared.events.Seat.TheVariants.{Caller, Host, Marker}
 use Rattle.mk_core.specs.declared.events.Step.{Step}
 use Rattle.mk_core.specs.declared.events.Step.TheVariants as step
 use Rattle.mk_core.specs.declared.seats.RunPages.{RunPages}
@@ -17,8 +16,8 @@ use Rattle.mk_core.specs.Bounded.{all_below}
 use Rattle.mk_core.specs.Calls.{word_met}
 use Rattle.mk_core.specs.Cells.{head_page, is_unmapped_header, words_are_zero}
 use Rattle.mk_core.specs.History.{World}
-use Rattle.mk_core.specs.Moments.{flight_of, is_phase}
-use Rattle.mk_core.specs.NewPlaces.{header_made, is_run_gone, is_run_unmapped, pages_made, stands, unmapped_header}
+use Rattle.mk_core.specs.Moments.{flight_of}
+use Rattle.mk_core.specs.NewPlaces.{is_run_gone, is_run_unmapped, pages_made, stands, unmapped_header}
 use Rattle.mk_core.specs.StandingAllocations.{object_placed}
 use Rattle.mk_core.specs.Words.{Words, header_at, used_at}
 use Rattle.mk_core.proofs.AllBelow.{all_below-at, all_below_more_is, all_below_zero_is}
