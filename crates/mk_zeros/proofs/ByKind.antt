@@ -80,7 +80,7 @@ release_kind c w seat b three z =
         let a : PlacedAllocation = placed_at w.allocations m.number in
         let u = mapped_stays c a m.mapped in
         let st = standing c w seat step.Release m.number b u in
-        let shown = shown_at c w m.number b.others.in_order.0 u in
+        let shown = shown_at c w m.number b.others.laid_out u in
         let begins = cells_begin c w.now.words a b.limits st.stands st.headers in
         let first = begins.0 in
         let words = begins.1 in
@@ -118,7 +118,8 @@ by_kind c w seat (step.Take o) b h z = take_kind c w seat (step.Take o) b z (w.n
 by_kind c w seat step.Give b h z = give_kind c w seat h z
 by_kind c w seat step.Reg b h z =
     kept_heap c w _
-    (reg_heap w.now.words (caller_number seat) (register_met (flight_of w.now seat) (flight_of w.now seat).stage) (reg_access (flight_of w.now seat) (flight_of w.now seat).stage)) z
+    (reg_heap w.now.words (caller_number seat) (register_met (flight_of w.now seat) (flight_of w.now seat).stage)
+    (reg_access (flight_of w.now seat) (flight_of w.now seat).stage)) z
 by_kind c w seat (step.Tally n v) b h z = kept_heap c w _ (tally_heap w.now.words n v) z
 by_kind c w seat step.Write b h z = stored_words c (here w) (word_met (flight_of w.now seat)) _ (b.others.stored refl) z
 by_kind c w seat step.Cas b h z = stored_words c (here w) (word_met (flight_of w.now seat)) _ (b.others.stored refl) z

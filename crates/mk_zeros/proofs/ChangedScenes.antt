@@ -25,7 +25,8 @@ use Rattle.mk_protocol.proofs.Known.{Known}
 use Rattle.mk_layout.specs.Terrain.{object_now}
 use Rattle.mk_layout.proofs.Released.{all_stand}
 use Rattle.mk_layout.proofs.StandingClaims.{IsStanding}
-use Rattle.mk_zeros.specs.Zeros.{is_released_there, Scene, scene_with, IsMappedWord, IsReleasedWord, IsFreedWord, MayHold, OfMapped, OfReleased, OfFreedRun, OthersAreZero, HasZeros}
+use Rattle.mk_zeros.specs.Zeros.{is_released_there, Scene, scene_with, IsMappedWord, IsReleasedWord, IsFreedWord}
+use Rattle.mk_zeros.specs.Zeros.{MayHold, OfMapped, OfReleased, OfFreedRun, OthersAreZero, HasZeros}
 use Rattle.mk_zeros.specs.ZeroLaws.{OthersSay}
 
 -- all that is known of the world before
@@ -41,7 +42,7 @@ here w = scene_with (is_phase w.now.words 4) w.now.words.marks w
 
 pub standing : (c : Config) (w : World) (seat : Seat) (x : Step) (i : ℕ) → Before c w seat x → (placed_at w.allocations i).released ≡ false
     → IsStanding c w.now.words (placed_at w.allocations i)
-standing c w seat x i b u = all_stand c (object_now c w.now) (is_phase w.now.words 4) w b.lengths.pages b.others.in_order.0 i u
+standing c w seat x i b u = all_stand c (object_now c w.now) (is_phase w.now.words 4) w b.lengths.pages b.others.laid_out i u
 
 -- While the phase isn't releasing no cell is released.
 pub none_released : (c : Config) (s : Scene) (n : ℕ) → s.releasing ≡ false → IsReleasedWord c s.pages (is_released_there s) n → ⊥

@@ -5,18 +5,16 @@ use Rattle.std.proofs.lemmas.Bool.{true≢false}
 use Rattle.mk_core.specs.declared.events.Seat.{Seat}
 use Rattle.mk_core.specs.declared.events.Seat.TheVariants.{Caller, Marker, Host}
 use Rattle.mk_core.specs.Calls.{at_rest}
-use Rattle.mk_core.specs.Moments.{first_moment, flight_of}
 use Rattle.mk_core.specs.NewPlaces.{target}
 use Rattle.mk_layout.specs.LayoutLaws as layout
 use Rattle.mk_layout.proofs.Histories.{histories_are_laid_out}
-use Rattle.mk_zeros.specs.ZeroLaws.{stores}
 use Rattle.mk_core.specs.declared.config.Config.{Config}
 use Rattle.mk_core.specs.declared.events.Event.{Event}
 use Rattle.mk_core.specs.Config.{IsWithinLimits}
 use Rattle.mk_core.specs.Layout.{AreOfPages}
 use Rattle.mk_core.specs.Accesses.{reached, access}
 use Rattle.mk_core.specs.Enabled.{IsEnabled}
-use Rattle.mk_core.specs.Moments.{is_phase}
+use Rattle.mk_core.specs.Moments.{first_moment, flight_of, is_phase}
 use Rattle.mk_core.specs.History.{World, first_world, world_behind, left, left_from, AreEnabledFrom}
 use Rattle.mk_core.proofs.Conditions.{enabled_meets}
 use Rattle.mk_core.proofs.Lengths.{histories_keep_lengths, zero_lengths, accessed_lengths}
@@ -25,7 +23,7 @@ use Rattle.mk_protocol.proofs.OrderlyLists.{at_first}
 use Rattle.mk_layout.proofs.Before.{is_releasing_behind}
 use Rattle.mk_layout.proofs.Behind.{phase_kind, releasing_marks}
 use Rattle.mk_zeros.specs.Zeros.{scene_with, OfMapped, OfFreedRun, OthersAreZero, HasZeros}
-use Rattle.mk_zeros.specs.ZeroLaws.{OthersSay, OthersSayFrom, EventsKeepTheZeros, ZerosStandBehindLists}
+use Rattle.mk_zeros.specs.ZeroLaws.{OthersSay, OthersSayFrom, stores, EventsKeepTheZeros, ZerosStandBehindLists}
 use Rattle.mk_zeros.proofs.ChangedScenes.{none_released, changed_words}
 use Rattle.mk_zeros.proofs.ByKind.{by_kind}
 
@@ -60,7 +58,8 @@ zeros_from : (c : Config) (w : World) (es : List Event) → IsWithinLimits c →
 unfolding left_from AreEnabledFrom OthersSayFrom
 zeros_from c w [] limits lengths known on others z = z
 zeros_from c w (e ∷ es) limits lengths known on others z =
-    zeros_from c (world_behind c w e) es limits (accessed_lengths c.pages w.now.words (reached c w.now e) (access c w.now e) lengths) (known_behind c w.now e known on.0) on.1 others.1
+    zeros_from c (world_behind c w e) es limits (accessed_lengths c.pages w.now.words (reached c w.now e) (access c w.now e) lengths)
+    (known_behind c w.now e known on.0) on.1 others.1
     (zeros_behind c w e limits lengths known on.0 others.0 z)
 
 zeros_at_first : (c : Config) → HasZeros c (first_world c)
@@ -75,7 +74,7 @@ pub others_at_first : (c : Config) (e : Event) → IsWithinLimits c → stores e
 unfolding left_from AreEnabledFrom layout.OthersSayFrom
 others_at_first c e limits still =
     record {
-      in_order = histories_are_laid_out c [] limits tt tt;
+      laid_out = (histories_are_laid_out c [] limits tt tt).0;
       target = λ cell at. let none : None ≡ Some cell = sym (no_target e.seat) ∙ at in cc;
       stored = λ s. absurd (true≢false (sym s ∙ still));
     }

@@ -99,7 +99,8 @@ unwiped_word c w is_gone p v n h some r =
         let at : first_word w.now.words cell + (n - first_word w.now.words cell) ≡ n = omega arith in
         some (ap (λ i. slice_index w.now.words.heap i) (sym at)
         ∙ eqb-true (slice_index w.now.words.heap (first_word w.now.words cell + (n - first_word w.now.words cell))) 0
-        (all_below-at (cell_words w.now.words cell) (n - first_word w.now.words cell) (λ i. slice_index w.now.words.heap (first_word w.now.words cell + i) == 0) zero (omega arith)))
+        (all_below-at (cell_words w.now.words cell) (n - first_word w.now.words cell)
+        (λ i. slice_index w.now.words.heap (first_word w.now.words cell + i) == 0) zero (omega arith)))
 
     still : r.cell.page ≡ p → has_bit v r.cell.index ≡ true
     still e = elim (cases_Bool (has_bit v r.cell.index)) [ inl in_it ↦ in_it | inr out ↦ absurd (wiped e out) ]

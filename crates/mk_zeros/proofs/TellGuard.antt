@@ -33,7 +33,8 @@ use Rattle.mk_core.proofs.ObjectHeaders.{made_shows, part_head}
 use Rattle.mk_core.proofs.PlacesNow.{IsPlaced, ByFit, AsChosen, AsUsed, placed_now}
 use Rattle.mk_core.proofs.Sizes.{large_is_not_small, pages_some, small_pages}
 use Rattle.mk_protocol.proofs.Known.{Known, known_left}
-use Rattle.mk_layout.specs.Scene.{Claim, Among, Mode, Mapped, Plot, NoPlot, Plotted, PlotStands, InPlot, HasHeader, IsClaimed, IsPlotShown, header_on, used_on, shows_on, head_on, run_count}
+use Rattle.mk_layout.specs.Scene.{Claim, Among, Mode, Mapped, Plot, NoPlot, Plotted, PlotStands}
+use Rattle.mk_layout.specs.Scene.{InPlot, HasHeader, IsClaimed, IsPlotShown, header_on, used_on, shows_on, head_on, run_count}
 use Rattle.mk_layout.specs.Terrain.{IsLaidOut, RunStands, IsClaimedRun, claims_of, claims_on, claims_placed, place_claim, is_unmapping, mode_of, plot_of, object_now, terrain_of}
 use Rattle.mk_layout.proofs.Fits.{fits}
 use Rattle.mk_layout.proofs.Holders.{new_has_turn, holding_object, made_sized, first_header}
@@ -97,17 +98,21 @@ later_pages c w q p count distance is some lt = elim (cases_eq (used_on w.now.wo
           | inl free ↦ absurd (headed (ap (λ i. header_on w.now.words.pages i) (sym at) ∙ free))
           | inr made ↦
               let part : ShowsPart o (p - first) (shows_on w.now.words.pages p) =
-              subst (λ h. ShowsPart o (p - first) (header_of h)) (sym (ap (λ i. header_on w.now.words.pages i) (sym at) ∙ made)) (made_shows o (p - first) plot.sized (omega arith)) in
+              subst (λ h. ShowsPart o (p - first) (header_of h)) (sym (ap (λ i. header_on w.now.words.pages i) (sym at) ∙ made))
+              (made_shows o (p - first) plot.sized (omega arith)) in
               let head = run_part o (p - first) count true (shows_on w.now.words.pages p) part is in
               let zero = head.0 in
               let pages = head.1 in
               let same : first ≡ p = omega arith in
               let near : distance < pages_made o = omega arith in
               elim (plot.headers distance near) [
-                | inl free ↦ inr (λ i li. bare_page c w (p + distance) (64 * (p + distance) + i) q (ap (λ j. header_on w.now.words.pages (j + distance)) (sym same) ∙ free) (omega arith))
+                | inl free ↦ inr (λ i li.
+                    bare_page c w (p + distance) (64 * (p + distance) + i) q
+                    (ap (λ j. header_on w.now.words.pages (j + distance)) (sym same) ∙ free) (omega arith))
                 | inr later ↦
                     let behind : ShowsPart o distance (shows_on w.now.words.pages (p + distance)) =
-                    subst (λ h. ShowsPart o distance (header_of h)) (sym (ap (λ j. header_on w.now.words.pages (j + distance)) (sym same) ∙ later)) (made_shows o distance plot.sized near) in
+                    subst (λ h. ShowsPart o distance (header_of h)) (sym (ap (λ j. header_on w.now.words.pages (j + distance)) (sym same) ∙ later))
+                    (made_shows o distance plot.sized near) in
                     inl (part_head o distance p (shows_on w.now.words.pages (p + distance)) behind)
               ]
         ]
@@ -208,7 +213,7 @@ not_releasing n (inl e) = ne_eqb n 4 (λ f. absurd (omega arith))
 not_releasing n (inr e) = ne_eqb n 4 (λ f. absurd (omega arith))
 
 pub zeros_tell_the_guard : ZerosTellTheGuard
-zeros_tell_the_guard c es limits on order zeros =
+zeros_tell_the_guard c es limits on laid zeros =
     record {
       place = λ early seat place now.
           let placed = placed_now c (left c es).now (flight_of (left c es).now seat) place now in
@@ -219,7 +224,7 @@ zeros_tell_the_guard c es limits on order zeros =
           (made_sized c (left c es).now seat limits known placed.new) placed.placed;
       freed = λ early run is. run_has_object c (left c es) run (quiet early) is;
       later = λ early. later_pages c (left c es) (quiet early);
-      mapped = λ i is. mapped_stands c (left c es) i (histories_keep_lengths c es) order.0 is;
+      mapped = λ i is. mapped_stands c (left c es) i (histories_keep_lengths c es) laid is;
     }
   where
     known : Known c (left c es).now
@@ -230,6 +235,6 @@ zeros_tell_the_guard c es limits on order zeros =
         let off : is_phase (left c es).now.words 4 ≡ false = not_releasing (phase_of (left c es).now.words) early in
         record {
           off = off;
-          laid = subst (λ four. Laid c (object_now c (left c es).now) four (left c es) (terrain_of (left c es))) off order.0;
+          laid = subst (λ four. Laid c (object_now c (left c es).now) four (left c es) (terrain_of (left c es))) off laid;
           zeros = zeros;
         }

@@ -46,9 +46,9 @@ stored_by c w n Host step.Cas say on ad s = absurd (false≢true (enabled_meets 
 stored_by c w n _ _ say on ad s = absurd (false≢true s)
 
 pub images_tell_the_zeros : ImagesTellTheZeros
-images_tell_the_zeros c w n e order say on ad =
+images_tell_the_zeros c w n e laid say on ad =
     record {
-      in_order = order;
+      laid_out = laid;
       target = λ cell at. let x = say.target e.seat cell at in record { number = x.number; unreleased = x.unreleased; is = x.cell };
       stored = λ s. stored_by c w n e.seat e.step say on ad s;
     }

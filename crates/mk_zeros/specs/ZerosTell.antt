@@ -8,7 +8,7 @@ use Rattle.mk_core.specs.Config.{IsWithinLimits}
 use Rattle.mk_core.specs.Enabled.{IsEnabled}
 use Rattle.mk_core.specs.Decided.{asked}
 use Rattle.mk_core.specs.History.{World, left, AreEnabled, call_decided}
-use Rattle.mk_layout.specs.LayoutLaws.{StandsInOrder}
+use Rattle.mk_layout.specs.Terrain.{IsLaidOut}
 use Rattle.mk_images.specs.OthersSay.{MayHoldWords}
 use Rattle.mk_images.specs.ImagesSay.{ImagesSay}
 use Rattle.mk_guard.specs.Kept as guard
@@ -22,11 +22,11 @@ ZerosTellTheImages = (c : Config) (w : World) → HasZeros c w → (n : ℕ) →
 -- With the layout, the zero words say all that the guard asks of a world.
 abbrev pub ZerosTellTheGuard : Type 0
 ZerosTellTheGuard =
-    (c : Config) (es : List Event) → IsWithinLimits c → AreEnabled c es → StandsInOrder c (left c es) → HasZeros c (left c es)
+    (c : Config) (es : List Event) → IsWithinLimits c → AreEnabled c es → IsLaidOut c (left c es) → HasZeros c (left c es)
     → guard.OthersSay c (left c es)
 
 -- With the layout, the images say all that the zero words ask before an event that is enabled and admitted.
 abbrev pub ImagesTellTheZeros : Type 0
 ImagesTellTheZeros =
-    (c : Config) (w : World) (n : NeverState) (e : Event) → StandsInOrder c w → ImagesSay c w n
+    (c : Config) (w : World) (n : NeverState) (e : Event) → IsLaidOut c w → ImagesSay c w n
     → IsEnabled c w.now e → AreAdmitted c.globals n (asked (call_decided c w.now e)) → OthersSay c w e
