@@ -133,7 +133,7 @@ module _ (c : Config) (w : World) (known : KnownWorld c w) (laid : IsLaidOut c w
       let first : header_at w.now.words place.page ≡ header_made o 0 = subst (λ p. header_at w.now.words p ≡ header_made o 0) (omega arith) (made 0 (omega arith)) in
       record { headers = λ d lt. inr (made d lt); words = λ z i lt. absurd (first_header o sized (sym first ∙ z)) }
 
-  bare_fit : IsMarking w.now.words → (o : Object) (place : Place) → IsSized o → FitsOnFreePages w.now.words.pages o place ⊎ FitsInBlock w.now.words.pages o place
+  bare_fit : IsMarking w.now.words → (o : Object) (place : Place) → IsSized o → FitsOnFreePages c.resident w.now.words.pages o place ⊎ FitsInBlock w.now.words.pages o place
       → PlaceIsBare w.now.words o place
   bare_fit early o place sized (inl f) =
       record {

@@ -31,7 +31,8 @@ events_keep_the_invariant c es e h all =
     let xs : List Decided = call_decided c w.now e ++ [] in
     let one : asked xs ≡ asked (call_decided c w.now e) = ap (λ (ys : List Decided). asked ys) (append-nil (call_decided c w.now e)) in
     let on = ((enabled_in_parts c es (e ∷ [])).0 h.enabled).1.0 in
-    let admitted : AreAdmitted c.globals n (asked (call_decided c w.now e)) = subst (λ (ys : List Call). AreAdmitted c.globals n ys) one ((admitted_in_parts c es (e ∷ [])).0 h.admitted).1 in
+    let admitted : AreAdmitted c.globals n (asked (call_decided c w.now e)) =
+    subst (λ (ys : List Call). AreAdmitted c.globals n ys) one ((admitted_in_parts c es (e ∷ [])).0 h.admitted).1 in
     let behind = invariant_behind c w n e (known_world c es before.within_limits before.enabled) all on admitted in
     let never : never_behind c (es ++ e ∷ []) ≡ never_after c w n e = never_in_parts c es (e ∷ []) ∙ ap (λ (ys : List Call). after_calls n ys) one in
     subst (λ (v : World). Invariant c v (never_behind c (es ++ e ∷ []))) (sym (left_in_parts c es (e ∷ [])))

@@ -83,7 +83,7 @@ module _ (c : Config) (w : World) (n : NeverState) (known : KnownWorld c w) (all
   pub told_to_zeros : (e : Event) → IsEnabled c w.now e → AreAdmitted c.globals n (asked (call_decided c w.now e)) → zeros.OthersSay c w e
   told_to_zeros e on admitted =
       record {
-        in_order = all.order;
+        laid_out = all.order.laid;
         target = λ cell is. told_to_layout.target e.seat cell is;
         stored = λ is. stored_word e.seat e.step is on admitted;
       }

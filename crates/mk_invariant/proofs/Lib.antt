@@ -7,3 +7,4 @@ pub mod RunGates
 pub mod Joined
 pub mod Histories
 pub mod Theorems
+pub mod Quarantines

@@ -103,7 +103,8 @@ module _ (c : Config) (w : World) (known : KnownWorld c w) (laid : IsLaidOut c w
           let frees = freed_cell c.pages w.now.words (flight_of w.now seat) p n x.0 x.1.0 in
           let same : cell_freed c.pages w.now.words (flight_of w.now seat) p n ≡ target c.pages w.now.words (flight_of w.now seat) = x.1.0 ∙ sym frees.at in
           let run = subst (λ (y : Option Cell). is_run_cell w.now.words y ≡ true) same x.1.1 in
-          let held = others_held c w.now seat (either (is_run_cell w.now.words (target c.pages w.now.words (flight_of w.now seat))) (others_are_held c.callers w.now.words seat) h.gates run) in
+          let held =
+          others_held c w.now seat (either (is_run_cell w.now.words (target c.pages w.now.words (flight_of w.now seat))) (others_are_held c.callers w.now.words seat) h.gates run) in
           let turn = turn_of c (view_of w.now) seat known.now.orderly (free_has_turn c w.now seat h.seat frees.free) in
           λ k lt other. held k lt (λ e. other (turn ∙ ap (λ i. 1 + i) e))
 

@@ -15,7 +15,8 @@ use Rattle.mk_images.proofs.Exchanges.{histories_compare}
 use Rattle.mk_images.proofs.Histories.{histories_refine, reached_is_unreleased}
 use Rattle.mk_images.proofs.KnownWorlds.{KnownWorld, known_world}
 use Rattle.mk_guard.proofs.Histories.{close_finds_marks_closed, marking_guards, stopped_marks_are_closed}
-use Rattle.mk_invariant.specs.Theorems.{AllocationsAreDisjoint, AllocationsStand, ClosesFindMarksClosed, FirstFitFindsThePlace, GuardsBlackCells, KeepsTheReach, MarksStayClosed, OfHistories, PagesShowTheStorage}
+use Rattle.mk_invariant.specs.Theorems.{AllocationsAreDisjoint, AllocationsStand, ClosesFindMarksClosed, FirstFitFindsThePlace}
+use Rattle.mk_invariant.specs.Theorems.{GuardsBlackCells, KeepsTheReach, MarksStayClosed, OfHistories, PagesShowTheStorage}
 use Rattle.mk_invariant.proofs.Histories.{histories_keep_the_invariant}
 use Rattle.mk_invariant.proofs.Joined.{told_to_guard, told_to_images}
 

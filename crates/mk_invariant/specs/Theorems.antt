@@ -1,5 +1,5 @@
 -- What holds of all histories.
-use Rattle.std.specs.Prelude.{◌≡◌, ℕ, false, List, [], ◌∷◌, ◌++◌}
+use Rattle.std.specs.Prelude.{◌≡◌, ℕ, false, List, [], ◌∷◌, ◌++◌, ◌≤◌, true}
 use Rattle.mk_never.specs.Reach.{IsReached}
 use Rattle.mk_geom.specs.StorageWords.{IsWordOf}
 use Rattle.mk_geom.specs.Storages.{PagesStandFor}
@@ -13,6 +13,12 @@ use Rattle.mk_core.specs.ClosedMarks.{MarkingIsGuarded, MarksAreClosed}
 use Rattle.mk_core.specs.History.{IsHistory, first_world, left, never_behind, never_first}
 use Rattle.mk_core.specs.NewPlaces.{place_on_pages}
 use Rattle.mk_core.specs.Words.{phase_of}
+use Rattle.mk_core.specs.Cycles.{At, is_begin, is_quarantined}
+use Rattle.mk_layout.specs.Quarantine.{has_bit_of, is_cycling}
+use Rattle.std.specs.List.{list_any}
+use Rattle.mk_geom.specs.PageUses.{resident_pages}
+use Rattle.mk_geom.specs.PageWords.{uses_of_pages}
+use Rattle.mk_layout.specs.Room.{HasHeaderWords}
 use Rattle.mk_layout.specs.SettledPages.{IsSettled, StandsUsed}
 use Rattle.mk_invariant.specs.Invariant.{Invariant}
 
@@ -71,3 +77,18 @@ ClosesFindMarksClosed c es =
 -- and they are up to the `release`.
 abbrev pub MarksStayClosed : Config → List Event → Type 0
 MarksStayClosed c es = phase_of (left c es).now.words ≡ 3 → MarksAreClosed c (left c es)
+
+-- Each page has a header word,
+abbrev pub PagesHaveHeaderWords : Config → List Event → Type 0
+PagesHaveHeaderWords c es = HasHeaderWords (left c es)
+
+-- and at most so many pages are resident.
+abbrev pub FewPagesAreResident : Config → List Event → Type 0
+FewPagesAreResident c es = resident_pages (uses_of_pages (left c es).now.words.pages) ≤ c.resident
+
+-- From the last `begin` up to its `end`, an unreleased allocation's snapshot bit says whether it was freed before it.
+abbrev pub SnapshotIsTheCycles : Config → List Event → Type 0
+SnapshotIsTheCycles c es =
+    (begin : At is_begin es) → list_any (λ (e : Event). is_begin e.step) begin.behind ≡ false
+    → is_cycling (phase_of (left c es).now.words) ≡ true → (i : ℕ) → (placed_at (left c es).allocations i).released ≡ false
+    → has_bit_of c (left c es).now.words.snapshot (placed_at (left c es).allocations i) ≡ is_quarantined (placed_at (left c begin.before).allocations i)

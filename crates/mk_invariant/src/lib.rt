@@ -4,6 +4,7 @@
 ghost use Rattle.mk_core.specs.Exchanges.{ExchangesCompareValues};
 ghost use Rattle.mk_core.specs.History.{RefinesNever};
 ghost use Rattle.mk_invariant.specs.Theorems.{AllocationsAreDisjoint, AllocationsStand, ClosesFindMarksClosed, EventsKeepTheInvariant, FirstFitFindsThePlace};
+ghost use Rattle.mk_invariant.specs.Theorems.{FewPagesAreResident, PagesHaveHeaderWords, SnapshotIsTheCycles};
 ghost use Rattle.mk_invariant.specs.Theorems.{GuardsBlackCells, InvariantAtFirst, KeepsTheInvariant, KeepsTheReach, MarksStayClosed, OfHistories, PagesShowTheStorage};
 
 /// The invariant holds at first, one event of a history keeps it, and so it holds behind each history.
@@ -49,4 +50,15 @@ pub fn black_cells_are_guarded()
 pub fn marks_are_closed()
     ensures at_close { OfHistories ClosesFindMarksClosed }
     ensures stopped { OfHistories MarksStayClosed }
+{}
+
+/// Each page has a header word, and at most as many pages are resident as the configuration allows.
+pub fn pages_are_in_order()
+    ensures words { OfHistories PagesHaveHeaderWords }
+    ensures few { OfHistories FewPagesAreResident }
+{}
+
+/// Up to a cycle's `end` the snapshot bits are those of the allocations that were freed before its `begin`.
+pub fn snapshots_are_of_cycles()
+    ensures { OfHistories SnapshotIsTheCycles }
 {}

@@ -2,14 +2,21 @@
 use Rattle.std.proofs.Common.{Bool, arith, false, length, true, ℕ, ◌<◌, ◌≡◌}
 use Rattle.std.specs.Prelude.{nat_lt}
 use Rattle.std.proofs.lemmas.Bool.{ltb-true}
+use Rattle.mk_core.specs.Accesses.{caller_number, reg_access, register_met}
 use Rattle.mk_core.specs.Config.{IsWithinLimits}
 use Rattle.mk_core.specs.History.{World}
 use Rattle.mk_core.specs.Layout.{AreOfPages}
-use Rattle.mk_core.specs.Moments.{is_phase}
+use Rattle.mk_core.specs.Moments.{flight_of, is_phase}
 use Rattle.mk_core.specs.declared.config.Config.{Config}
+use Rattle.mk_core.specs.declared.events.Seat.{Seat}
 use Rattle.mk_core.specs.declared.events.Step.{Step}
 use Rattle.mk_core.specs.declared.events.Step.TheVariants as step
+use Rattle.mk_core.specs.declared.seats.Flight.{Flight}
+use Rattle.mk_protocol.proofs.Ground.{KeepsGround, reg_ground}
 use Rattle.mk_protocol.proofs.Known.{Known}
+use Rattle.mk_protocol.proofs.OthersMoves.{WorldBehind}
+use Rattle.mk_protocol.proofs.SameWords.{reg_keeps}
+use Rattle.mk_protocol.proofs.SameWords.{Keeps}
 use Rattle.mk_layout.specs.LayoutLaws.{OthersSay}
 use Rattle.mk_layout.specs.Scene.{Among, Claim, is_released_in}
 use Rattle.mk_layout.specs.Terrain.{Terrain, claims_on, object_now, terrain_of}
@@ -40,3 +47,14 @@ LaidBehind c w x t = Laid c (object_now c w.now) (is_releasing_behind x (is_phas
 
 pub page_within : (c : Config) (w : World) (p : ℕ) → Before c w → nat_lt p c.pages ≡ true → p < length w.now.words.pages
 page_within c w p b h = let lt = ltb-true p c.pages h in let len = b.lengths.pages in omega arith
+
+-- A `reg` leaves the protocol's words, and the ground's.
+pub reg_leaves : (c : Config) (w : World) (seat : Seat) → Keeps w.now.words (WorldBehind c w seat step.Reg).now.words
+reg_leaves c w seat =
+    let f : Flight = flight_of w.now seat in
+    reg_keeps w.now.words (caller_number seat) (register_met f f.stage) (reg_access f f.stage)
+
+pub reg_leaves_ground : (c : Config) (w : World) (seat : Seat) → KeepsGround w.now.words (WorldBehind c w seat step.Reg).now.words
+reg_leaves_ground c w seat =
+    let f : Flight = flight_of w.now seat in
+    reg_ground w.now.words (caller_number seat) (register_met f f.stage) (reg_access f f.stage)

@@ -2,7 +2,6 @@
 use Rattle.std.proofs.Common.{Bool, List, ap, arith, false, inl, inr, refl, subst, sym, true, ℕ, ◌%◌, ◌+◌, ◌-◌, ◌^◌, ◌∙◌, ◌≡◌, ◌≢◌, ◌⊎◌}
 use Rattle.std.specs.Prelude.{None, Option, Some, if◌then◌else◌, is_some, ◌==◌}
 use Rattle.std.proofs.lemmas.Bool.{and_parts, cases_Bool, eq-eqb, eqb-true, ne_eqb}
-use Rattle.mk_core.specs.Accesses.{caller_number, reg_access, register_met}
 use Rattle.mk_core.specs.History.{World}
 use Rattle.mk_core.specs.MarkerConditions.{cell_seen}
 use Rattle.mk_core.specs.Moments.{Moment, flight_of, holder_number, is_phase, marker_at, marker_of, nothing_done}
@@ -27,11 +26,11 @@ use Rattle.mk_protocol.proofs.Known.{Known}
 use Rattle.mk_protocol.proofs.NewPlace.{held_place, new_was}
 use Rattle.mk_protocol.proofs.OthersMoves.{WorldBehind}
 use Rattle.mk_protocol.proofs.OrderlyLists.{actor_of, not_astray, orderly_behind}
+use Rattle.mk_protocol.proofs.SameWords.{tally_keeps}
 use Rattle.mk_protocol.proofs.Sorts.{moves}
-use Rattle.mk_protocol.proofs.SameWords.{reg_keeps, tally_keeps}
 use Rattle.mk_protocol.proofs.Views.{view_of}
 use Rattle.mk_layout.specs.Terrain.{HasLayout, IsLaidOut, object_now, terrain_of}
-use Rattle.mk_layout.proofs.Before.{Before, is_releasing_behind}
+use Rattle.mk_layout.proofs.Before.{Before, is_releasing_behind, reg_leaves}
 use Rattle.mk_layout.proofs.ByKind.{by_kind, placeless}
 use Rattle.mk_layout.proofs.Dropped.{unreleasing}
 
@@ -51,7 +50,7 @@ pub phase_kind : (c : Config) (w : World) (seat : Seat) (x : Step) → Meets c w
 phase_kind c w seat step.Reg h =
     same_low _ _
     (ap (λ n. n % 8)
-    (reg_keeps w.now.words (caller_number seat) (register_met (flight_of w.now seat) (flight_of w.now seat).stage) (reg_access (flight_of w.now seat) (flight_of w.now seat).stage)).phase)
+    (reg_leaves c w seat).phase)
 phase_kind c w seat (step.Tally n v) h = same_low _ _ (ap (λ n. n % 8) (tally_keeps w.now.words n v).phase)
 phase_kind c w seat step.Begin h =
     let e = eqb-true (w.now.words.phase % 8) 0 h.phase in
@@ -114,7 +113,7 @@ turn_kind c w seat (step.Take o) h has = by (w.now.words.turn == 0) has
     by false has = refl
 turn_kind c w seat step.Give h has = cc
 turn_kind c w seat step.Reg h has =
-    (reg_keeps w.now.words (caller_number seat) (register_met (flight_of w.now seat) (flight_of w.now seat).stage) (reg_access (flight_of w.now seat) (flight_of w.now seat).stage)).turn
+    (reg_leaves c w seat).turn
 turn_kind c w seat (step.Tally n v) h has = (tally_keeps w.now.words n v).turn
 turn_kind c w seat _ h has = refl
 

@@ -5,7 +5,6 @@ use Rattle.std.proofs.lemmas.Bool.{and_parts, and_right, eqb-true, false_from_ne
 use Rattle.mk_never.specs.declared.operations.Op.{Op}
 use Rattle.mk_geom.specs.declared.pages.Page.{Page}
 use Rattle.mk_geom.specs.declared.pages.Place.{Place}
-use Rattle.mk_core.specs.Accesses.{caller_number, reg_access, register_met}
 use Rattle.mk_core.specs.Allocations.{PlacedAllocation, granted, no_longer_fresh, with_released}
 use Rattle.mk_core.specs.Bits.{has_bit}
 use Rattle.mk_core.specs.Cells.{words_are_zero}
@@ -34,11 +33,11 @@ use Rattle.mk_core.proofs.PlacesNow.{placed_now, undecided_new}
 use Rattle.mk_core.proofs.ServingSteps.{marks_is}
 use Rattle.mk_protocol.specs.Protocol.{has_place}
 use Rattle.mk_protocol.proofs.Actors.{Meets, grants_new}
-use Rattle.mk_protocol.proofs.Ground.{KeepsGround, reg_ground, tally_ground}
+use Rattle.mk_protocol.proofs.Ground.{KeepsGround, tally_ground}
 use Rattle.mk_protocol.proofs.OthersMoves.{WorldBehind}
 use Rattle.mk_layout.specs.Scene.{Claim, IsLaidOn, Scene}
 use Rattle.mk_layout.specs.Terrain.{HasLayout, IsLaidOut, RunStands, Terrain, claim_of, claims_of, claims_placed, object_now, scene_of, terrain_of}
-use Rattle.mk_layout.proofs.Before.{Before, LaidBehind, LaidNow}
+use Rattle.mk_layout.proofs.Before.{Before, LaidBehind, LaidNow, reg_leaves_ground}
 use Rattle.mk_layout.proofs.Claims.{LeavesCells, cells_behind}
 use Rattle.mk_layout.proofs.Dropped.{ended}
 use Rattle.mk_layout.proofs.Freed.{gone_terrain}
@@ -203,7 +202,7 @@ by_kind c w seat (step.Take o) b h laid = take_kind c w seat o b laid
 by_kind c w seat step.Give b h laid = give_kind c w seat b h laid
 by_kind c w seat step.Reg b h laid =
     kept_ground c w _
-    (reg_ground w.now.words (caller_number seat) (register_met (flight_of w.now seat) (flight_of w.now seat).stage) (reg_access (flight_of w.now seat) (flight_of w.now seat).stage)) laid
+    (reg_leaves_ground c w seat) laid
 by_kind c w seat (step.Tally n v) b h laid = kept_ground c w _ (tally_ground w.now.words n v) laid
 by_kind c w seat (step.Head p n) b h laid = head_kind c w seat p n b h laid
 by_kind c w seat (step.Used p n) b h laid = used_kind c w seat p n b h laid

@@ -13,7 +13,7 @@ use Rattle.mk_core.specs.Cycles.{is_begin, is_quarantined}
 use Rattle.mk_core.specs.History.{AreEnabledFrom, World, first_world, left, left_from, world_behind}
 use Rattle.mk_core.specs.Layout.{AreOfPages}
 use Rattle.mk_core.specs.Moments.{flight_of}
-use Rattle.mk_core.specs.TurnConditions.{cell_freed, frees}
+use Rattle.mk_core.specs.TurnConditions.{cell_freed}
 use Rattle.mk_core.specs.declared.config.Config.{Config}
 use Rattle.mk_core.specs.declared.events.Event.{Event}
 use Rattle.mk_core.specs.declared.events.Seat.{Seat}
@@ -21,11 +21,9 @@ use Rattle.mk_core.specs.declared.events.Step.{Step}
 use Rattle.mk_core.specs.declared.events.Step.TheVariants as step
 use Rattle.mk_core.proofs.ChangedAllocations.{none_freed}
 use Rattle.mk_core.proofs.Conditions.{enabled_meets}
-use Rattle.mk_core.proofs.EvaluatedHistories.{enabled}
 use Rattle.mk_core.proofs.Histories.{left_append}
 use Rattle.mk_core.proofs.Lengths.{accessed_lengths, zero_lengths}
 use Rattle.mk_core.proofs.PlacesNow.{freed_cell}
-use Rattle.mk_core.proofs.Schedules.{by}
 use Rattle.mk_protocol.proofs.Actors.{Meets}
 use Rattle.mk_protocol.proofs.Known.{Known, known_at_first, known_behind}
 use Rattle.mk_protocol.proofs.OthersMoves.{WorldBehind}
@@ -36,7 +34,7 @@ use Rattle.mk_layout.specs.Terrain.{IsLaidOut}
 use Rattle.mk_layout.proofs.Before.{Before}
 use Rattle.mk_layout.proofs.ByKind.{fresh_cells}
 use Rattle.mk_layout.proofs.Freed.{freeing_leaves}
-use Rattle.mk_layout.proofs.Histories.{before, in_order_at_first, order_behind}
+use Rattle.mk_layout.proofs.Histories.{in_order_at_first, known_before, order_behind}
 use Rattle.mk_layout.proofs.QuarantineByKind.{frees_here}
 use Rattle.mk_layout.proofs.QuarantineChanges.{FreesHere, before_change}
 use Rattle.mk_layout.proofs.Released.{releasing_leaves}
@@ -114,7 +112,8 @@ record Tells (xs : List PlacedAllocation) (w : World) : Type 0 where
   longer : length xs ≤ length w.allocations
   flags : (i : ℕ) → (placed_at w.allocations i).released ≡ false → is_freed_before (placed_at w.allocations i) ≡ is_quarantined (placed_at xs i)
 
-tells_behind : (c : Config) (xs : List PlacedAllocation) (w : World) (seat : Seat) (x : Step) → Before c w → Meets c w.now seat x → IsLaidOut c w → IsQuarantined c w → is_begin x ≡ false
+tells_behind : (c : Config) (xs : List PlacedAllocation) (w : World) (seat : Seat) (x : Step) → Before c w → Meets c w.now seat x → IsLaidOut c w → IsQuarantined c w
+    → is_begin x ≡ false
     → Tells xs w → Tells xs (WorldBehind c w seat x)
 tells_behind c xs w seat x b h laid q out t =
     record {
@@ -155,7 +154,7 @@ record Along (c : Config) (w : World) (es : List Event) : Type 0 where
 along_next : (c : Config) (w : World) (e : Event) (es : List Event) → Along c w (e ∷ es) → Before c w × Meets c w.now e.seat e.step × Along c (world_behind c w e) es
 unfolding AreEnabledFrom OthersSayFrom
 along_next c w e es a = (
-  before c w a.limits a.lengths a.known a.others.0 a.order.quarantined,
+  known_before c w a.limits a.lengths a.known a.others.0 a.order.quarantined,
   enabled_meets c w.now e a.enabled.0,
   record {
     limits = a.limits;
@@ -191,7 +190,8 @@ after : (c : Config) (w : World) (e : Event) (behind : List Event) → Along c w
 unfolding left_from
 after c w e behind a is none =
     let n = along_next c w e behind a in
-    let t : Tells w.allocations (world_behind c w e) = subst (λ (x : Step). Tells w.allocations (WorldBehind c w e.seat x)) (sym (begin_is e.step is)) (tells_at_begin c w e.seat) in
+    let t : Tells w.allocations (world_behind c w e) =
+    subst (λ (x : Step). Tells w.allocations (WorldBehind c w e.seat x)) (sym (begin_is e.step is)) (tells_at_begin c w e.seat) in
     tells_from c w.allocations (world_behind c w e) behind n.2 none t
 
 pub snapshots_are_of_cycles : SnapshotsAreOfCycles

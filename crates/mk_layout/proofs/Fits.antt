@@ -5,8 +5,8 @@ use Rattle.std.proofs.lemmas.Bool.{cases_Bool, leb-false, leb-true}
 use Rattle.std.proofs.lemmas.Option.{get_or_from_slice_get, slice_get_within}
 use Rattle.mk_geom.specs.Classes.{cells_of}
 use Rattle.mk_geom.specs.Headers.{header_of, word_of}
-use Rattle.mk_geom.specs.PageUses.{is_free_page}
-use Rattle.mk_geom.specs.PageWords.{bits_of, use_under}
+use Rattle.mk_geom.specs.PageUses.{is_free_page, resident_pages}
+use Rattle.mk_geom.specs.PageWords.{bits_of, use_under, uses_of_pages}
 use Rattle.mk_geom.specs.Places.{MayTakeCell}
 use Rattle.mk_geom.specs.Storages.{block_header, free_page}
 use Rattle.mk_geom.specs.declared.headers.Header.{Header}
@@ -23,8 +23,9 @@ use Rattle.mk_core.proofs.Sizes.{class_for_small, large_pages, small_cells, smal
 use Rattle.mk_layout.specs.Scene.{header_on, shows_on, used_on}
 use Rattle.mk_books.proofs.UsedBitLemmas.{length-bits_of}
 
--- the pages of the place are free
-pub record FitsOnFreePages (pages : List Page) (o : Object) (place : Place) : Type 0 where
+-- the pages of the place are free, and so many more may be resident
+pub record FitsOnFreePages (limit : ℕ) (pages : List Page) (o : Object) (place : Place) : Type 0 where
+  pub room : resident_pages (uses_of_pages pages) + pages_made o ≤ limit
   pub index : place.index ≡ 0
   pub within : place.page + pages_made o ≤ length pages
   pub free : (d : ℕ) → d < pages_made o → header_on pages (place.page + d) ≡ 0
@@ -71,15 +72,17 @@ free_use : (h u : ℕ) → h ≡ 0 → is_free_page (use_under (header_of h) u) 
 free_use h u z = ap (λ n. is_free_page (use_under (header_of n) u)) z
 
 pub fits : (limit : ℕ) (pages : List Page) (o : Object) (place : Place) → IsSized o → place_on_pages limit pages o ≡ Some place
-    → FitsOnFreePages pages o place ⊎ FitsInBlock pages o place
+    → FitsOnFreePages limit pages o place ⊎ FitsInBlock pages o place
 fits limit pages o place sized at = elim (cases_Bool (is_small_object o)) [ inl s ↦ small s | inr l ↦ inl (large l) ]
   where
-    large : is_small_object o ≡ false → FitsOnFreePages pages o place
+    large : is_small_object o ≡ false → FitsOnFreePages limit pages o place
     large l =
         let is = run_place_is limit o.words o.leaf pages place (leb-false o.words 32 l) at in
         let count = large_pages o l in
         let within = is.free.within in
+        let room = is.has_room in
         record {
+          room = omega arith;
           index = is.index;
           within = omega arith;
           free = λ d lt.
@@ -87,7 +90,7 @@ fits limit pages o place sized at = elim (cases_Bool (is_small_object o)) [ inl 
               (is.free.free (place.page + d) free_page (omega arith) (omega arith));
         }
 
-    small : is_small_object o ≡ true → FitsOnFreePages pages o place ⊎ FitsInBlock pages o place
+    small : is_small_object o ≡ true → FitsOnFreePages limit pages o place ⊎ FitsInBlock pages o place
     small s =
         let class_is = class_for_small o.words sized.0 (leb-true o.words 32 s) in
         let is = cell_place_is limit o.words (class_made o) o.leaf pages place class_is at in
@@ -96,6 +99,7 @@ fits limit pages o place sized at = elim (cases_Bool (is_small_object o)) [ inl 
         let inside = slice_get_within pages place.page is.page is.at in
         elim (taken_from is.page.header is.page.used (class_made o) place.index o.leaf (header_of is.page.header) refl is.may_take) [
           | inl z ↦ inl (record {
+            room = let room = is.has_room (is.carves ∙ free_use is.page.header is.page.used z) in omega arith;
             index = is.carves_first (is.carves ∙ free_use is.page.header is.page.used z);
             within = omega arith;
             free = λ d lt.

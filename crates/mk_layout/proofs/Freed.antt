@@ -127,7 +127,8 @@ freed_terrain c o w cell limits len none own st = by (cases_Bool (is_small_objec
           leaves = freeing_leaves w.now.words (Some cell);
           keeps = keeps;
           headers = λ i u d ld has.
-              at (placed_at w.allocations i) d (header_at w.now.words ((placed_at w.allocations i).base / 64 + d)) (stands_in w.now.words cell (placed_at w.allocations i)) refl (going i u)
+              at (placed_at w.allocations i) d (header_at w.now.words ((placed_at w.allocations i).base / 64 + d)) (stands_in w.now.words cell (placed_at w.allocations i)) refl
+              (going i u)
               (subst (λ (r : Option RunPages). HasHeader (claim_of c r (placed_at w.allocations i)).mode (object_placed c (placed_at w.allocations i)) d (header_at w.now.words ((placed_at w.allocations i).base / 64 + d))) none has);
         }
       where
@@ -157,7 +158,8 @@ freed_terrain c o w cell limits len none own st = by (cases_Bool (is_small_objec
     by (inr large) =
         let run : RunPages = record { page = cell.page; count = pages_made (object_placed c a) } in
         let is_run = run_large (object_placed c a) (header_in w.now.words cell.page) cell.page part large in
-        subst (λ (r : Option RunPages). Laid c o false w (record (terrain_of w) { run = r; allocations = map (freed_where_it_stands w.now.words (Some cell)) w.allocations })) (sym is_run)
+        subst (λ (r : Option RunPages). Laid c o false w (record (terrain_of w) { run = r; allocations = map (freed_where_it_stands w.now.words (Some cell)) w.allocations }))
+        (sym is_run)
         (remoded c o false w.now.words.marks (terrain_of w) (Some run) (freed_where_it_stands w.now.words (Some cell)) st
         (modes (Some run) (λ i u h l. eq-eqb cell.page ((placed_at w.allocations i).base / 64) (sym (ap (λ (x : Cell). x.page) (cell_of i u h))))) (claimed_run run refl refl large))
       where
@@ -172,7 +174,8 @@ freed_terrain c o w cell limits len none own st = by (cases_Bool (is_small_objec
             let same : freed_where_it_stands w.now.words (Some cell) a ≡ freed = cond-true (stands_in w.now.words cell a) freed a in_cell in
             record {
               claim = claim_of c (Some run) freed;
-              among = subst (λ (z : PlacedAllocation). Among (claim_of c (Some run) z) (claims_of c (Some run) (map (freed_where_it_stands w.now.words (Some cell)) w.allocations))) same
+              among =
+                  subst (λ (z : PlacedAllocation). Among (claim_of c (Some run) z) (claims_of c (Some run) (map (freed_where_it_stands w.now.words (Some cell)) w.allocations))) same
                   (changed_among c (Some run) (freed_where_it_stands w.now.words (Some cell)) w.allocations own.number (freeing_leaves w.now.words (Some cell)) (keeps a own.unreleased));
               page = page ∙ sym at_page;
               count = sym count;
@@ -227,7 +230,8 @@ gone_terrain c o releasing w unmapped st =
         let near : d < run.count = omega arith in (
           large,
           ap (λ p. header_at w.now.words (p + d)) (sym page)
-              ∙ eqb-true (header_at w.now.words (run.page + d)) (unmapped_header run.count d) (all_below-at run.count d (stands w.now.words run.page (unmapped_header run.count)) (unmapped run is) near)
+              ∙ eqb-true (header_at w.now.words (run.page + d)) (unmapped_header run.count d)
+              (all_below-at run.count d (stands w.now.words run.page (unmapped_header run.count)) (unmapped run is) near)
               ∙ ap (λ n. unmapped_header n d) (sym count),
         ))
         (subst (λ (x : Option RunPages). HasHeader (claim_of c x a).mode ob d h) is has)

@@ -10,7 +10,6 @@ use Rattle.mk_core.specs.declared.config.Config.{Config}
 use Rattle.mk_core.specs.declared.seats.Placing.{Placing}
 use Rattle.mk_core.specs.declared.seats.Placing.TheVariants.{Granted, Used}
 use Rattle.mk_core.specs.declared.seats.RunPages.{RunPages}
-use Rattle.mk_core.proofs.Schedules.{by}
 use Rattle.mk_core.proofs.StandingAllocations.{made_begins}
 use Rattle.mk_layout.specs.Scene.{Among, Claim, IsLaidOn, IsShown, NoPlot}
 use Rattle.mk_layout.specs.Terrain.{HasLayout, IsAtCell, RunStands, Terrain, claim_of, claims_of, is_unmapping, mode_of, place_claim, scene_of}
@@ -103,7 +102,9 @@ granted_terrain c releasing marks t place a used is st =
     gone (Some r) x =
         record {
           claim = x.claim;
-          among = subst (λ (cs : List Claim). Among x.claim cs) (sym (pushed_claims c t.run t.allocations a is.unreleased)) (among_front (claims_of c t.run t.allocations) (claim_of c t.run a ∷ []) x.claim x.among);
+          among =
+              subst (λ (cs : List Claim). Among x.claim cs) (sym (pushed_claims c t.run t.allocations a is.unreleased))
+              (among_front (claims_of c t.run t.allocations) (claim_of c t.run a ∷ []) x.claim x.among);
           page = x.page;
           count = x.count;
           large = x.large;

@@ -228,7 +228,8 @@ block_words c w xs i p r u small at =
             let same = alike_at c w xs i j p r u y.unreleased small at page in
             let first : (placed_at xs j).base % 64 ≡ n * class_words_of (class_made (object_placed c (placed_at xs i))) =
             begins_at j y.unreleased same.0 same.1 ∙ ap (λ m. m * class_words_of (class_made (object_placed c (placed_at xs i)))) index in
-            cell_taken_from p (class_words_of (class_made (object_placed c (placed_at xs i)))) n (unreleased_storage c xs) (storage_of c (placed_at xs j)) (has_its_storage c xs j y.unreleased) (omega arith)
+            cell_taken_from p (class_words_of (class_made (object_placed c (placed_at xs i)))) n (unreleased_storage c xs) (storage_of c (placed_at xs j))
+            (has_its_storage c xs j y.unreleased) (omega arith)
 
     back : (n : ℕ) → n < cells_of (class_made (object_placed c (placed_at xs i)))
         → is_cell_taken (unreleased_storage c xs) p (class_words_of (class_made (object_placed c (placed_at xs i)))) n ≡ true → has_bit (used_at w p) n ≡ true

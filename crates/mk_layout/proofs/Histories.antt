@@ -1,14 +1,16 @@
 -- All is in order behind every list of enabled events.
 use Rattle.std.proofs.Common.{Bool, List, [], ap, arith, false, refl, subst, sym, true, ℕ, ◌∙◌, ◌∷◌, ◌≡◌}
-use Rattle.std.specs.Prelude.{Some, replicate, slice_index, slice_index_or}
+use Rattle.std.specs.Prelude.{Some, replicate, slice_index, slice_index_or, ◌||◌}
 use Rattle.std.proofs.lemmas.Bool.{true≢false}
-use Rattle.mk_geom.specs.Headers.{header_of}
+use Rattle.mk_geom.specs.Headers.{IsHeaderWord, header_of}
+use Rattle.mk_geom.specs.PageUses.{is_resident_page}
+use Rattle.mk_geom.specs.PageWords.{use_of_page}
 use Rattle.mk_geom.specs.Storages.{free_page}
 use Rattle.mk_geom.specs.declared.headers.Header.TheVariants.{Later}
 use Rattle.mk_geom.specs.declared.pages.Page.{Page}
 use Rattle.mk_core.specs.Accesses.{access, reached}
+use Rattle.mk_core.specs.Cells.{heads_run}
 use Rattle.mk_core.specs.Config.{IsWithinLimits}
-use Rattle.mk_core.specs.Effects.{taken}
 use Rattle.mk_core.specs.Enabled.{IsEnabled}
 use Rattle.mk_core.specs.History.{AreEnabledFrom, World, first_world, left, left_from, world_behind}
 use Rattle.mk_core.specs.Layout.{AreOfPages}
@@ -20,22 +22,27 @@ use Rattle.mk_core.specs.declared.events.Step.{Step}
 use Rattle.mk_core.proofs.Conditions.{enabled_meets}
 use Rattle.mk_core.proofs.EvaluatedHistories.{enabled}
 use Rattle.mk_core.proofs.Lengths.{accessed_lengths, histories_keep_lengths, zero_lengths}
-use Rattle.mk_core.proofs.SmallCycles.{small}
 use Rattle.mk_protocol.proofs.Actors.{Meets}
-use Rattle.mk_protocol.proofs.Kept.{kept}
 use Rattle.mk_protocol.proofs.Known.{Known, known_at_first, known_behind, known_left}
 use Rattle.mk_protocol.proofs.OthersMoves.{WorldBehind}
 use Rattle.mk_protocol.proofs.OrderlyLists.{at_first}
-use Rattle.mk_layout.specs.LayoutLaws.{EventsKeepTheLayout, HistoriesAreLaidOut, OthersSay, OthersSayFrom, StandsInOrder}
+use Rattle.mk_layout.specs.LayoutLaws.{EventsKeepTheLayout, FewPagesAreResident, HistoriesAreLaidOut, OthersSay, OthersSayFrom, PagesHaveHeaderWords, StandsInOrder}
 use Rattle.mk_layout.specs.Quarantine.{HasQuarantine, IsQuarantined}
+use Rattle.mk_layout.specs.Room.{is_taken_page}
+use Rattle.mk_layout.specs.Scene.{NoPlot}
 use Rattle.mk_layout.specs.Terrain.{IsLaidOut, object_now, terrain_of}
 use Rattle.mk_layout.proofs.Before.{Before, is_releasing_behind}
 use Rattle.mk_layout.proofs.Behind.{layout_behind, phase_kind, releasing_marks}
+use Rattle.mk_layout.proofs.Counts.{count_none}
+use Rattle.mk_layout.proofs.HeaderWords.{words_behind}
 use Rattle.mk_layout.proofs.KnownCells.{cells_known_behind}
 use Rattle.mk_layout.proofs.QuarantineByKind.{quarantine_by_kind}
 use Rattle.mk_layout.proofs.QuarantineSteps.{none_released, unmarked}
 use Rattle.mk_layout.proofs.Readings.{none_set}
+use Rattle.mk_layout.proofs.ResidentPages.{resident_few}
+use Rattle.mk_layout.proofs.Rooms.{room_behind}
 use Rattle.mk_layout.proofs.SnapshotKinds.{snapshot_behind}
+use Rattle.mk_layout.proofs.WholeRuns.{whole_behind}
 
 laid_at_first : (c : Config) → IsLaidOut c (first_world c)
 laid_at_first c =
@@ -78,10 +85,16 @@ in_order_at_first c =
       quarantined = quarantined_at_first c;
       known = λ p k h. absurd (none_set (slice_index (replicate c.pages 0) p) k (at_first c.pages p 0) h);
       snapshot = record { fresh = λ i f. absurd (true≢false (sym f)); quarantined = λ on. absurd (true≢false (sym on)) };
+      words = λ p. subst (λ (x : Page). IsHeaderWord x.header) (sym (at_first c.pages p free_page)) refl;
+      runs = λ p h. absurd (true≢false (sym h ∙ ap (λ (x : Page). heads_run (header_of x.header)) (at_first c.pages p free_page)));
+      room = let none = count_none c.pages (is_taken_page (replicate c.pages free_page) NoPlot) (λ p. free p) in omega arith;
     }
+  where
+    free : (p : ℕ) → is_taken_page (replicate c.pages free_page) NoPlot p ≡ false
+    free p = ap (λ (x : Page). is_resident_page (use_of_page x) || false) (at_first c.pages p free_page)
 
-pub before : (c : Config) (w : World) → IsWithinLimits c → AreOfPages c.pages w.now.words → Known c w.now → OthersSay c w → IsQuarantined c w → Before c w
-before c w limits lengths known others q =
+pub known_before : (c : Config) (w : World) → IsWithinLimits c → AreOfPages c.pages w.now.words → Known c w.now → OthersSay c w → IsQuarantined c w → Before c w
+known_before c w limits lengths known others q =
     record {
       limits = limits;
       lengths = lengths;
@@ -107,7 +120,7 @@ pub order_behind : (c : Config) (w : World) (e : Event) → IsWithinLimits c →
     → StandsInOrder c w → StandsInOrder c (world_behind c w e)
 order_behind c w e limits lengths known on others all =
     let h = enabled_meets c w.now e on in
-    let b = before c w limits lengths known others all.quarantined in
+    let b = known_before c w limits lengths known others all.quarantined in
     let laid = layout_behind c w e.seat e.step b h all.laid in
     let quarantined = quarantine_behind c w e.seat e.step b h all.laid all.quarantined in
     record {
@@ -115,6 +128,9 @@ order_behind c w e limits lengths known on others all =
       quarantined = quarantined;
       known = cells_known_behind c w e.seat e.step b h all.known laid quarantined;
       snapshot = snapshot_behind c w e.seat e.step b h all.laid all.quarantined all.snapshot;
+      runs = whole_behind c w e.seat e.step b h all.runs laid;
+      words = words_behind c w e.seat e.step b h all.laid all.words;
+      room = room_behind c w e.seat e.step b h all.laid all.room;
     }
 
 pub events_keep_the_layout : EventsKeepTheLayout
@@ -126,9 +142,17 @@ order_from : (c : Config) (w : World) (es : List Event) → IsWithinLimits c →
 unfolding left_from AreEnabledFrom OthersSayFrom
 order_from c w [] limits lengths known on others both = both
 order_from c w (e ∷ es) limits lengths known on others both =
-    order_from c (world_behind c w e) es limits (accessed_lengths c.pages w.now.words (reached c w.now e) (access c w.now e) lengths) (known_behind c w.now e known on.0) on.1 others.1
+    order_from c (world_behind c w e) es limits (accessed_lengths c.pages w.now.words (reached c w.now e) (access c w.now e) lengths)
+    (known_behind c w.now e known on.0) on.1 others.1
     (order_behind c w e limits lengths known on.0 others.0 both)
 
 pub histories_are_laid_out : HistoriesAreLaidOut
 histories_are_laid_out c es limits on others =
     order_from c (first_world c) es limits (zero_lengths c.pages) (known_at_first c limits) on others (in_order_at_first c)
+
+pub pages_have_header_words : PagesHaveHeaderWords
+pages_have_header_words c es limits on others = (histories_are_laid_out c es limits on others).words
+
+pub few_pages_are_resident : FewPagesAreResident
+few_pages_are_resident c es limits on others =
+    resident_few c (left c es) (histories_keep_lengths c es).pages (histories_are_laid_out c es limits on others).room

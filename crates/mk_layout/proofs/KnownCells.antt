@@ -8,7 +8,6 @@ use Rattle.mk_geom.specs.declared.addresses.Cell.{Cell}
 use Rattle.mk_geom.specs.declared.headers.Header.{Header}
 use Rattle.mk_geom.specs.declared.headers.Header.TheVariants.{Later}
 use Rattle.mk_geom.specs.declared.pages.Page.{Page}
-use Rattle.mk_core.specs.Accesses.{caller_number, reg_access, register_met}
 use Rattle.mk_core.specs.Allocations.{PlacedAllocation, cell_of_allocation, placed_at}
 use Rattle.mk_core.specs.Bits.{has_bit}
 use Rattle.mk_core.specs.Cells.{cells_under, header_in}
@@ -23,14 +22,13 @@ use Rattle.mk_core.specs.declared.events.Step.TheVariants as step
 use Rattle.mk_core.specs.declared.seats.Flight.{Flight}
 use Rattle.mk_core.proofs.BitsWithout.{has_bit_without}
 use Rattle.mk_core.proofs.PageSteps.{Empties, HeadStep, ItCarves, ItDrops, ItEmpties, ItFrees, ItTakesSnapshot, ItUnmaps, QuarantineStep, head_step, quarantine_step}
-use Rattle.mk_core.proofs.Schedules.{by}
 use Rattle.mk_protocol.proofs.Actors.{Meets}
-use Rattle.mk_protocol.proofs.Ground.{reg_ground, tally_ground}
+use Rattle.mk_protocol.proofs.Ground.{tally_ground}
 use Rattle.mk_protocol.proofs.OthersMoves.{WorldBehind}
 use Rattle.mk_layout.specs.Quarantine.{FreedCellsAreKnown, IsQuarantined}
 use Rattle.mk_layout.specs.Scene.{is_released_in, shows_on}
 use Rattle.mk_layout.specs.Terrain.{IsLaidOut, claim_of, object_now, scene_of, terrain_of}
-use Rattle.mk_layout.proofs.Before.{Before, is_releasing_behind, page_within}
+use Rattle.mk_layout.proofs.Before.{Before, is_releasing_behind, page_within, reg_leaves_ground}
 use Rattle.mk_layout.proofs.Behind.{phase_kind}
 use Rattle.mk_layout.proofs.ByKind.{off_at}
 use Rattle.mk_layout.proofs.PageSets.{headed_other, used_header, with_header_on}
@@ -96,17 +94,21 @@ quar_kind c w f p n lf four (ItDrops on x) known = λ q k h. elim (bit_cases w.n
 -- what each kind does while the phase is releasing, and where it becomes so
 known_by_kind : (c : Config) (w : World) (seat : Seat) (x : Step) → Before c w → Meets c w.now seat x → is_releasing_behind x (is_phase w.now.words 4) ≡ true → FreedCellsAreKnown w
     → KnownOn (WorldBehind c w seat x).now.words.pages (WorldBehind c w seat x).now.words.freed
-known_by_kind c w seat (step.Head p n) b h on known = head_kind c w (flight_of w.now seat) p n (page_within c w p b h.range) on (head_step c w.now (flight_of w.now seat) p n h.holder) known
-known_by_kind c w seat (step.Used p n) b h on known = λ q k bit. subst (λ v. k < cells_under (header_of v)) (sym (used_header w.now.words.pages p n q (page_within c w p b h.range))) (known q k bit)
+known_by_kind c w seat (step.Head p n) b h on known =
+    head_kind c w (flight_of w.now seat) p n (page_within c w p b h.range) on (head_step c w.now (flight_of w.now seat) p n h.holder) known
+known_by_kind c w seat (step.Used p n) b h on known =
+    λ q k bit. subst (λ v. k < cells_under (header_of v)) (sym (used_header w.now.words.pages p n q (page_within c w p b h.range))) (known q k bit)
 known_by_kind c w seat (step.Quar p n) b h on known =
     quar_kind c w (flight_of w.now seat) p n (let lt = ltb-true p c.pages h.range in let len = b.lengths.freed in omega arith) on
     (quarantine_step c w.now (flight_of w.now seat) p n h.holder) known
 known_by_kind c w seat step.Reg b h on known =
-    let g = reg_ground w.now.words (caller_number seat) (register_met (flight_of w.now seat) (flight_of w.now seat).stage) (reg_access (flight_of w.now seat) (flight_of w.now seat).stage) in
+    let g =
+    reg_leaves_ground c w seat in
     subst (λ (ps : List Page). KnownOn ps (WorldBehind c w seat step.Reg).now.words.freed) (sym g.pages) (subst (λ (fs : List ℕ). KnownOn w.now.words.pages fs) (sym g.freed) known)
 known_by_kind c w seat (step.Tally n v) b h on known =
     let g = tally_ground w.now.words n v in
-    subst (λ (ps : List Page). KnownOn ps (WorldBehind c w seat (step.Tally n v)).now.words.freed) (sym g.pages) (subst (λ (fs : List ℕ). KnownOn w.now.words.pages fs) (sym g.freed) known)
+    subst (λ (ps : List Page). KnownOn ps (WorldBehind c w seat (step.Tally n v)).now.words.freed) (sym g.pages)
+    (subst (λ (fs : List ℕ). KnownOn w.now.words.pages fs) (sym g.freed) known)
 known_by_kind c w seat _ b h on known = known
 
 pub cells_known_behind : (c : Config) (w : World) (seat : Seat) (x : Step) → Before c w → Meets c w.now seat x → FreedCellsAreKnown w

@@ -24,7 +24,14 @@ pub mod QuarantineChanges
 pub mod QuarantineByKind
 pub mod KnownCells
 pub mod OneCell
+pub mod Cycling
+pub mod SnapshotFrees
 pub mod SnapshotKinds
+pub mod HeaderWords
+pub mod Counts
+pub mod ResidentPages
+pub mod Rooms
+pub mod WholeRuns
 pub mod Histories
 pub mod CycleSnapshots
 pub mod Apart

@@ -16,7 +16,7 @@ use Rattle.mk_layout.proofs.Readings.{claimed, zero_where_none}
 use Rattle.mk_layout.proofs.RunCounts.{part_count, small_count}
 
 -- a bit below a bound, or none
-find_bit : (n bound : ℕ) → ((k : ℕ) × (has_bit n k ≡ true)) ⊎ ((k : ℕ) → k < bound → has_bit n k ≡ false)
+pub find_bit : (n bound : ℕ) → ((k : ℕ) × (has_bit n k ≡ true)) ⊎ ((k : ℕ) → k < bound → has_bit n k ≡ false)
 find_bit n zero = inr (λ k lt. absurd (omega arith))
 find_bit n (suc b) = elim (cases_Bool (has_bit n b)) [
   | inl is ↦ inl (b, is)

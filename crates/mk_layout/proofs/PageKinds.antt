@@ -35,7 +35,7 @@ use Rattle.mk_layout.proofs.PageSets.{with_header_on, with_used_on}
 use Rattle.mk_layout.proofs.Serving.{Laid, head_carves, head_empties, head_unmaps, used_gives_back, used_takes}
 
 -- `head`
-none_chosen : (placing : Placing) → chosen placing None ≡ placing
+pub none_chosen : (placing : Placing) → chosen placing None ≡ placing
 none_chosen Unplaced = refl
 none_chosen _ = refl
 
@@ -121,33 +121,38 @@ Quarantined w p n cell =
       allocations = map (freed_where_it_stands w.now.words cell) w.allocations;
     }
 
+-- with another quarantine word of a page
+abbrev pub with_halves : World → ℕ → ℕ → Terrain
+with_halves w p n =
+    record (terrain_of w) { freed = slice_set w.now.words.freed p (n % 2 ^ 32); snapshot = slice_set w.now.words.snapshot p (n / 2 ^ 32) }
+
 first_of_two : {A : Type 0} (x y : Option A) → y ≡ None → x ≡ or_else x y
 first_of_two None y e = sym e
 first_of_two (Some r) y e = refl
 
 -- where none is freed, the allocations are as they were
 left_by : (c : Config) (w : World) (f : Flight) (p n : ℕ) → IsLaidOut c w → QuarantineStep c w.now f p n
-    → LaidNow c w (record (terrain_of w) { freed = slice_set w.now.words.freed p (n % 2 ^ 32); snapshot = slice_set w.now.words.snapshot p (n / 2 ^ 32) })
+    → LaidNow c w (with_halves w p n)
 left_by c w f p n laid step = by step
   where
     still : is_phase w.now.words 4 ≡ false
-        → LaidNow c w (record (terrain_of w) { freed = slice_set w.now.words.freed p (n % 2 ^ 32); snapshot = slice_set w.now.words.snapshot p (n / 2 ^ 32) })
+        → LaidNow c w (with_halves w p n)
     still off =
         subst
-        (λ four. Laid c (object_now c w.now) four w (record (terrain_of w) { freed = slice_set w.now.words.freed p (n % 2 ^ 32); snapshot = slice_set w.now.words.snapshot p (n / 2 ^ 32) }))
+        (λ four. Laid c (object_now c w.now) four w (with_halves w p n))
         (sym off)
         (unreleasing c (object_now c w.now) w.now.words.marks w.now.words.marks (terrain_of w) (slice_set w.now.words.freed p (n % 2 ^ 32)) (slice_set w.now.words.snapshot p (n / 2 ^ 32))
         (subst (λ four. Laid c (object_now c w.now) four w (terrain_of w)) off laid))
 
     by : QuarantineStep c w.now f p n
-        → LaidNow c w (record (terrain_of w) { freed = slice_set w.now.words.freed p (n % 2 ^ 32); snapshot = slice_set w.now.words.snapshot p (n / 2 ^ 32) })
+        → LaidNow c w (with_halves w p n)
     by (ItFrees off x) = still off
     by (ItTakesSnapshot x) =
         let z = eqb-true (phase_of w.now.words) 0 x.phase in
         still (ne_eqb (phase_of w.now.words) 4 (λ e. absurd (omega arith)))
     by (ItDrops on x) =
         subst
-        (λ four. Laid c (object_now c w.now) four w (record (terrain_of w) { freed = slice_set w.now.words.freed p (n % 2 ^ 32); snapshot = slice_set w.now.words.snapshot p (n / 2 ^ 32) }))
+        (λ four. Laid c (object_now c w.now) four w (with_halves w p n))
         (sym on)
         (refreed c (object_now c w.now) true w.now.words.marks (record (terrain_of w) { snapshot = slice_set w.now.words.snapshot p (n / 2 ^ 32) }) (slice_set w.now.words.freed p (n % 2 ^ 32))
         (dropped c (object_now c w.now) w p (n % 2 ^ 32) (n / 2 ^ 32) (subst (λ four. Laid c (object_now c w.now) four w (terrain_of w)) on laid) x))
@@ -159,7 +164,7 @@ quar_kind c w seat p n b h laid = by (cell_freed c.pages w.now.words (flight_of 
     by : (cell : Option Cell) → cell_freed c.pages w.now.words (flight_of w.now seat) p n ≡ cell → LaidNow c w (Quarantined w p n cell)
     by None is =
         subst
-        (λ (xs : List PlacedAllocation). LaidNow c w (record (terrain_of w) { freed = slice_set w.now.words.freed p (n % 2 ^ 32); snapshot = slice_set w.now.words.snapshot p (n / 2 ^ 32); allocations = xs }))
+        (λ (xs : List PlacedAllocation). LaidNow c w (record (with_halves w p n) { allocations = xs }))
         (sym (none_freed w.now.words w.allocations))
         (left_by c w (flight_of w.now seat) p n laid (quarantine_step c w.now (flight_of w.now seat) p n h.holder))
     by (Some cell) is =

@@ -166,7 +166,9 @@ layout_taken s x n laid t =
         | inl was ↦ grown y (laid.shown y was)
         | inr e ↦ subst (λ (c : Claim). IsShown (with_used_on s.pages x.page n) c) (sym e) own
       ];
-      apart = apart_push s.claims x laid.apart (λ y i same. true≢false (sym (laid.shown y i).used ∙ ap (λ p. has_bit (used_on s.pages p) y.index) same.0 ∙ ap (λ k. has_bit (used_on s.pages x.page) k) same.1 ∙ t.unset));
+      apart =
+          apart_push s.claims x laid.apart
+          (λ y i same. true≢false (sym (laid.shown y i).used ∙ ap (λ p. has_bit (used_on s.pages p) y.index) same.0 ∙ ap (λ k. has_bit (used_on s.pages x.page) k) same.1 ∙ t.unset));
       used = used;
       plot = tt;
       occupied = λ q some empty. elim (laid.occupied q (λ z. some (used_header s.pages x.page n q lt ∙ z)) (unused q empty)) [
@@ -216,7 +218,9 @@ layout_taken s x n laid t =
           sized = t.sized;
           known = t.index;
           within = let l = len in let w = t.within in omega arith;
-          headers = λ d ld. subst (λ m. HasHeader m x.object d (header_on (with_used_on s.pages x.page n) (x.page + d))) (sym t.mapped) (used_header s.pages x.page n (x.page + d) lt ∙ t.headers d ld);
+          headers =
+              λ d ld. subst (λ m. HasHeader m x.object d (header_on (with_used_on s.pages x.page n) (x.page + d))) (sym t.mapped)
+              (used_header s.pages x.page n (x.page + d) lt ∙ t.headers d ld);
           used = here_set;
         }
 
@@ -232,7 +236,8 @@ layout_taken s x n laid t =
       | inl at ↦
           let inside = t.index in
           let cells = cells_here in (
-            subst (λ c. k < c) (sym (ap (λ h. cells_under (header_of h)) (used_header s.pages x.page n p lt) ∙ ap (λ i. cells_under (shows_on s.pages i)) at.0 ∙ cells)) (let e = at.1 in omega arith),
+            subst (λ c. k < c) (sym (ap (λ h. cells_under (header_of h)) (used_header s.pages x.page n p lt) ∙ ap (λ i. cells_under (shows_on s.pages i)) at.0 ∙ cells))
+                (let e = at.1 in omega arith),
             inl (record { claim = x; among = among_last s.claims x; page = sym at.0; index = sym at.1 }),
           )
       | inr other ↦
@@ -252,7 +257,8 @@ layout_taken s x n laid t =
     unused : (q : ℕ) → used_on (with_used_on s.pages x.page n) (head_on (with_used_on s.pages x.page n) q) ≡ 0 → used_on s.pages (head_on s.pages q) ≡ 0
     unused q empty =
         let head : head_on (with_used_on s.pages x.page n) q ≡ head_on s.pages q = ap (λ h. head_page_under (header_of h) q) (used_header s.pages x.page n q lt) in
-        zero_where_none (used_on s.pages (head_on s.pages q)) (λ k h. none_set (used_on (with_used_on s.pages x.page n) (head_on s.pages q)) k (ap (λ i. used_on (with_used_on s.pages x.page n) i) (sym head) ∙ empty) (grow (head_on s.pages q) k h))
+        zero_where_none (used_on s.pages (head_on s.pages q))
+        (λ k h. none_set (used_on (with_used_on s.pages x.page n) (head_on s.pages q)) k (ap (λ i. used_on (with_used_on s.pages x.page n) i) (sym head) ∙ empty) (grow (head_on s.pages q) k h))
 
     -- a page of the place has its head's bit now
     full : (q : ℕ) → InPlot (Plotted x.page x.object) q → used_on (with_used_on s.pages x.page n) (head_on (with_used_on s.pages x.page n) q) ≡ 0 → ⊥

@@ -8,13 +8,13 @@ use Rattle.mk_geom.specs.PageUses.{or_else}
 use Rattle.mk_geom.specs.declared.addresses.Cell.{Cell}
 use Rattle.mk_geom.specs.declared.pages.Page.{Page}
 use Rattle.mk_geom.specs.declared.pages.Place.{Place}
-use Rattle.mk_core.specs.Accesses.{caller_number, found, reg_access, register_met}
+use Rattle.mk_core.specs.Accesses.{found}
 use Rattle.mk_core.specs.Allocations.{PlacedAllocation, cell_of_allocation, granted, placed_at, stands_in}
 use Rattle.mk_core.specs.Bits.{has_bit}
 use Rattle.mk_core.specs.Effects.{chosen, run_of_cell, taken}
 use Rattle.mk_core.specs.History.{World}
 use Rattle.mk_core.specs.Moments.{flight_of, is_phase, nothing_done}
-use Rattle.mk_core.specs.NewPlaces.{is_undecided_free, is_undecided_new, object_made, stands, target}
+use Rattle.mk_core.specs.NewPlaces.{is_undecided_free, is_undecided_new, object_made, target}
 use Rattle.mk_core.specs.StandingAllocations.{object_placed}
 use Rattle.mk_core.specs.StopConditions.{marks_place, may_end}
 use Rattle.mk_core.specs.TurnConditions.{cell_freed, frees, place_now}
@@ -32,22 +32,20 @@ use Rattle.mk_core.proofs.ChangedAllocations.{none_freed}
 use Rattle.mk_core.proofs.EvaluatedPlaces.{full}
 use Rattle.mk_core.proofs.PageSteps.{ItDrops, ItFrees, ItGivesBack, ItTakes, ItTakesSnapshot, QuarantineStep, UsedStep, quarantine_step, used_step}
 use Rattle.mk_core.proofs.PlacesNow.{FreesCell, chosen_used, freed_cell, undecided_free, undecided_new}
-use Rattle.mk_core.proofs.Schedules.{by}
-use Rattle.mk_core.proofs.SmallCycles.{small}
 use Rattle.mk_protocol.specs.Protocol.{has_place}
 use Rattle.mk_protocol.proofs.Actors.{Meets}
-use Rattle.mk_protocol.proofs.Ground.{KeepsGround, reg_ground, tally_ground}
+use Rattle.mk_protocol.proofs.Ground.{KeepsGround, tally_ground}
 use Rattle.mk_protocol.proofs.OthersMoves.{WorldBehind}
 use Rattle.mk_layout.specs.Quarantine.{HasQuarantine, IsQuarantined}
 use Rattle.mk_layout.specs.Scene.{Claim, IsShown, is_released_in}
 use Rattle.mk_layout.specs.Terrain.{IsLaidOut, Terrain, claim_of, object_now, terrain_of}
-use Rattle.mk_layout.proofs.Before.{Before, is_releasing_behind}
+use Rattle.mk_layout.proofs.Before.{Before, is_releasing_behind, reg_leaves_ground}
 use Rattle.mk_layout.proofs.ByKind.{off_at}
 use Rattle.mk_layout.proofs.Claims.{claim_among}
 use Rattle.mk_layout.proofs.Dropped.{settled_page}
 use Rattle.mk_layout.proofs.Freed.{standing_cell}
 use Rattle.mk_layout.proofs.Holders.{free_has_turn, placed_undecided}
-use Rattle.mk_layout.proofs.PageKinds.{Quarantined}
+use Rattle.mk_layout.proofs.PageKinds.{Quarantined, with_halves}
 use Rattle.mk_layout.proofs.QuarantineChanges.{FreesHere, begin_kept, free_kept, grant_kept, index_small, release_kept}
 use Rattle.mk_layout.proofs.QuarantineSteps.{drop_kept, end_kept, released_bits, replaced, snapshot_kept, take_kept}
 use Rattle.mk_layout.proofs.Readings.{none_set}
@@ -90,10 +88,10 @@ not_both f new free =
 
 quar_none : (c : Config) (w : World) (f : Flight) (p n : ℕ) → p < length w.now.words.freed → p < length w.now.words.snapshot → cell_freed c.pages w.now.words f p n ≡ None
     → QuarantineStep c w.now f p n → IsQuarantined c w
-    → QuarantinedNow c w (record (terrain_of w) { freed = slice_set w.now.words.freed p (n % 2 ^ 32); snapshot = slice_set w.now.words.snapshot p (n / 2 ^ 32) })
+    → QuarantinedNow c w (with_halves w p n)
 quar_none c w f p n lf ls none (ItFrees off x) q = absurd (frees_some c.pages w.now.words f p n off x none)
 quar_none c w f p n lf ls none (ItDrops on x) q =
-    subst (λ four. QuarantinedAs c four w (record (terrain_of w) { freed = slice_set w.now.words.freed p (n % 2 ^ 32); snapshot = slice_set w.now.words.snapshot p (n / 2 ^ 32) })) (sym on)
+    subst (λ four. QuarantinedAs c four w (with_halves w p n)) (sym on)
     (drop_kept c w p (n % 2 ^ 32) (n / 2 ^ 32) lf ls (subst (λ four. QuarantinedAs c four w (terrain_of w)) on q) x)
 quar_none c w f p n lf ls none (ItTakesSnapshot x) q =
     let value = x.is in
@@ -102,7 +100,7 @@ quar_none c w f p n lf ls none (ItTakesSnapshot x) q =
     let high : n / 2 ^ 32 ≡ slice_index w.now.words.freed p = omega arith in
     let same : slice_set w.now.words.freed p (n % 2 ^ 32) ≡ w.now.words.freed = ap (λ v. slice_set w.now.words.freed p v) low ∙ set-get_or w.now.words.freed p 0 in
     let off = off_at w 0 x.phase (λ e. absurd (omega arith)) in
-    subst (λ four. QuarantinedAs c four w (record (terrain_of w) { freed = slice_set w.now.words.freed p (n % 2 ^ 32); snapshot = slice_set w.now.words.snapshot p (n / 2 ^ 32) })) (sym off)
+    subst (λ four. QuarantinedAs c four w (with_halves w p n)) (sym off)
     (subst (λ (fs : List ℕ). QuarantinedAs c false w (record (terrain_of w) { freed = fs; snapshot = slice_set w.now.words.snapshot p (n / 2 ^ 32) })) (sym same)
     (subst (λ v. QuarantinedAs c false w (record (terrain_of w) { snapshot = slice_set w.now.words.snapshot p v })) (sym high)
     (snapshot_kept c w.now.words.marks (terrain_of w) p ls (subst (λ four. QuarantinedAs c four w (terrain_of w)) off q))))
@@ -148,7 +146,7 @@ quar_kept c w seat p n b h laid q = by (cell_freed c.pages w.now.words (flight_o
     by : (cell : Option Cell) → cell_freed c.pages w.now.words (flight_of w.now seat) p n ≡ cell → QuarantinedNow c w (Quarantined w p n cell)
     by None is =
         subst
-        (λ (xs : List PlacedAllocation). QuarantinedNow c w (record (terrain_of w) { freed = slice_set w.now.words.freed p (n % 2 ^ 32); snapshot = slice_set w.now.words.snapshot p (n / 2 ^ 32); allocations = xs }))
+        (λ (xs : List PlacedAllocation). QuarantinedNow c w (record (with_halves w p n) { allocations = xs }))
         (sym (none_freed w.now.words w.allocations))
         (quar_none c w (flight_of w.now seat) p n lf ls is (quarantine_step c w.now (flight_of w.now seat) p n h.holder) q)
     by (Some cell) is =
@@ -221,7 +219,7 @@ quarantine_by_kind c w seat step.Give b h laid q =
     replaced c (is_phase w.now.words 4) w.now.words.marks (terrain_of w) w.now.words.pages Unplaced None (λ place e. cc) q
 quarantine_by_kind c w seat step.Reg b h laid q =
     kept_ground c w _
-    (reg_ground w.now.words (caller_number seat) (register_met (flight_of w.now seat) (flight_of w.now seat).stage) (reg_access (flight_of w.now seat) (flight_of w.now seat).stage)) q
+    (reg_leaves_ground c w seat) q
 quarantine_by_kind c w seat (step.Tally n v) b h laid q = kept_ground c w _ (tally_ground w.now.words n v) q
 quarantine_by_kind c w seat (step.Head p n) b h laid q =
     replaced c (is_phase w.now.words 4) w.now.words.marks (terrain_of w) _ _ w.now.seats.holding.freed

@@ -9,12 +9,9 @@ use Rattle.mk_geom.specs.declared.addresses.Cell.{Cell}
 use Rattle.mk_geom.proofs.ClassTable.{cell_ends, class_words_within}
 use Rattle.mk_core.specs.Allocations.{PlacedAllocation, cell_of_allocation, freed_where_it_stands, no_longer_fresh, placed_at, stands_in, with_released}
 use Rattle.mk_core.specs.Bits.{has_bit}
-use Rattle.mk_core.specs.Calls.{still}
 use Rattle.mk_core.specs.Config.{IsWithinLimits}
-use Rattle.mk_core.specs.Counts.{ends}
-use Rattle.mk_core.specs.Effects.{taken}
 use Rattle.mk_core.specs.History.{World}
-use Rattle.mk_core.specs.NewPlaces.{class_made, is_small_object, stands}
+use Rattle.mk_core.specs.NewPlaces.{class_made, is_small_object}
 use Rattle.mk_core.specs.ObjectHeaders.{IsSized, cells_made}
 use Rattle.mk_core.specs.Words.{Words, quarantine_word}
 use Rattle.mk_core.specs.declared.config.Config.{Config}
@@ -27,7 +24,6 @@ use Rattle.mk_core.proofs.Sizes.{class_known, large_cells, small_cells}
 use Rattle.mk_core.proofs.SmallCycles.{small}
 use Rattle.mk_core.proofs.WordBits.{added_here, added_other, sum_is_or}
 use Rattle.mk_protocol.specs.Protocol.{has_place}
-use Rattle.mk_protocol.proofs.Kept.{kept}
 use Rattle.mk_layout.specs.Quarantine.{HasQuarantine, IsFreedCell, has_bit_of}
 use Rattle.mk_layout.specs.Scene.{is_released_in}
 use Rattle.mk_layout.specs.Terrain.{IsCellOf, Terrain, terrain_of}

@@ -94,7 +94,8 @@ drop_kept c w p f n lf ls q d =
           let x : Cell = cell_of_allocation c (placed_at w.allocations i) in
           false_from_ne_true (is_released_in true (slice_set w.now.words.snapshot p n) w.now.words.marks x.page x.index) (λ r.
           let bits = released_bits (slice_set w.now.words.snapshot p n) w.now.words.marks x.page x.index r in
-          true≢false (sym (and_both (has_bit (slice_index w.now.words.snapshot x.page) x.index) (has_bit (slice_index w.now.words.marks x.page) x.index) (was_snap x.page x.index bits.0) bits.1)
+          true≢false
+          (sym (and_both (has_bit (slice_index w.now.words.snapshot x.page) x.index) (has_bit (slice_index w.now.words.marks x.page) x.index) (was_snap x.page x.index bits.0) bits.1)
           ∙ q.kept refl i u));
     }
   where

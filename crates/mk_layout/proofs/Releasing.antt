@@ -154,7 +154,8 @@ layout_given_back s p n laid lt on gives kept =
           sized = stands.sized;
           within = let l = len in let w = stands.within in omega arith;
           headers = λ d ld. subst (λ h. (h ≡ 0) ⊎ (h ≡ header_made o d)) (sym (used_header s.pages p n (first + d) lt)) (stands.headers d ld);
-          used = λ d ld. zero_where_none (used_on (with_used_on s.pages p n) (first + d)) (λ k h. none_set (used_on s.pages (first + d)) k (stands.used d ld) (fewer (first + d) k h));
+          used =
+              λ d ld. zero_where_none (used_on (with_used_on s.pages p n) (first + d)) (λ k h. none_set (used_on s.pages (first + d)) k (stands.used d ld) (fewer (first + d) k h));
         }
 
 -- `release`: some claims go, and their cells are released
@@ -207,7 +208,8 @@ layout_ended s laid ends =
     inside p some = elim (cases_lt p (length s.pages)) [ inl lt ↦ lt | inr ge ↦ absurd (some (ap (λ (x : Page). x.header) (get_or_past s.pages p free_page ge))) ]
 
     with_bit : (p k : ℕ) → has_bit (used_on s.pages p) k ≡ true → p < length s.pages
-    with_bit p k h = elim (cases_lt p (length s.pages)) [ inl lt ↦ lt | inr ge ↦ absurd (none_set (used_on s.pages p) k (ap (λ (x : Page). x.used) (get_or_past s.pages p free_page ge)) h) ]
+    with_bit p k h =
+        elim (cases_lt p (length s.pages)) [ inl lt ↦ lt | inr ge ↦ absurd (none_set (used_on s.pages p) k (ap (λ (x : Page). x.used) (get_or_past s.pages p free_page ge)) h) ]
 
     by : (p k : ℕ) → has_bit (used_on s.pages p) k ≡ true → IsClaimed s.claims p k ⊎ (is_released_on s p k ≡ true) → IsClaimed s.claims p k
     by p k h (inl o) = o

@@ -83,7 +83,7 @@ head_unmaps c o releasing w p n st h =
 
 -- The place is chosen, where its pages are free.
 chosen_free : (c : Config) (o : Object) (releasing : Bool) (w : World) (place : Place) → Laid c o releasing w (terrain_of w) → w.now.seats.holding.placing ≡ Unplaced → IsSized o
-    → FitsOnFreePages w.now.words.pages o place → Laid c o releasing w (record (terrain_of w) { placing = Chosen place })
+    → FitsOnFreePages c.resident w.now.words.pages o place → Laid c o releasing w (record (terrain_of w) { placing = Chosen place })
 chosen_free c o releasing w place st is sized fit =
     let was = placed_as c o releasing w (terrain_of w) Unplaced is st in
     record {
@@ -171,7 +171,9 @@ taken_at c o releasing w placing place p n st none next sized index within plot 
     let was : IsLaidOn (record s { claims = xs ++ []; plot = plot_of o placing }) =
     subst (λ (ys : List Claim). IsLaidOn (record s { claims = xs ++ ys; plot = plot_of o placing })) none st.scene in
     record {
-      scene = subst (λ q. IsLaidOn (scene_of c o releasing w.now.words.marks (record (terrain_of w) { pages = with_used_on w.now.words.pages q n; placing = Used place }))) (sym next.at)
+      scene =
+          subst (λ q. IsLaidOn (scene_of c o releasing w.now.words.marks (record (terrain_of w) { pages = with_used_on w.now.words.pages q n; placing = Used place })))
+          (sym next.at)
           (subst (λ (ys : List Claim). IsLaidOn (record s { pages = with_used_on w.now.words.pages place.page n; claims = ys; plot = NoPlot })) (no_claims xs (place_claim o place))
           (layout_taken (record s { claims = xs ++ []; plot = plot_of o placing }) (place_claim o place) n was
           (record {

@@ -10,13 +10,12 @@ use Rattle.mk_core.specs.Cells.{words_are_zero}
 use Rattle.mk_core.specs.Config.{IsWithinLimits}
 use Rattle.mk_core.specs.History.{World, left}
 use Rattle.mk_core.specs.Moments.{is_phase}
-use Rattle.mk_core.specs.NewPlaces.{is_run_gone, is_run_unmapped, stands}
+use Rattle.mk_core.specs.NewPlaces.{is_run_gone, is_run_unmapped}
 use Rattle.mk_core.specs.declared.config.Config.{Config}
 use Rattle.mk_core.specs.declared.seats.Placing.{Placing}
 use Rattle.mk_core.specs.declared.seats.Placing.TheVariants.{Chosen, Granted, Unplaced, Used}
 use Rattle.mk_core.specs.declared.seats.RunPages.{RunPages}
 use Rattle.mk_core.proofs.Lengths.{histories_keep_lengths}
-use Rattle.mk_core.proofs.Schedules.{by}
 use Rattle.mk_protocol.specs.Protocol.{has_place}
 use Rattle.mk_layout.specs.Scene.{Claim, IsLaidOn, NoPlot, Plot}
 use Rattle.mk_layout.specs.SettledPages.{FirstFitIsThePlace, HeadersStand, IsSettled, UnreleasedAreApart, UnreleasedStand}

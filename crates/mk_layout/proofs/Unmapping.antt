@@ -53,7 +53,8 @@ apart_of_plot s x d first e o laid ix ld plot le at =
         let own : head_on s.pages (first + e) ≡ first =
         ap (λ h. head_page_under (header_of h) (first + e)) is ∙ part_head o e first (header_of (header_made o e)) (made_shows o e plot.sized le) in
         let zero : first + 0 ≡ first = omega arith in
-        none_set (used_on s.pages x.page) x.index (ap (λ p. used_on s.pages p) (sym head ∙ own ∙ sym zero) ∙ plot.used 0 (let some = pages_some o plot.sized in omega arith)) (laid.shown x ix).used
+        none_set (used_on s.pages x.page) x.index (ap (λ p. used_on s.pages p) (sym head ∙ own ∙ sym zero) ∙ plot.used 0 (let some = pages_some o plot.sized in omega arith))
+        (laid.shown x ix).used
 
 -- `head` (c): a page of the run that is unmapping gets its header
 abbrev pub PageUnmapped : Scene → Claim → ℕ → Scene
@@ -70,7 +71,9 @@ layout_page_unmapped s x d laid ix mode large ld =
       apart = laid.apart;
       used = λ q k h. let t = laid.used q k (ap (λ u. has_bit u k) (sym (headed_used s.pages p n q lt)) ∙ h) in (subst (λ c. k < c) (sym (cells q)) t.0, t.1);
       plot = plot s.plot laid.plot;
-      occupied = λ q some empty. laid.occupied q (was_some q some) (ap (λ i. used_on s.pages i) (sym (head q)) ∙ sym (headed_used s.pages p n (head_on (with_header_on s.pages p n) q) lt) ∙ empty);
+      occupied =
+          λ q some empty. laid.occupied q (was_some q some)
+          (ap (λ i. used_on s.pages i) (sym (head q)) ∙ sym (headed_used s.pages p n (head_on (with_header_on s.pages p n) q) lt) ∙ empty);
       later = λ q e m is. elim (cases_eq q p) [
         | inl same ↦ own_later q e m same is
         | inr ne ↦ kept q e m (laid.later q e m (ap (λ h. header_of h) (sym (headed_other s.pages p n q ne)) ∙ is))
@@ -121,7 +124,9 @@ layout_page_unmapped s x d laid ix mode large ld =
           sized = sx.sized;
           known = sx.known;
           within = let l = len in let w = sx.within in omega arith;
-          headers = λ e le. subst (λ m. HasHeader m x.object e (header_on (with_header_on s.pages (x.page + d) (unmapped_header (pages_made x.object) d)) (x.page + e))) (sym mode) (header_of_run e le);
+          headers =
+              λ e le. subst (λ m. HasHeader m x.object e (header_on (with_header_on s.pages (x.page + d) (unmapped_header (pages_made x.object) d)) (x.page + e))) (sym mode)
+              (header_of_run e le);
           used = ap (λ u. has_bit u x.index) (headed_used s.pages (x.page + d) (unmapped_header (pages_made x.object) d) x.page lt) ∙ sx.used;
         }
 
@@ -163,7 +168,10 @@ layout_page_unmapped s x d laid ix mode large ld =
         record {
           sized = stands.sized;
           within = let l = len in let w = stands.within in omega arith;
-          headers = λ e le. subst (λ h. (h ≡ 0) ⊎ (h ≡ header_made o e)) (sym (headed_other s.pages (x.page + d) (unmapped_header (pages_made x.object) d) (first + e) (apart_of_plot s x d first e o laid ix ld stands le))) (stands.headers e le);
+          headers =
+              λ e le. subst (λ h. (h ≡ 0) ⊎ (h ≡ header_made o e))
+              (sym (headed_other s.pages (x.page + d) (unmapped_header (pages_made x.object) d) (first + e) (apart_of_plot s x d first e o laid ix ld stands le)))
+              (stands.headers e le);
           used = λ e le. headed_used s.pages (x.page + d) (unmapped_header (pages_made x.object) d) (first + e) lt ∙ stands.used e le;
         }
 
@@ -198,7 +206,10 @@ pub record Changes (s : Scene) (claims : List Claim) : Type 0 where
 pub layout_changed : (s : Scene) (claims : List Claim) → IsLaidOn s → Changes s claims → IsLaidOn (record s { claims = claims })
 layout_changed s claims laid ch =
     record {
-      shown = λ y iy. let was = laid.shown (record y { mode = (ch.from y iy).0 }) (ch.from y iy).1 in record { sized = was.sized; known = was.known; within = was.within; headers = ch.headers y iy; used = was.used };
+      shown =
+          λ y iy. let was =
+          laid.shown (record y { mode = (ch.from y iy).0 })
+          (ch.from y iy).1 in record { sized = was.sized; known = was.known; within = was.within; headers = ch.headers y iy; used = was.used };
       apart = ch.apart;
       used = λ p k h. let t = laid.used p k h in (t.0, owner p k t.1);
       plot = laid.plot;

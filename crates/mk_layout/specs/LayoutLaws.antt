@@ -1,5 +1,7 @@
 -- What stands on the pages stays laid out behind each event, and the quarantine with it.
-use Rattle.std.specs.Prelude.{List, Some, [], slice_index, true, ⊤, ◌∷◌, ◌≡◌}
+use Rattle.std.specs.Prelude.{List, Some, [], slice_index, true, ⊤, ◌∷◌, ◌≡◌, ◌≤◌}
+use Rattle.mk_geom.specs.PageUses.{resident_pages}
+use Rattle.mk_geom.specs.PageWords.{uses_of_pages}
 use Rattle.mk_geom.specs.declared.addresses.Cell.{Cell}
 use Rattle.mk_core.specs.Bits.{has_bit}
 use Rattle.mk_core.specs.Config.{IsWithinLimits}
@@ -11,7 +13,9 @@ use Rattle.mk_core.specs.declared.events.Event.{Event}
 use Rattle.mk_core.specs.declared.events.Seat.{Seat}
 use Rattle.mk_core.specs.declared.seats.RunPages.{RunPages}
 use Rattle.mk_layout.specs.Quarantine.{FreedCellsAreKnown, IsQuarantined, KeepsSnapshot}
+use Rattle.mk_layout.specs.Room.{HasHeaderWords, HasRoom}
 use Rattle.mk_layout.specs.Terrain.{IsCellOf, IsLaidOut}
+use Rattle.mk_layout.specs.WholeRuns.{RunsAreWhole}
 
 -- what other groups say of a world, where a step asks for it
 pub record OthersSay (c : Config) (w : World) : Type 0 where
@@ -25,6 +29,9 @@ pub record StandsInOrder (c : Config) (w : World) : Type 0 where
   pub quarantined : IsQuarantined c w
   pub known : FreedCellsAreKnown w
   pub snapshot : KeepsSnapshot c w
+  pub words : HasHeaderWords w
+  pub room : HasRoom c w
+  pub runs : RunsAreWhole c w
 
 -- One event, whatever it is: all stays in order.
 abbrev pub EventsKeepTheLayout : Type 0
@@ -40,3 +47,12 @@ OthersSayFrom c w (e ∷ es) = OthersSay c w × OthersSayFrom c (world_behind c 
 -- Then all is in order behind every list of enabled events.
 abbrev pub HistoriesAreLaidOut : Type 0
 HistoriesAreLaidOut = (c : Config) (es : List Event) → IsWithinLimits c → AreEnabled c es → OthersSayFrom c (first_world c) es → StandsInOrder c (left c es)
+
+-- So each page has a header word, and at most so many pages are resident.
+abbrev pub PagesHaveHeaderWords : Type 0
+PagesHaveHeaderWords = (c : Config) (es : List Event) → IsWithinLimits c → AreEnabled c es → OthersSayFrom c (first_world c) es → HasHeaderWords (left c es)
+
+abbrev pub FewPagesAreResident : Type 0
+FewPagesAreResident =
+    (c : Config) (es : List Event) → IsWithinLimits c → AreEnabled c es → OthersSayFrom c (first_world c) es
+    → resident_pages (uses_of_pages (left c es).now.words.pages) ≤ c.resident

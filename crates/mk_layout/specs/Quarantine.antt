@@ -4,7 +4,6 @@ use Rattle.mk_geom.specs.declared.pages.Place.{Place}
 use Rattle.mk_core.specs.Allocations.{PlacedAllocation, cell_of_allocation, placed_at}
 use Rattle.mk_core.specs.Bits.{has_bit}
 use Rattle.mk_core.specs.Cells.{cells_under, header_in}
-use Rattle.mk_core.specs.Effects.{taken}
 use Rattle.mk_core.specs.History.{World}
 use Rattle.mk_core.specs.Moments.{is_phase}
 use Rattle.mk_core.specs.Words.{phase_of}

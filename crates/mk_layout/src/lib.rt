@@ -1,7 +1,7 @@
 //! What stands on the pages, and the quarantine, at every moment: facts alone, with no code.
 #![tactic(auto)]
 
-ghost use Rattle.mk_layout.specs.LayoutLaws.{EventsKeepTheLayout, HistoriesAreLaidOut};
+ghost use Rattle.mk_layout.specs.LayoutLaws.{EventsKeepTheLayout, FewPagesAreResident, HistoriesAreLaidOut, PagesHaveHeaderWords};
 ghost use Rattle.mk_layout.specs.SettledPages.{FirstFitIsThePlace, HeadersStand, UnreleasedAreApart, UnreleasedStand};
 ghost use Rattle.mk_layout.specs.Snapshots.{SnapshotsAreOfCycles};
 
@@ -14,6 +14,12 @@ pub fn events_keep_the_layout()
 /// So all is laid out behind every list of enabled events along which the other groups say so.
 pub fn histories_are_laid_out()
     ensures { HistoriesAreLaidOut }
+{}
+
+/// Each page then has a header word, and at most as many pages are resident as may be.
+pub fn pages_are_in_order()
+    ensures words { PagesHaveHeaderWords }
+    ensures few { FewPagesAreResident }
 {}
 
 /// The snapshot's bits are those of the allocations that were freed before the cycle's `begin`.

@@ -1,12 +1,20 @@
 -- Only words that may hold values aren't 0, behind every list of enabled events.
-use Rattle.std.proofs.Common.{◌≡◌, ℕ, ◌*◌, Bool, true, false, List, [], ◌∷◌, refl, sym, subst}
+use Rattle.std.proofs.Common.{◌≡◌, ℕ, ◌*◌, Bool, true, false, List, [], ◌∷◌, refl, sym, ◌∙◌, ap, subst}
+use Rattle.std.specs.Prelude.{Some, None}
+use Rattle.std.proofs.lemmas.Bool.{true≢false}
+use Rattle.mk_core.specs.declared.events.Seat.{Seat}
+use Rattle.mk_core.specs.declared.events.Seat.TheVariants.{Caller, Marker, Host}
+use Rattle.mk_core.specs.Calls.{at_rest}
+use Rattle.mk_core.specs.NewPlaces.{target}
+use Rattle.mk_layout.specs.LayoutLaws as layout
+use Rattle.mk_layout.proofs.Histories.{histories_are_laid_out}
 use Rattle.mk_core.specs.declared.config.Config.{Config}
 use Rattle.mk_core.specs.declared.events.Event.{Event}
 use Rattle.mk_core.specs.Config.{IsWithinLimits}
 use Rattle.mk_core.specs.Layout.{AreOfPages}
 use Rattle.mk_core.specs.Accesses.{reached, access}
 use Rattle.mk_core.specs.Enabled.{IsEnabled}
-use Rattle.mk_core.specs.Moments.{is_phase}
+use Rattle.mk_core.specs.Moments.{first_moment, flight_of, is_phase}
 use Rattle.mk_core.specs.History.{World, first_world, world_behind, left, left_from, AreEnabledFrom}
 use Rattle.mk_core.proofs.Conditions.{enabled_meets}
 use Rattle.mk_core.proofs.Lengths.{histories_keep_lengths, zero_lengths, accessed_lengths}
@@ -14,18 +22,16 @@ use Rattle.mk_protocol.proofs.Known.{Known, known_behind, known_at_first, known_
 use Rattle.mk_protocol.proofs.OrderlyLists.{at_first}
 use Rattle.mk_layout.proofs.Before.{is_releasing_behind}
 use Rattle.mk_layout.proofs.Behind.{phase_kind, releasing_marks}
-use Rattle.mk_zeros.specs.Zeros.{scene_with, MayHold, OfMapped, OfReleased, OfFreedRun, OthersAreZero, HasZeros}
-use Rattle.mk_zeros.specs.ZeroLaws.{OthersSay, OthersSayFrom, EventsKeepTheZeros, ZerosStandBehindLists}
-use Rattle.mk_zeros.proofs.ByKind.{none_released, by_kind}
+use Rattle.mk_zeros.specs.Zeros.{scene_with, OfMapped, OfFreedRun, OthersAreZero, HasZeros}
+use Rattle.mk_zeros.specs.ZeroLaws.{OthersSay, OthersSayFrom, stores, EventsKeepTheZeros, ZerosStandBehindLists}
+use Rattle.mk_zeros.proofs.ChangedScenes.{none_released, changed_words}
+use Rattle.mk_zeros.proofs.ByKind.{by_kind}
 
 -- While no cell is released, marks say nothing.
 with_marks : (c : Config) (v : World) (old new : List ℕ) → OthersAreZero c (scene_with false old v) → OthersAreZero c (scene_with false new v)
-with_marks c v old new z n some = by (z n some)
-  where
-    by : MayHold c (scene_with false old v) n → MayHold c (scene_with false new v) n
-    by (OfMapped m) = OfMapped m
-    by (OfReleased r) = absurd (none_released c (scene_with false old v) n refl r)
-    by (OfFreedRun f) = OfFreedRun f
+with_marks c v old new z =
+    changed_words c (scene_with false old v) (scene_with false new v) z (λ n ne. ne) (λ n m. OfMapped m)
+    (λ n some r. absurd (none_released c (scene_with false old v) n refl r)) (λ n some f. OfFreedRun f)
 
 -- One event, from the world before it.
 pub zeros_behind : (c : Config) (w : World) (e : Event) → IsWithinLimits c → AreOfPages c.pages w.now.words → Known c w.now → IsEnabled c w.now e → OthersSay c w e
@@ -52,7 +58,8 @@ zeros_from : (c : Config) (w : World) (es : List Event) → IsWithinLimits c →
 unfolding left_from AreEnabledFrom OthersSayFrom
 zeros_from c w [] limits lengths known on others z = z
 zeros_from c w (e ∷ es) limits lengths known on others z =
-    zeros_from c (world_behind c w e) es limits (accessed_lengths c.pages w.now.words (reached c w.now e) (access c w.now e) lengths) (known_behind c w.now e known on.0) on.1 others.1
+    zeros_from c (world_behind c w e) es limits (accessed_lengths c.pages w.now.words (reached c w.now e) (access c w.now e) lengths)
+    (known_behind c w.now e known on.0) on.1 others.1
     (zeros_behind c w e limits lengths known on.0 others.0 z)
 
 pub zeros_at_first : (c : Config) → HasZeros c (first_world c)
@@ -61,3 +68,18 @@ zeros_at_first c n some = absurd (some (at_first (64 * c.pages) n 0))
 pub zeros_stand_behind_lists : ZerosStandBehindLists
 zeros_stand_behind_lists c es limits on others =
     zeros_from c (first_world c) es limits (zero_lengths c.pages) (known_at_first c limits) on others (zeros_at_first c)
+
+-- The premises aren't empty.
+pub others_at_first : (c : Config) (e : Event) → IsWithinLimits c → stores e.step ≡ false → OthersSay c (first_world c) e
+unfolding left_from AreEnabledFrom layout.OthersSayFrom
+others_at_first c e limits still =
+    record {
+      laid_out = (histories_are_laid_out c [] limits tt tt).laid;
+      target = λ cell at. let none : None ≡ Some cell = sym (no_target e.seat) ∙ at in cc;
+      stored = λ s. absurd (true≢false (sym s ∙ still));
+    }
+  where
+    no_target : (seat : Seat) → target c.pages (first_moment c).words (flight_of (first_moment c) seat) ≡ None
+    no_target (Caller k) = ap (target c.pages (first_moment c).words) (at_first c.callers k at_rest)
+    no_target (Marker k) = refl
+    no_target Host = refl

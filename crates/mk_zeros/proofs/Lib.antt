@@ -1,5 +1,10 @@
 pub mod MappedWords
 pub mod ReleasedWords
 pub mod FreedWords
+pub mod ChangedScenes
+pub mod PageKinds
 pub mod ByKind
 pub mod Histories
+pub mod TellImages
+pub mod BarePages
+pub mod TellGuard

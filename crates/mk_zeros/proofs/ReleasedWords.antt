@@ -22,17 +22,17 @@ use Rattle.mk_core.proofs.PointedPages.{pointed_head}
 use Rattle.mk_core.proofs.WordBits.{rest_bits}
 use Rattle.mk_layout.specs.Scene.{shows_on, header_on, used_on}
 use Rattle.mk_layout.proofs.Readings.{none_set}
-use Rattle.mk_zeros.specs.Zeros.{Scene, scene_with, first_word_on, IsReleasedWord}
+use Rattle.mk_zeros.specs.Zeros.{scene_with, is_released_there, first_word_on, IsReleasedWord}
 
 -- Where the pages keep the header of the word's page and that of the cell's, and the cell its used bit, it stays one.
-kept_word : (c : Config) (s : Scene) (pages : List Page) (n : ℕ) (r : IsReleasedWord c s n)
-    → header_on pages (page_at_address (address_of n)) ≡ header_on s.pages (page_at_address (address_of n))
-    → header_on pages r.cell.page ≡ header_on s.pages r.cell.page → has_bit (used_on pages r.cell.page) r.cell.index ≡ true
-    → IsReleasedWord c (record s { pages = pages }) n
+kept_word : (c : Config) (old new : List Page) (is_gone : Cell → Bool) (n : ℕ) (r : IsReleasedWord c old is_gone n)
+    → header_on new (page_at_address (address_of n)) ≡ header_on old (page_at_address (address_of n))
+    → header_on new r.cell.page ≡ header_on old r.cell.page → has_bit (used_on new r.cell.page) r.cell.index ≡ true
+    → IsReleasedWord c new is_gone n
 unfolding pointed_cell
-kept_word c s pages n r here there used =
-    let words : words_under (shows_on pages r.cell.page) ≡ words_under (shows_on s.pages r.cell.page) = ap (λ h. words_under (header_of h)) there in
-    let first : first_word_on pages r.cell ≡ first_word_on s.pages r.cell = ap (λ k. 64 * r.cell.page + r.cell.index * k) words in
+kept_word c old new is_gone n r here there used =
+    let words : words_under (shows_on new r.cell.page) ≡ words_under (shows_on old r.cell.page) = ap (λ h. words_under (header_of h)) there in
+    let first : first_word_on new r.cell ≡ first_word_on old r.cell = ap (λ k. 64 * r.cell.page + r.cell.index * k) words in
     let from = r.from in
     let to = r.to in
     record {
@@ -51,11 +51,10 @@ own_head (Some (Later distance mapped)) p k i lt le = absurd (omega arith)
 own_head _ p k i lt le = refl
 
 -- `head` (d): a page whose head page has no used cell is free
-pub emptied_word : (c : Config) (w : World) (releasing : Bool) (marks : List ℕ) (p v n : ℕ) → Empties w.now.words p v
-    → IsReleasedWord c (scene_with releasing marks w) n
-    → IsReleasedWord c (record (scene_with releasing marks w) { pages = slice_set w.now.words.pages p (record { header = v; used = used_at w.now.words p }) }) n
-emptied_word c w releasing marks p v n h r =
-    kept_word c (scene_with releasing marks w) (slice_set w.now.words.pages p (record { header = v; used = used_at w.now.words p })) n r
+pub emptied_word : (c : Config) (w : World) (is_gone : Cell → Bool) (p v n : ℕ) → Empties w.now.words p v → IsReleasedWord c w.now.words.pages is_gone n
+    → IsReleasedWord c (slice_set w.now.words.pages p (record { header = v; used = used_at w.now.words p })) is_gone n
+emptied_word c w is_gone p v n h r =
+    kept_word c w.now.words.pages (slice_set w.now.words.pages p (record { header = v; used = used_at w.now.words p })) is_gone n r
     (same (page_at_address (address_of n)) not_here) (same r.cell.page not_there)
     (set_by (λ (x : Page). has_bit x.used r.cell.index ≡ true) w.now.words.pages p r.cell.page _ free_page
     (λ e. ap (λ q. has_bit (used_at w.now.words q) r.cell.index) (sym e) ∙ r.used) r.used)
@@ -80,11 +79,10 @@ same_headers pages p v q =
     set_by (λ (x : Page). x.header ≡ header_on pages q) pages p q _ free_page (λ e. ap (λ i. header_on pages i) (sym e)) refl
 
 -- `used` (b): the words of a cell that is given back are 0
-pub unwiped_word : (c : Config) (w : World) (releasing : Bool) (marks : List ℕ) (p v n : ℕ) → GivesBack w.now.words p v → slice_index w.now.words.heap n ≢ 0
-    → IsReleasedWord c (scene_with releasing marks w) n
-    → IsReleasedWord c (record (scene_with releasing marks w) { pages = slice_set w.now.words.pages p (record { header = header_at w.now.words p; used = v }) }) n
-unwiped_word c w releasing marks p v n h some r =
-    kept_word c (scene_with releasing marks w) (slice_set w.now.words.pages p (record { header = header_at w.now.words p; used = v })) n r
+pub unwiped_word : (c : Config) (w : World) (is_gone : Cell → Bool) (p v n : ℕ) → GivesBack w.now.words p v → slice_index w.now.words.heap n ≢ 0
+    → IsReleasedWord c w.now.words.pages is_gone n → IsReleasedWord c (slice_set w.now.words.pages p (record { header = header_at w.now.words p; used = v })) is_gone n
+unwiped_word c w is_gone p v n h some r =
+    kept_word c w.now.words.pages (slice_set w.now.words.pages p (record { header = header_at w.now.words p; used = v })) is_gone n r
     (same_headers w.now.words.pages p v (page_at_address (address_of n))) (same_headers w.now.words.pages p v r.cell.page)
     (set_by (λ (x : Page). has_bit x.used r.cell.index ≡ true) w.now.words.pages p r.cell.page _ free_page still r.used)
   where
@@ -101,19 +99,22 @@ unwiped_word c w releasing marks p v n h some r =
         let at : first_word w.now.words cell + (n - first_word w.now.words cell) ≡ n = omega arith in
         some (ap (λ i. slice_index w.now.words.heap i) (sym at)
         ∙ eqb-true (slice_index w.now.words.heap (first_word w.now.words cell + (n - first_word w.now.words cell))) 0
-        (all_below-at (cell_words w.now.words cell) (n - first_word w.now.words cell) (λ i. slice_index w.now.words.heap (first_word w.now.words cell + i) == 0) zero (omega arith)))
+        (all_below-at (cell_words w.now.words cell) (n - first_word w.now.words cell)
+        (λ i. slice_index w.now.words.heap (first_word w.now.words cell + i) == 0) zero (omega arith)))
 
     still : r.cell.page ≡ p → has_bit v r.cell.index ≡ true
     still e = elim (cases_Bool (has_bit v r.cell.index)) [ inl in_it ↦ in_it | inr out ↦ absurd (wiped e out) ]
 
 -- `quar` (c): only cells that aren't used leave the snapshot
-pub dropped_word : (c : Config) (w : World) (p f v n : ℕ) → Drops w.now.words p f v → IsReleasedWord c (scene_with true w.now.words.marks w) n
-    → IsReleasedWord c (record (scene_with true w.now.words.marks w) { snapshot = slice_set w.now.words.snapshot p v }) n
+pub dropped_word : (c : Config) (w : World) (p f v n : ℕ) → Drops w.now.words p f v
+    → IsReleasedWord c w.now.words.pages (is_released_there (scene_with true w.now.words.marks w)) n
+    → IsReleasedWord c w.now.words.pages (is_released_there (record (scene_with true w.now.words.marks w) { snapshot = slice_set w.now.words.snapshot p v })) n
 dropped_word c w p f v n h r =
     record {
       cell = r.cell;
       small = r.small;
-      released = set_by (λ x. has_bit (without x (slice_index w.now.words.marks r.cell.page)) r.cell.index ≡ true) w.now.words.snapshot p r.cell.page v 0 still r.released;
+      released = set_by (λ x. has_bit (without x (slice_index w.now.words.marks r.cell.page)) r.cell.index ≡ true) w.now.words.snapshot p r.cell.page v 0
+          still r.released;
       used = r.used;
       pointed = r.pointed;
       from = r.from;

@@ -1,2 +1,3 @@
 pub mod ZeroLaws
 pub mod Zeros
+pub mod ZerosTell

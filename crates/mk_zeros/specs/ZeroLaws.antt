@@ -10,8 +10,7 @@ use Rattle.mk_core.specs.Calls.{word_met}
 use Rattle.mk_core.specs.Moments.{flight_of}
 use Rattle.mk_core.specs.NewPlaces.{target}
 use Rattle.mk_core.specs.History.{World, first_world, world_behind, left, AreEnabled, IsEnabledBehind}
-use Rattle.mk_layout.specs.Terrain.{IsCellOf}
-use Rattle.mk_layout.specs.LayoutLaws.{StandsInOrder}
+use Rattle.mk_layout.specs.Terrain.{IsCellOf, IsLaidOut}
 use Rattle.mk_zeros.specs.Zeros.{IsMappedWord, HasZeros}
 
 -- the step of a caller that stores to the heap
@@ -22,7 +21,7 @@ stores _ = false
 
 -- what other groups say of a world and of the event that comes
 pub record OthersSay (c : Config) (w : World) (e : Event) : Type 0 where
-  pub in_order : StandsInOrder c w
+  pub laid_out : IsLaidOut c w
   -- The target of an admitted Free is the cell of an unreleased allocation.
   pub target : (cell : Cell) → target c.pages w.now.words (flight_of w.now e.seat) ≡ Some cell → IsCellOf c w.allocations cell
   -- An admitted store is to a word of a mapped allocation.

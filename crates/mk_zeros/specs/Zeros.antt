@@ -55,14 +55,14 @@ pub record IsMappedWord (c : Config) (xs : List PlacedAllocation) (n : ℕ) : Ty
 
 -- The word is one of a released cell whose used bit is still set: it lies among the cell's words, and lookup finds the
 -- cell there.
-pub record IsReleasedWord (c : Config) (s : Scene) (n : ℕ) : Type 0 where
+pub record IsReleasedWord (c : Config) (pages : List Page) (is_gone : Cell → Bool) (n : ℕ) : Type 0 where
   pub cell : Cell
   pub small : cell.index < 32
-  pub released : is_released_there s cell ≡ true
-  pub used : has_bit (used_on s.pages cell.page) cell.index ≡ true
-  pub pointed : pointed_cell c.pages s.pages (address_of n) ≡ Some cell
-  pub from : first_word_on s.pages cell ≤ n
-  pub to : n < first_word_on s.pages cell + words_under (shows_on s.pages cell.page)
+  pub released : is_gone cell ≡ true
+  pub used : has_bit (used_on pages cell.page) cell.index ≡ true
+  pub pointed : pointed_cell c.pages pages (address_of n) ≡ Some cell
+  pub from : first_word_on pages cell ≤ n
+  pub to : n < first_word_on pages cell + words_under (shows_on pages cell.page)
 
 -- The word is one of the run that a call freed, up to its `give`.
 pub record IsFreedWord (freed : Option RunPages) (n : ℕ) : Type 0 where
@@ -72,7 +72,7 @@ pub record IsFreedWord (freed : Option RunPages) (n : ℕ) : Type 0 where
 
 pub data MayHold (c : Config) (s : Scene) (n : ℕ) : Type 0 where
   OfMapped : IsMappedWord c s.allocations n → MayHold c s n
-  OfReleased : IsReleasedWord c s n → MayHold c s n
+  OfReleased : IsReleasedWord c s.pages (is_released_there s) n → MayHold c s n
   OfFreedRun : IsFreedWord s.run n → MayHold c s n
 
 abbrev pub OthersAreZero : Config → Scene → Type 0

@@ -1,0 +1,108 @@
+-- What a change of the scene leaves to show, and steps that store to the heap.
+use Rattle.std.proofs.Common.{◌≡◌, ◌≢◌, ℕ, false, List, refl, sym, ◌∙◌, subst}
+use Rattle.std.specs.Prelude.{slice_index, slice_set}
+use Rattle.std.proofs.lemmas.Bool.{and_parts, true≢false}
+use Rattle.mk_never.proofs.Edits.{set_by}
+use Rattle.mk_geom.specs.declared.pages.Page.{Page}
+use Rattle.mk_core.specs.declared.config.Config.{Config}
+use Rattle.mk_core.specs.declared.accesses.Access.{Access}
+use Rattle.mk_core.specs.declared.accesses.Access.TheVariants.{Load, Store}
+use Rattle.mk_core.specs.declared.accesses.TableWord.TheVariants.{Named}
+use Rattle.mk_core.specs.declared.events.Seat.{Seat}
+use Rattle.mk_core.specs.declared.events.Step.{Step}
+use Rattle.mk_core.specs.declared.events.Tally.{Tally}
+use Rattle.mk_core.specs.declared.events.Tally.TheVariants as tally
+use Rattle.mk_core.specs.declared.events.Word.TheVariants as word
+use Rattle.mk_core.specs.Config.{IsWithinLimits}
+use Rattle.mk_core.specs.Words.{Words, accessed}
+use Rattle.mk_core.specs.Bits.{has_bit, without}
+use Rattle.mk_core.specs.Layout.{AreOfPages}
+use Rattle.mk_core.specs.Moments.{is_phase}
+use Rattle.mk_core.specs.Accesses.{tally_word}
+use Rattle.mk_core.specs.Allocations.{placed_at}
+use Rattle.mk_core.specs.History.{World}
+use Rattle.mk_protocol.proofs.Known.{Known}
+use Rattle.mk_layout.specs.Terrain.{object_now}
+use Rattle.mk_layout.proofs.Released.{all_stand}
+use Rattle.mk_layout.proofs.StandingClaims.{IsStanding}
+use Rattle.mk_zeros.specs.Zeros.{is_released_there, Scene, scene_with, IsMappedWord, IsReleasedWord, IsFreedWord}
+use Rattle.mk_zeros.specs.Zeros.{MayHold, OfMapped, OfReleased, OfFreedRun, OthersAreZero, HasZeros}
+use Rattle.mk_zeros.specs.ZeroLaws.{OthersSay}
+
+-- all that is known of the world before
+pub record Before (c : Config) (w : World) (seat : Seat) (x : Step) : Type 0 where
+  pub limits : IsWithinLimits c
+  pub lengths : AreOfPages c.pages w.now.words
+  pub known : Known c w.now
+  pub others : OthersSay c w (record { seat = seat; step = x })
+
+-- the scene before
+abbrev pub here : World → Scene
+here w = scene_with (is_phase w.now.words 4) w.now.words.marks w
+
+pub standing : (c : Config) (w : World) (seat : Seat) (x : Step) (i : ℕ) → Before c w seat x → (placed_at w.allocations i).released ≡ false
+    → IsStanding c w.now.words (placed_at w.allocations i)
+standing c w seat x i b u = all_stand c (object_now c w.now) (is_phase w.now.words 4) w b.lengths.pages b.others.laid_out i u
+
+-- While the phase isn't releasing no cell is released.
+pub none_released : (c : Config) (s : Scene) (n : ℕ) → s.releasing ≡ false → IsReleasedWord c s.pages (is_released_there s) n → ⊥
+none_released c s n off r =
+    true≢false (sym (and_parts s.releasing (has_bit (without (slice_index s.snapshot r.cell.page) (slice_index s.marks r.cell.page)) r.cell.index) r.released).0 ∙ off)
+
+-- From one scene to another, each of the three by itself
+pub changed_words : (c : Config) (s t : Scene) → OthersAreZero c s → ((n : ℕ) → slice_index t.heap n ≢ 0 → slice_index s.heap n ≢ 0)
+    → ((n : ℕ) → IsMappedWord c s.allocations n → MayHold c t n)
+    → ((n : ℕ) → slice_index s.heap n ≢ 0 → IsReleasedWord c s.pages (is_released_there s) n → MayHold c t n)
+    → ((n : ℕ) → slice_index s.heap n ≢ 0 → IsFreedWord s.run n → MayHold c t n) → OthersAreZero c t
+changed_words c s t z heap mapped released freed n some = by (heap n some) (z n (heap n some))
+  where
+    by : slice_index s.heap n ≢ 0 → MayHold c s n → MayHold c t n
+    by was (OfMapped m) = mapped n m
+    by was (OfReleased r) = released n was r
+    by was (OfFreedRun f) = freed n was f
+
+-- A step while the phase isn't releasing
+pub early_words : (c : Config) (w : World) (t : Scene) → is_phase w.now.words 4 ≡ false → HasZeros c w
+    → ((n : ℕ) → slice_index t.heap n ≢ 0 → slice_index w.now.words.heap n ≢ 0)
+    → ((n : ℕ) → IsMappedWord c w.allocations n → MayHold c t n) → ((n : ℕ) → IsFreedWord w.now.seats.holding.freed n → MayHold c t n) → OthersAreZero c t
+early_words c w t off z heap mapped freed =
+    changed_words c (here w) t z heap mapped (λ n some r. absurd (none_released c (here w) n off r)) (λ n some f. freed n f)
+
+-- `write` and `cas`
+pub stored_words : (c : Config) (s : Scene) (j v : ℕ) → IsMappedWord c s.allocations j → OthersAreZero c s → OthersAreZero c (record s { heap = slice_set s.heap j v })
+stored_words c s j v m z n some =
+    set_by (λ x. x ≢ 0 → MayHold c (record s { heap = slice_set s.heap j v }) n) s.heap j n v 0
+    (λ e ne. OfMapped (subst (λ i. IsMappedWord c s.allocations i) (sym e) m)) (λ ne. moved (z n ne)) some
+  where
+    moved : MayHold c s n → MayHold c (record s { heap = slice_set s.heap j v }) n
+    moved (OfMapped x) = OfMapped x
+    moved (OfReleased r) = OfReleased r
+    moved (OfFreedRun f) = OfFreedRun f
+
+-- `wipe`
+pub wiped_words : (c : Config) (s : Scene) (j : ℕ) → OthersAreZero c s → OthersAreZero c (record s { heap = slice_set s.heap j 0 })
+wiped_words c s j z =
+    changed_words c s (record s { heap = slice_set s.heap j 0 }) z
+    (λ n. set_by (λ x. x ≢ 0 → slice_index s.heap n ≢ 0) s.heap j n 0 0 (λ e ne. absurd (ne refl)) (λ ne. ne))
+    (λ n m. OfMapped m) (λ n some r. OfReleased r) (λ n some f. OfFreedRun f)
+
+-- Registers and counts
+pub record KeepsHeap (w x : Words) : Type 0 where
+  pub heap : x.heap ≡ w.heap
+  pub pages : x.pages ≡ w.pages
+  pub snapshot : x.snapshot ≡ w.snapshot
+
+pub reg_heap : (w : Words) (k r : ℕ) (a : Access) → KeepsHeap w (accessed w (Named (word.Reg k r)) a)
+reg_heap w k r Load = record { heap = refl; pages = refl; snapshot = refl }
+reg_heap w k r _ = record { heap = refl; pages = refl; snapshot = refl }
+
+pub tally_heap : (w : Words) (n : Tally) (v : ℕ) → KeepsHeap w (accessed w (Named (tally_word n)) (Store v))
+tally_heap w tally.Held v = record { heap = refl; pages = refl; snapshot = refl }
+tally_heap w _ v = record { heap = refl; pages = refl; snapshot = refl }
+
+pub kept_heap : (c : Config) (w : World) (x : Words) → KeepsHeap w.now.words x → HasZeros c w
+    → OthersAreZero c (record (here w) { heap = x.heap; pages = x.pages; snapshot = x.snapshot })
+kept_heap c w x k z =
+    subst (λ (hs : List ℕ). OthersAreZero c (record (here w) { heap = hs; pages = x.pages; snapshot = x.snapshot })) (sym k.heap)
+    (subst (λ (ps : List Page). OthersAreZero c (record (here w) { pages = ps; snapshot = x.snapshot })) (sym k.pages)
+    (subst (λ (ss : List ℕ). OthersAreZero c (record (here w) { snapshot = ss })) (sym k.snapshot) z))
