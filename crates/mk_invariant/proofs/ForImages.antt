@@ -45,7 +45,7 @@ use Rattle.mk_images.specs.OthersSay as images
 use Rattle.mk_images.proofs.KnownWorlds.{KnownWorld}
 use Rattle.mk_zeros.specs.Zeros.{HasZeros}
 use Rattle.mk_invariant.specs.RunGates.{HoldsRunGates}
-use Rattle.mk_invariant.proofs.ZeroWords.{may_hold_words}
+use Rattle.mk_zeros.proofs.TellImages.{zeros_tell_the_images}
 
 -- A large allocation that is freed isn't mapped.
 gone_is : (c : Config) (a : PlacedAllocation) → a.released ≡ false → is_mapped c a ≡ not (a.freed && not (is_small_object (object_placed c a)))
@@ -237,7 +237,7 @@ module _ (c : Config) (w : World) (known : KnownWorld c w) (laid : IsLaidOut c w
           | inr r ↦ inr (released_is w cell ∙ r)
         ];
         kept = λ i u. released_is w (cell_of_allocation c (placed_at w.allocations i)) ∙ kept_at i u (is_phase w.now.words 4) refl;
-        zero_words = may_hold_words c w zeros;
+        zero_words = zeros_tell_the_images c w zeros;
         marks = marks;
       }
     where

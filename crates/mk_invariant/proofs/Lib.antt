@@ -1,6 +1,4 @@
-pub mod ZeroWords
 pub mod ForImages
-pub mod ForGuard
 pub mod SetGates
 pub mod RunWords
 pub mod RunGates

@@ -38,7 +38,7 @@ use Rattle.mk_images.proofs.KnownWorlds.{KnownWorld}
 use Rattle.mk_guard.proofs.Changes.{Table, headers_kind, is_head, reg_table, tally_table}
 use Rattle.mk_zeros.specs.ZeroLaws.{stores}
 use Rattle.mk_zeros.specs.Zeros.{IsMappedWord}
-use Rattle.mk_invariant.proofs.ForGuard.{mapped_unreleased}
+use Rattle.mk_zeros.proofs.MappedWords.{mapped_stays}
 use Rattle.mk_invariant.proofs.ForImages.{laid_out, run_of}
 
 all_below_from : (n : ℕ) (test : ℕ → Bool) → ((k : ℕ) → k < n → test k ≡ true) → all_below n test ≡ true
@@ -93,7 +93,7 @@ module _ (c : Config) (w : World) (known : KnownWorld c w) (laid : IsLaidOut c w
   not_mapped : (i : ℕ) → i < 64 * r.count → IsMappedWord c w.allocations (64 * r.page + i) → ⊥
   not_mapped i lt m =
       let a : PlacedAllocation = placed_at w.allocations m.number in
-      let u = mapped_unreleased c a m.mapped in
+      let u = mapped_stays c a m.mapped in
       let l = laid_out c w known laid m.number u in
       let sized = typed_size c a known.limits l.stands.typed in
       let end = ends_on_pages (object_placed c a) a.base sized l.stands.begins in

@@ -28,11 +28,10 @@ use Rattle.mk_core.specs.ObjectHeaders.{IsSized, IsHeaderOf, ShowsPart, OfBlock,
 use Rattle.mk_core.specs.Allocations.{PlacedAllocation, placed_at, is_mapped}
 use Rattle.mk_core.specs.StandingAllocations.{object_placed}
 use Rattle.mk_core.specs.History.{World, left}
-use Rattle.mk_core.proofs.Lengths.{histories_keep_lengths}
 use Rattle.mk_core.proofs.ObjectHeaders.{made_shows, part_head}
 use Rattle.mk_core.proofs.PlacesNow.{IsPlaced, ByFit, AsChosen, AsUsed, placed_now}
 use Rattle.mk_core.proofs.Sizes.{large_is_not_small, pages_some, small_pages}
-use Rattle.mk_protocol.proofs.Known.{Known, known_left}
+use Rattle.mk_protocol.proofs.Known.{Known}
 use Rattle.mk_layout.specs.Scene.{Claim, Among, Mode, Mapped, Plot, NoPlot, Plotted, PlotStands}
 use Rattle.mk_layout.specs.Scene.{InPlot, HasHeader, IsClaimed, IsPlotShown, header_on, used_on, shows_on, head_on, run_count}
 use Rattle.mk_layout.specs.Terrain.{IsLaidOut, RunStands, IsClaimedRun, claims_of, claims_on, claims_placed, place_claim, is_unmapping, mode_of, plot_of, object_now, terrain_of}
@@ -44,7 +43,9 @@ use Rattle.mk_layout.proofs.Readings.{zero_where_none, header_of_mode, claimed, 
 use Rattle.mk_layout.proofs.Released.{all_stand}
 use Rattle.mk_layout.proofs.Serving.{Laid, placed_claim}
 use Rattle.mk_guard.specs.Guard.{IsMarking}
-use Rattle.mk_guard.specs.Kept.{PlaceIsBare, RunHasObject, LaterPagesAreKnown, StandsMapped}
+use Rattle.mk_guard.specs.Kept.{OthersSay, PlaceIsBare, RunHasObject, LaterPagesAreKnown, StandsMapped}
+use Rattle.mk_images.proofs.KnownWorlds.{KnownWorld, known_world}
+use Rattle.mk_zeros.specs.Zeros.{HasZeros}
 use Rattle.mk_zeros.specs.ZerosTell.{ZerosTellTheGuard}
 use Rattle.mk_zeros.proofs.MappedWords.{mapped_stays}
 use Rattle.mk_zeros.proofs.BarePages.{Unreleasing, shown_there, bare_page, plot_page}
@@ -212,29 +213,29 @@ not_releasing : (n : ℕ) → (n ≡ 1) ⊎ (n ≡ 2) → (n == 4) ≡ false
 not_releasing n (inl e) = ne_eqb n 4 (λ f. absurd (omega arith))
 not_releasing n (inr e) = ne_eqb n 4 (λ f. absurd (omega arith))
 
-pub zeros_tell_the_guard : ZerosTellTheGuard
-zeros_tell_the_guard c es limits on laid zeros =
+pub guard_in : (c : Config) (w : World) → KnownWorld c w → IsLaidOut c w → HasZeros c w → OthersSay c w
+guard_in c w known laid zeros =
     record {
       place = λ early seat place now.
-          let placed = placed_now c (left c es).now (flight_of (left c es).now seat) place now in
-          let there = new_exists c (left c es).now seat known placed.new in
-          let own = holding_object c (left c es).now seat known (new_has_turn c (left c es).now seat there placed.new) in
-          bare_place c (left c es) (object_made c (flight_of (left c es).now seat).op) place (quiet early)
-          (subst (λ (o : Object). Laid c o false (left c es) (terrain_of (left c es))) own (quiet early).laid)
-          (made_sized c (left c es).now seat limits known placed.new) placed.placed;
-      freed = λ early run is. run_has_object c (left c es) run (quiet early) is;
-      later = λ early. later_pages c (left c es) (quiet early);
-      mapped = λ i is. mapped_stands c (left c es) i (histories_keep_lengths c es) laid is;
+          let placed = placed_now c w.now (flight_of w.now seat) place now in
+          let there = new_exists c w.now seat known.now placed.new in
+          let own = holding_object c w.now seat known.now (new_has_turn c w.now seat there placed.new) in
+          bare_place c w (object_made c (flight_of w.now seat).op) place (quiet early)
+          (subst (λ (o : Object). Laid c o false w (terrain_of w)) own (quiet early).laid)
+          (made_sized c w.now seat known.limits known.now placed.new) placed.placed;
+      freed = λ early run is. run_has_object c w run (quiet early) is;
+      later = λ early. later_pages c w (quiet early);
+      mapped = λ i is. mapped_stands c w i known.lengths laid is;
     }
   where
-    known : Known c (left c es).now
-    known = known_left c es limits on
-
-    quiet : IsMarking (left c es).now.words → Unreleasing c (left c es)
+    quiet : IsMarking w.now.words → Unreleasing c w
     quiet early =
-        let off : is_phase (left c es).now.words 4 ≡ false = not_releasing (phase_of (left c es).now.words) early in
+        let off : is_phase w.now.words 4 ≡ false = not_releasing (phase_of w.now.words) early in
         record {
           off = off;
-          laid = subst (λ four. Laid c (object_now c (left c es).now) four (left c es) (terrain_of (left c es))) off laid;
+          laid = subst (λ four. Laid c (object_now c w.now) four w (terrain_of w)) off laid;
           zeros = zeros;
         }
+
+pub zeros_tell_the_guard : ZerosTellTheGuard
+zeros_tell_the_guard c es limits on = guard_in c (left c es) (known_world c es limits on)
