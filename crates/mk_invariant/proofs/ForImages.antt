@@ -31,7 +31,8 @@ use Rattle.mk_core.proofs.Sizes.{large_is_not_small, pages_some}
 use Rattle.mk_core.proofs.StandingAllocations.{typed_size}
 use Rattle.mk_layout.specs.Quarantine.{IsQuarantined}
 use Rattle.mk_layout.specs.Scene.{Among, Claim, HasHeader, IsShown, Unmapping, is_released_in}
-use Rattle.mk_layout.specs.Terrain.{IsClaimedRun, IsLaidOut, RunStands, claim_of, claims_of, claims_placed, is_unmapping, mode_of, object_now, place_claim, scene_of, terrain_of}
+use Rattle.mk_protocol.specs.Ground.{ground_of}
+use Rattle.mk_layout.specs.Terrain.{IsClaimedRun, IsLaidOut, RunStands, claim_of, claims_of, claims_placed, is_unmapping, mode_of, object_now, place_claim, scene_of}
 use Rattle.mk_layout.proofs.Claims.{claim_among, claim_is}
 use Rattle.mk_layout.proofs.Holders.{holding_object, new_has_turn, seat_operands}
 use Rattle.mk_layout.proofs.Joined.{apart_across, apart_left}
@@ -83,7 +84,7 @@ module _ (c : Config) (w : World) (known : KnownWorld c w) (laid : IsLaidOut c w
   pub shown_claim : (i : ℕ) → (placed_at w.allocations i).released ≡ false → IsShown w.now.words.pages (claim_of c w.now.seats.holding.freed (placed_at w.allocations i))
   shown_claim i u =
       let x : Claim = claim_of c w.now.seats.holding.freed (placed_at w.allocations i) in
-      laid.scene.shown x (own_claim c (object_now c w.now) (terrain_of w) x (claim_among c w.now.seats.holding.freed w.allocations i u))
+      laid.scene.shown x (own_claim c (object_now c w.now) (ground_of w) x (claim_among c w.now.seats.holding.freed w.allocations i u))
 
   pub standing : (i : ℕ) → (placed_at w.allocations i).released ≡ false → IsStanding c w.now.words (placed_at w.allocations i)
   standing i u = all_stand c (object_now c w.now) (is_phase w.now.words 4) w known.lengths.pages laid i u
@@ -136,13 +137,13 @@ module _ (c : Config) (w : World) (known : KnownWorld c w) (laid : IsLaidOut c w
             let a : PlacedAllocation = placed_at w.allocations i in
             let x = run_of r e in
             let there = eqb-true r.page (a.base / 64) here in
-            let mine = own_claim c (object_now c w.now) (terrain_of w) (claim_of c w.now.seats.holding.freed a) (claim_among c w.now.seats.holding.freed w.allocations i u) in
-            let his = own_claim c (object_now c w.now) (terrain_of w) x.claim x.among in
+            let mine = own_claim c (object_now c w.now) (ground_of w) (claim_of c w.now.seats.holding.freed a) (claim_among c w.now.seats.holding.freed w.allocations i u) in
+            let his = own_claim c (object_now c w.now) (ground_of w) x.claim x.among in
             let some = pages_some (object_placed c a) (shown_claim i u).sized in
             let some2 = pages_some x.claim.object (laid.scene.shown x.claim his).sized in
             let page = x.page in
             let same : x.claim ≡ claim_of c w.now.seats.holding.freed a =
-            shares_run (scene_of c (object_now c w.now) (is_phase w.now.words 4) w.now.words.marks (terrain_of w)) (claim_of c w.now.seats.holding.freed a) x.claim 0 0 laid.scene mine his large
+            shares_run (scene_of c (object_now c w.now) (is_phase w.now.words 4) w.now.words.marks (ground_of w)) (claim_of c w.now.seats.holding.freed a) x.claim 0 0 laid.scene mine his large
             (omega arith) (omega arith) (omega arith) in
             let count : r.count ≡ pages_made (object_placed c a) = sym x.count ∙ ap (λ (y : Claim). pages_made y.object) same in
             absurd (other (e ∙ ap (λ (y : RunPages). Some y) (ap (λ p. record { page = p; count = r.count }) there ∙ ap (λ k. record { page = a.base / 64; count = k }) count)))
@@ -207,7 +208,7 @@ module _ (c : Config) (w : World) (known : KnownWorld c w) (laid : IsLaidOut c w
       let among : Among (place_claim (object_now c w.now) place) (claims_placed (object_now c w.now) w.now.seats.holding.placing) =
       subst (λ (x : Placing). Among (place_claim (object_now c w.now) place) (claims_placed (object_now c w.now) x)) (sym is) (inl refl) in
       let shown : IsShown w.now.words.pages (place_claim o place) = subst (λ (u : Object). IsShown w.now.words.pages (place_claim u place)) object
-      (laid.scene.shown (place_claim (object_now c w.now) place) (placed_claim c (object_now c w.now) (terrain_of w) (place_claim (object_now c w.now) place) among)) in
+      (laid.scene.shown (place_claim (object_now c w.now) place) (placed_claim c (object_now c w.now) (ground_of w) (place_claim (object_now c w.now) place) among)) in
       let pages : place.page + pages_made o ≤ c.pages = subst (λ n. place.page + pages_made o ≤ n) known.lengths.pages shown.within in
       let b : PlacedAllocation = granted c w.now f in
       let base : b.base ≡ base_made o place = granted_base_is c f w.now.seats.holding.placing place is in

@@ -29,7 +29,8 @@ use Rattle.mk_core.proofs.Sizes.{large_count}
 use Rattle.mk_core.proofs.StandingAllocations.{typed_size}
 use Rattle.mk_protocol.proofs.Actors.{Meets}
 use Rattle.mk_protocol.proofs.SameWords.{Behind}
-use Rattle.mk_layout.specs.Terrain.{IsLaidOut, object_now, terrain_of}
+use Rattle.mk_protocol.specs.Ground.{ground_of}
+use Rattle.mk_layout.specs.Terrain.{IsLaidOut, object_now}
 use Rattle.mk_layout.proofs.Holders.{new_has_turn, no_run}
 use Rattle.mk_layout.proofs.Readings.{claimed_used}
 use Rattle.mk_layout.proofs.Serving.{own_claim}
@@ -83,7 +84,7 @@ module _ (c : Config) (w : World) (known : KnownWorld c w) (laid : IsLaidOut c w
           next.not_yet (ap (λ q. header_at w.now.words q) (sym at) ∙ headers_gone d lt ∙ ap (λ e. unmapped_header r.count e) (sym distance))
       by (ItEmpties on x) =
           let y = run_of c w known laid r is in
-          let shown = laid.scene.shown y.claim (own_claim c (object_now c w.now) (terrain_of w) y.claim y.among) in
+          let shown = laid.scene.shown y.claim (own_claim c (object_now c w.now) (ground_of w) y.claim y.among) in
           let page = y.page in
           let count = y.count in
           let here : y.claim.page + d ≡ p = omega arith in
@@ -103,7 +104,7 @@ module _ (c : Config) (w : World) (known : KnownWorld c w) (laid : IsLaidOut c w
       let near : d < pages_made (object_placed c a) = omega arith in
       let there : a.base / 64 + d ≡ r.page + i / 64 = omega arith in
       let y = run_of c w known laid r is in
-      let shown = laid.scene.shown y.claim (own_claim c (object_now c w.now) (terrain_of w) y.claim y.among) in
+      let shown = laid.scene.shown y.claim (own_claim c (object_now c w.now) (ground_of w) y.claim y.among) in
       let range = large_count y.claim.object shown.sized y.large in
       let low = range.0 in
       let high = range.1 in

@@ -19,7 +19,8 @@ use Rattle.mk_protocol.proofs.SameWords.{reg_keeps}
 use Rattle.mk_protocol.proofs.SameWords.{Keeps}
 use Rattle.mk_layout.specs.LayoutLaws.{OthersSay}
 use Rattle.mk_layout.specs.Scene.{Among, Claim, is_released_in}
-use Rattle.mk_layout.specs.Terrain.{Terrain, claims_on, object_now, terrain_of}
+use Rattle.mk_protocol.specs.Ground.{Ground, ground_of}
+use Rattle.mk_layout.specs.Terrain.{claims_on, object_now}
 use Rattle.mk_layout.proofs.Serving.{Laid}
 
 -- all that is known of the world before
@@ -29,11 +30,11 @@ pub record Before (c : Config) (w : World) : Type 0 where
   pub known : Known c w.now
   pub others : OthersSay c w
   -- no claim's cell is released
-  pub unreleased : is_phase w.now.words 4 ≡ true → (x : Claim) → Among x (claims_on c (object_now c w.now) (terrain_of w))
+  pub unreleased : is_phase w.now.words 4 ≡ true → (x : Claim) → Among x (claims_on c (object_now c w.now) (ground_of w))
       → is_released_in true w.now.words.snapshot w.now.words.marks x.page x.index ≡ false
 
 -- laid out as at that moment, but for the terrain
-abbrev pub LaidNow : Config → World → Terrain → Type 0
+abbrev pub LaidNow : Config → World → Ground → Type 0
 LaidNow c w t = Laid c (object_now c w.now) (is_phase w.now.words 4) w t
 
 -- whether released cells are there behind a step
@@ -42,7 +43,7 @@ is_releasing_behind step.Release b = true
 is_releasing_behind step.End b = false
 is_releasing_behind _ b = b
 
-abbrev pub LaidBehind : Config → World → Step → Terrain → Type 0
+abbrev pub LaidBehind : Config → World → Step → Ground → Type 0
 LaidBehind c w x t = Laid c (object_now c w.now) (is_releasing_behind x (is_phase w.now.words 4)) w t
 
 pub page_within : (c : Config) (w : World) (p : ℕ) → Before c w → nat_lt p c.pages ≡ true → p < length w.now.words.pages

@@ -29,7 +29,8 @@ use Rattle.mk_protocol.proofs.OrderlyLists.{actor_of, not_astray, orderly_behind
 use Rattle.mk_protocol.proofs.SameWords.{tally_keeps}
 use Rattle.mk_protocol.proofs.Sorts.{moves}
 use Rattle.mk_protocol.proofs.Views.{view_of}
-use Rattle.mk_layout.specs.Terrain.{HasLayout, IsLaidOut, object_now, terrain_of}
+use Rattle.mk_protocol.specs.Ground.{ground_of}
+use Rattle.mk_layout.specs.Terrain.{HasLayout, IsLaidOut, object_now}
 use Rattle.mk_layout.proofs.Before.{Before, is_releasing_behind, reg_leaves}
 use Rattle.mk_layout.proofs.ByKind.{by_kind, placeless}
 use Rattle.mk_layout.proofs.Dropped.{unreleasing}
@@ -142,16 +143,16 @@ layout_behind c w seat x b h laid =
     let v : World = WorldBehind c w seat x in
     let kind = by_kind c w seat x b h laid in
     let phase = phase_kind c w seat x h in
-    let marked : HasLayout c (object_now c w.now) (is_phase v.now.words 4) v.now.words.marks (terrain_of v) =
-    subst (λ r. HasLayout c (object_now c w.now) r v.now.words.marks (terrain_of v)) (sym phase) (marks (is_releasing_behind x (is_phase w.now.words 4)) refl kind) in
+    let marked : HasLayout c (object_now c w.now) (is_phase v.now.words 4) v.now.words.marks (ground_of v) =
+    subst (λ r. HasLayout c (object_now c w.now) r v.now.words.marks (ground_of v)) (sym phase) (marks (is_releasing_behind x (is_phase w.now.words 4)) refl kind) in
     elim (cases_Bool (has_place v.now.seats.holding.placing)) [
-      | inl has ↦ subst (λ (o : Object). HasLayout c o (is_phase v.now.words 4) v.now.words.marks (terrain_of v)) (sym (object_kind c w seat x b.known h has)) marked
-      | inr none ↦ (placeless c (object_now c w.now) (object_now c v.now) (is_phase v.now.words 4) v.now.words.marks (terrain_of v) v.now.seats.holding.placing refl none marked).0
+      | inl has ↦ subst (λ (o : Object). HasLayout c o (is_phase v.now.words 4) v.now.words.marks (ground_of v)) (sym (object_kind c w seat x b.known h has)) marked
+      | inr none ↦ (placeless c (object_now c w.now) (object_now c v.now) (is_phase v.now.words 4) v.now.words.marks (ground_of v) v.now.seats.holding.placing refl none marked).0
     ]
   where
-    marks : (r : Bool) → is_releasing_behind x (is_phase w.now.words 4) ≡ r → HasLayout c (object_now c w.now) r w.now.words.marks (terrain_of (WorldBehind c w seat x))
-        → HasLayout c (object_now c w.now) r (WorldBehind c w seat x).now.words.marks (terrain_of (WorldBehind c w seat x))
-    marks true is st = subst (λ (xs : List ℕ). HasLayout c (object_now c w.now) true xs (terrain_of (WorldBehind c w seat x))) (sym (releasing_marks c w seat x b.known h is)) st
+    marks : (r : Bool) → is_releasing_behind x (is_phase w.now.words 4) ≡ r → HasLayout c (object_now c w.now) r w.now.words.marks (ground_of (WorldBehind c w seat x))
+        → HasLayout c (object_now c w.now) r (WorldBehind c w seat x).now.words.marks (ground_of (WorldBehind c w seat x))
+    marks true is st = subst (λ (xs : List ℕ). HasLayout c (object_now c w.now) true xs (ground_of (WorldBehind c w seat x))) (sym (releasing_marks c w seat x b.known h is)) st
     marks false is st =
-        unreleasing c (object_now c w.now) w.now.words.marks (WorldBehind c w seat x).now.words.marks (terrain_of (WorldBehind c w seat x))
+        unreleasing c (object_now c w.now) w.now.words.marks (WorldBehind c w seat x).now.words.marks (ground_of (WorldBehind c w seat x))
         (WorldBehind c w seat x).now.words.freed (WorldBehind c w seat x).now.words.snapshot st

@@ -36,7 +36,8 @@ use Rattle.mk_protocol.proofs.Actors.{Meets, grants_new}
 use Rattle.mk_protocol.proofs.Ground.{KeepsGround, tally_ground}
 use Rattle.mk_protocol.proofs.OthersMoves.{WorldBehind}
 use Rattle.mk_layout.specs.Scene.{Claim, IsLaidOn, Scene}
-use Rattle.mk_layout.specs.Terrain.{HasLayout, IsLaidOut, RunStands, Terrain, claim_of, claims_of, claims_placed, object_now, scene_of, terrain_of}
+use Rattle.mk_protocol.specs.Ground.{Ground, ground_of}
+use Rattle.mk_layout.specs.Terrain.{HasLayout, IsLaidOut, RunStands, claim_of, claims_of, claims_placed, object_now, scene_of}
 use Rattle.mk_layout.proofs.Before.{Before, LaidBehind, LaidNow, reg_leaves_ground}
 use Rattle.mk_layout.proofs.Claims.{LeavesCells, cells_behind}
 use Rattle.mk_layout.proofs.Dropped.{ended}
@@ -49,14 +50,14 @@ use Rattle.mk_layout.proofs.Serving.{Laid, mark_places}
 
 -- `grant`
 grant_kind : (c : Config) (w : World) (seat : Seat) → Before c w → Meets c w.now seat step.Grant → IsLaidOut c w
-    → LaidNow c w (record (terrain_of w) { placing = Granted; allocations = w.allocations ++ granted c w.now (flight_of w.now seat) ∷ [] })
+    → LaidNow c w (record (ground_of w) { placing = Granted; allocations = w.allocations ++ granted c w.now (flight_of w.now seat) ∷ [] })
 grant_kind c w seat b h laid = by w.now.seats.holding.placing refl h.holder
   where
     new : is_undecided_new (flight_of w.now seat) ≡ true
     new = grants_new c w.now seat h
 
     by : (placing : Placing) → w.now.seats.holding.placing ≡ placing → is_used_once placing ≡ true
-        → LaidNow c w (record (terrain_of w) { placing = Granted; allocations = w.allocations ++ granted c w.now (flight_of w.now seat) ∷ [] })
+        → LaidNow c w (record (ground_of w) { placing = Granted; allocations = w.allocations ++ granted c w.now (flight_of w.now seat) ∷ [] })
     by Unplaced is k = cc
     by (Chosen place) is k = cc
     by Granted is k = cc
@@ -66,23 +67,23 @@ grant_kind c w seat b h laid = by w.now.seats.holding.placing refl h.holder
         let made = granted_object c w.now f new in
         let own : object_now c w.now ≡ object_placed c a = holding_object c w.now seat b.known (new_has_turn c w.now seat h.seat new) ∙ sym made in
         let base = granted_base_is c f w.now.seats.holding.placing place is in
-        subst (λ (o : Object). Laid c o (is_phase w.now.words 4) w (record (terrain_of w) { placing = Granted; allocations = w.allocations ++ a ∷ [] })) (sym own)
-        (granted_terrain c (is_phase w.now.words 4) w.now.words.marks (terrain_of w) place a is
+        subst (λ (o : Object). Laid c o (is_phase w.now.words 4) w (record (ground_of w) { placing = Granted; allocations = w.allocations ++ a ∷ [] })) (sym own)
+        (granted_terrain c (is_phase w.now.words 4) w.now.words.marks (ground_of w) place a is
         (record {
           typed = granted_type c w.now f new (seat_operands c w.now seat b.known);
           base = base ∙ ap (λ (o : Object). base_made o place) (sym made);
           freed = refl;
           unreleased = refl;
-        }) (subst (λ (o : Object). Laid c o (is_phase w.now.words 4) w (terrain_of w)) own laid))
+        }) (subst (λ (o : Object). Laid c o (is_phase w.now.words 4) w (ground_of w)) own laid))
 
 -- `mark`
 mark_kind : (c : Config) (w : World) (seat : Seat) (p n : ℕ) → Before c w → Meets c w.now seat (step.Mark p n) → IsLaidOut c w
-    → LaidNow c w (terrain_of (WorldBehind c w seat (step.Mark p n)))
+    → LaidNow c w (ground_of (WorldBehind c w seat (step.Mark p n)))
 mark_kind c w seat p n b h laid =
     by (marks_place w.now.words (object_made c (flight_of w.now seat).op) (place_now c w.now (flight_of w.now seat)) p n) refl
   where
     by : (t : Bool) → marks_place w.now.words (object_made c (flight_of w.now seat).op) (place_now c w.now (flight_of w.now seat)) p n ≡ t
-        → LaidNow c w (record (terrain_of w) { placing = if t then chosen w.now.seats.holding.placing (place_now c w.now (flight_of w.now seat)) else w.now.seats.holding.placing })
+        → LaidNow c w (record (ground_of w) { placing = if t then chosen w.now.seats.holding.placing (place_now c w.now (flight_of w.now seat)) else w.now.seats.holding.placing })
     by false is = laid
     by true is =
         let x = marks_is w.now.words (object_made c (flight_of w.now seat).op) (place_now c w.now (flight_of w.now seat)) p n is in
@@ -90,9 +91,9 @@ mark_kind c w seat p n b h laid =
         let own = holding_object c w.now seat b.known (new_has_turn c w.now seat h.seat placed.new) in
         let sized = made_sized c w.now seat b.limits b.known placed.new in
         let free = ap (λ q. header_at w.now.words q) (sym x.marked.at) ∙ x.marked.free in
-        subst (λ (place : Option Place). LaidNow c w (record (terrain_of w) { placing = chosen w.now.seats.holding.placing place })) (sym x.there)
-        (subst (λ (o : Object). Laid c o (is_phase w.now.words 4) w (record (terrain_of w) { placing = chosen w.now.seats.holding.placing (Some x.place) })) (sym own)
-        (mark_places c (object_made c (flight_of w.now seat).op) (is_phase w.now.words 4) w x.place (subst (λ (o : Object). Laid c o (is_phase w.now.words 4) w (terrain_of w)) own laid)
+        subst (λ (place : Option Place). LaidNow c w (record (ground_of w) { placing = chosen w.now.seats.holding.placing place })) (sym x.there)
+        (subst (λ (o : Object). Laid c o (is_phase w.now.words 4) w (record (ground_of w) { placing = chosen w.now.seats.holding.placing (Some x.place) })) (sym own)
+        (mark_places c (object_made c (flight_of w.now seat).op) (is_phase w.now.words 4) w x.place (subst (λ (o : Object). Laid c o (is_phase w.now.words 4) w (ground_of w)) own laid)
         sized placed.placed free (first_header (object_made c (flight_of w.now seat).op) sized)))
 
 -- `begin`: no claim changes
@@ -103,10 +104,10 @@ fresh_claims : (c : Config) (run : Option RunPages) (xs : List PlacedAllocation)
 fresh_claims c run [] = refl
 fresh_claims c run (a ∷ xs) = ap (λ (ys : List Claim). if a.released then ys else claim_of c run a ∷ ys) (fresh_claims c run xs)
 
-begin_kind : (c : Config) (w : World) → IsLaidOut c w → LaidNow c w (record (terrain_of w) { allocations = map no_longer_fresh w.allocations })
+begin_kind : (c : Config) (w : World) → IsLaidOut c w → LaidNow c w (record (ground_of w) { allocations = map no_longer_fresh w.allocations })
 begin_kind c w laid =
     let same = sym (fresh_claims c w.now.seats.holding.freed w.allocations) in
-    let s : Scene = scene_of c (object_now c w.now) (is_phase w.now.words 4) w.now.words.marks (terrain_of w) in
+    let s : Scene = scene_of c (object_now c w.now) (is_phase w.now.words 4) w.now.words.marks (ground_of w) in
     record {
       scene = subst (λ (xs : List Claim). IsLaidOn (record s { claims = xs ++ claims_placed (object_now c w.now) w.now.seats.holding.placing })) same laid.scene;
       gone = subst (λ (xs : List Claim). RunStands xs w.now.seats.holding.freed) same laid.gone;
@@ -115,7 +116,7 @@ begin_kind c w laid =
     }
 
 -- Without a place, whose object it is doesn't matter.
-pub placeless : (c : Config) (o other : Object) (releasing : Bool) (marks : List ℕ) (t : Terrain) (placing : Placing) → t.placing ≡ placing → has_place placing ≡ false
+pub placeless : (c : Config) (o other : Object) (releasing : Bool) (marks : List ℕ) (t : Ground) (placing : Placing) → t.placing ≡ placing → has_place placing ≡ false
     → HasLayout c o releasing marks t → HasLayout c other releasing marks t × HasLayout c other releasing marks (record t { placing = Unplaced })
 placeless c o other releasing marks t placing is none st = by placing is none (subst (λ (x : Placing). HasLayout c o releasing marks (record t { placing = x })) is st)
   where
@@ -137,9 +138,9 @@ undecided_waits : (f : Flight) → is_undecided_new f ≡ true → is_decided f.
 undecided_waits f new decided = true≢false (sym decided ∙ ap (λ (s : Stage). is_decided s) (undecided_new f new).stage)
 
 give_kind : (c : Config) (w : World) (seat : Seat) → Before c w → Meets c w.now seat step.Give → IsLaidOut c w
-    → LaidNow c w (record (terrain_of w) { placing = Unplaced; run = None })
+    → LaidNow c w (record (ground_of w) { placing = Unplaced; run = None })
 give_kind c w seat b h laid =
-    (placeless c (object_now c w.now) (object_now c w.now) (is_phase w.now.words 4) w.now.words.marks (record (terrain_of w) { run = None }) w.now.seats.holding.placing refl
+    (placeless c (object_now c w.now) (object_now c w.now) (is_phase w.now.words 4) w.now.words.marks (record (ground_of w) { run = None }) w.now.seats.holding.placing refl
     (false_from_ne_true (has_place w.now.seats.holding.placing) no_place)
     (gone_terrain c (object_now c w.now) (is_phase w.now.words 4) w (λ run is. unmapped w.now.seats.holding.freed is own.1) laid)).1
   where
@@ -162,42 +163,42 @@ give_kind c w seat b h laid =
         (and_parts (is_run_unmapped w.now.words run) (words_are_zero w.now.words (64 * run.page) (64 * run.count)) there).0
 
 -- `take`: where the turn is free, nothing is on its way
-take_kind : (c : Config) (w : World) (seat : Seat) (x : Option Op) → Before c w → IsLaidOut c w → LaidNow c w (terrain_of (WorldBehind c w seat (step.Take x)))
+take_kind : (c : Config) (w : World) (seat : Seat) (x : Option Op) → Before c w → IsLaidOut c w → LaidNow c w (ground_of (WorldBehind c w seat (step.Take x)))
 take_kind c w seat x b laid = by (w.now.words.turn == 0) refl
   where
     by : (t : Bool) → (w.now.words.turn == 0) ≡ t
-        → LaidNow c w (record (terrain_of w) { placing = (if t then nothing_done else w.now.seats.holding).placing; run = (if t then nothing_done else w.now.seats.holding).freed })
+        → LaidNow c w (record (ground_of w) { placing = (if t then nothing_done else w.now.seats.holding).placing; run = (if t then nothing_done else w.now.seats.holding).freed })
     by false is = laid
     by true is =
-        subst (λ (y : Holding). LaidNow c w (record (terrain_of w) { placing = y.placing; run = y.freed })) (b.known.orderly.free (eqb-true w.now.words.turn 0 is)) laid
+        subst (λ (y : Holding). LaidNow c w (record (ground_of w) { placing = y.placing; run = y.freed })) (b.known.orderly.free (eqb-true w.now.words.turn 0 is)) laid
 
 -- words that leave the terrain
 kept_ground : (c : Config) (w : World) (x : Words) → KeepsGround w.now.words x → IsLaidOut c w
-    → LaidNow c w (record (terrain_of w) { pages = x.pages; freed = x.freed; snapshot = x.snapshot })
+    → LaidNow c w (record (ground_of w) { pages = x.pages; freed = x.freed; snapshot = x.snapshot })
 kept_ground c w x g laid =
-    subst (λ (ps : List Page). LaidNow c w (record (terrain_of w) { pages = ps; freed = x.freed; snapshot = x.snapshot })) (sym g.pages)
-    (subst (λ (fs : List ℕ). LaidNow c w (record (terrain_of w) { freed = fs; snapshot = x.snapshot })) (sym g.freed)
-    (subst (λ (ss : List ℕ). LaidNow c w (record (terrain_of w) { snapshot = ss })) (sym g.snapshot) laid))
+    subst (λ (ps : List Page). LaidNow c w (record (ground_of w) { pages = ps; freed = x.freed; snapshot = x.snapshot })) (sym g.pages)
+    (subst (λ (fs : List ℕ). LaidNow c w (record (ground_of w) { freed = fs; snapshot = x.snapshot })) (sym g.freed)
+    (subst (λ (ss : List ℕ). LaidNow c w (record (ground_of w) { snapshot = ss })) (sym g.snapshot) laid))
 
 -- `release` and `end`
 pub off_at : (w : World) (n : ℕ) → is_phase w.now.words n ≡ true → n ≢ 4 → is_phase w.now.words 4 ≡ false
 off_at w n at ne = let e = eqb-true (phase_of w.now.words) n at in ne_eqb (phase_of w.now.words) 4 (λ four. ne (sym e ∙ four))
 
 release_kind : (c : Config) (w : World) → Before c w → is_phase w.now.words 3 ≡ true → IsLaidOut c w
-    → Laid c (object_now c w.now) true w (record (terrain_of w) { allocations = map (with_released c w.now.words) w.allocations })
+    → Laid c (object_now c w.now) true w (record (ground_of w) { allocations = map (with_released c w.now.words) w.allocations })
 release_kind c w b three laid =
     released_terrain c (object_now c w.now) w b.limits b.lengths.pages
-    (subst (λ four. Laid c (object_now c w.now) four w (terrain_of w)) (off_at w 3 three (λ e. absurd (omega arith))) laid)
+    (subst (λ four. Laid c (object_now c w.now) four w (ground_of w)) (off_at w 3 three (λ e. absurd (omega arith))) laid)
     (λ run is.
     and_right (has_bit (slice_index w.now.words.snapshot run.page) 0) (not (has_bit (slice_index w.now.words.marks run.page) 0)) (ap not (b.others.marked three run is)))
 
 end_kind : (c : Config) (w : World) → Before c w → is_phase w.now.words 4 ≡ true → may_end c.pages w.now.words ≡ true → IsLaidOut c w
-    → Laid c (object_now c w.now) false w (terrain_of w)
+    → Laid c (object_now c w.now) false w (ground_of w)
 end_kind c w b four own laid =
-    ended c (object_now c w.now) w b.lengths.pages (subst (λ x. Laid c (object_now c w.now) x w (terrain_of w)) four laid) own
+    ended c (object_now c w.now) w b.lengths.pages (subst (λ x. Laid c (object_now c w.now) x w (ground_of w)) four laid) own
 
 -- each kind of event, whatever the seat
-pub by_kind : (c : Config) (w : World) (seat : Seat) (x : Step) → Before c w → Meets c w.now seat x → IsLaidOut c w → LaidBehind c w x (terrain_of (WorldBehind c w seat x))
+pub by_kind : (c : Config) (w : World) (seat : Seat) (x : Step) → Before c w → Meets c w.now seat x → IsLaidOut c w → LaidBehind c w x (ground_of (WorldBehind c w seat x))
 by_kind c w seat (step.Take o) b h laid = take_kind c w seat o b laid
 by_kind c w seat step.Give b h laid = give_kind c w seat b h laid
 by_kind c w seat step.Reg b h laid =

@@ -15,12 +15,13 @@ use Rattle.mk_core.proofs.BitsWithout.{has_bit_without}
 use Rattle.mk_core.proofs.PageSteps.{Drops}
 use Rattle.mk_core.proofs.WordBits.{no_bit}
 use Rattle.mk_layout.specs.Scene.{IsClaimed, is_released_in}
-use Rattle.mk_layout.specs.Terrain.{HasLayout, Terrain, claims_on, scene_of, terrain_of}
+use Rattle.mk_protocol.specs.Ground.{Ground, ground_of}
+use Rattle.mk_layout.specs.Terrain.{HasLayout, claims_on, scene_of}
 use Rattle.mk_layout.proofs.Releasing.{layout_ended}
 use Rattle.mk_layout.proofs.Serving.{Laid}
 
 -- While the phase isn't releasing, no cell is released, whatever the snapshot, the freed cells and the marks.
-pub unreleasing : (c : Config) (o : Object) (marks other : List ℕ) (t : Terrain) (freed snapshot : List ℕ) → HasLayout c o false marks t
+pub unreleasing : (c : Config) (o : Object) (marks other : List ℕ) (t : Ground) (freed snapshot : List ℕ) → HasLayout c o false marks t
     → HasLayout c o false other (record t { freed = freed; snapshot = snapshot })
 unreleasing c o marks other t freed snapshot st =
     record {
@@ -31,13 +32,13 @@ unreleasing c o marks other t freed snapshot st =
     }
 
 -- The freed cells aren't read at all.
-pub refreed : (c : Config) (o : Object) (releasing : Bool) (marks : List ℕ) (t : Terrain) (freed : List ℕ) → HasLayout c o releasing marks t
+pub refreed : (c : Config) (o : Object) (releasing : Bool) (marks : List ℕ) (t : Ground) (freed : List ℕ) → HasLayout c o releasing marks t
     → HasLayout c o releasing marks (record t { freed = freed })
 refreed c o releasing marks t freed st = record { scene = st.scene; gone = st.gone; first = st.first; cells = st.cells }
 
 -- `quar` (c): released cells that aren't used are dropped
-pub dropped : (c : Config) (o : Object) (w : World) (p freed n : ℕ) → Laid c o true w (terrain_of w) → Drops w.now.words p freed n
-    → Laid c o true w (record (terrain_of w) { snapshot = slice_set w.now.words.snapshot p n })
+pub dropped : (c : Config) (o : Object) (w : World) (p freed n : ℕ) → Laid c o true w (ground_of w) → Drops w.now.words p freed n
+    → Laid c o true w (record (ground_of w) { snapshot = slice_set w.now.words.snapshot p n })
 dropped c o w p freed n st h =
     let s = st.scene in
     record {
@@ -73,8 +74,8 @@ dropped c o w p freed n st h =
     ]
 
     by : (q k : ℕ) → has_bit (used_at w.now.words q) k ≡ true
-        → IsClaimed (claims_on c o (terrain_of w)) q k ⊎ (is_released_in true w.now.words.snapshot w.now.words.marks q k ≡ true)
-        → IsClaimed (claims_on c o (terrain_of w)) q k ⊎ (is_released_in true (slice_set w.now.words.snapshot p n) w.now.words.marks q k ≡ true)
+        → IsClaimed (claims_on c o (ground_of w)) q k ⊎ (is_released_in true w.now.words.snapshot w.now.words.marks q k ≡ true)
+        → IsClaimed (claims_on c o (ground_of w)) q k ⊎ (is_released_in true (slice_set w.now.words.snapshot p n) w.now.words.marks q k ≡ true)
     by q k bit (inl own) = inl own
     by q k bit (inr r) =
         let parts = and_parts (has_bit (slice_index w.now.words.snapshot q) k) (not (has_bit (slice_index w.now.words.marks q) k)) r in
@@ -98,11 +99,11 @@ settled_page w count p h lt =
     }
 
 -- `end`
-pub ended : (c : Config) (o : Object) (w : World) → length w.now.words.pages ≡ c.pages → Laid c o true w (terrain_of w) → may_end c.pages w.now.words ≡ true
-    → Laid c o false w (terrain_of w)
+pub ended : (c : Config) (o : Object) (w : World) → length w.now.words.pages ≡ c.pages → Laid c o true w (ground_of w) → may_end c.pages w.now.words ≡ true
+    → Laid c o false w (ground_of w)
 ended c o w len st h =
     record {
-      scene = layout_ended (scene_of c o true w.now.words.marks (terrain_of w)) st.scene
+      scene = layout_ended (scene_of c o true w.now.words.marks (ground_of w)) st.scene
           (record {
             none = λ p k lt. (settled_page w.now.words c.pages p h (omega (arith, len))).none k;
             settled = λ p lt some empty. (settled_page w.now.words c.pages p h (omega (arith, len))).used some empty;

@@ -25,7 +25,8 @@ use Rattle.mk_core.proofs.Sizes.{pages_some}
 use Rattle.mk_core.proofs.SmallCycles.{small}
 use Rattle.mk_core.proofs.StandingAllocations.{first_page_shows}
 use Rattle.mk_layout.specs.Scene.{Among, Claim, HasHeader, IsShown, IsUnmappedHeaderOf}
-use Rattle.mk_layout.specs.Terrain.{IsCellOf, IsClaimedRun, RunStands, claim_of, claims_of, claims_on, is_unmapping, mode_of, scene_of, terrain_of}
+use Rattle.mk_protocol.specs.Ground.{ground_of}
+use Rattle.mk_layout.specs.Terrain.{IsCellOf, IsClaimedRun, RunStands, claim_of, claims_of, claims_on, is_unmapping, mode_of, scene_of}
 use Rattle.mk_layout.proofs.Claims.{LeavesCells, changed_among, claim_among}
 use Rattle.mk_layout.proofs.Modes.{Remodes, remoded}
 use Rattle.mk_layout.proofs.Readings.{one_claim}
@@ -65,7 +66,7 @@ pub freeing_leaves : (w : Words) (cell : Option Cell) → LeavesCells (freed_whe
 freeing_leaves w cell = record { places = freed_leaves w cell; released = λ a h. sym (freed_released w cell a) ∙ h }
 
 -- What stands in the cell of an unreleased allocation has that cell.
-pub standing_cell : (c : Config) (o : Object) (w : World) (cell : Cell) → length w.now.words.pages ≡ c.pages → IsCellOf c w.allocations cell → Laid c o false w (terrain_of w)
+pub standing_cell : (c : Config) (o : Object) (w : World) (cell : Cell) → length w.now.words.pages ≡ c.pages → IsCellOf c w.allocations cell → Laid c o false w (ground_of w)
     → (i : ℕ) → (placed_at w.allocations i).released ≡ false → stands_in w.now.words cell (placed_at w.allocations i) ≡ true
     → cell_of_allocation c (placed_at w.allocations i) ≡ cell
 standing_cell c o w cell len own st i u h =
@@ -84,11 +85,11 @@ standing_cell c o w cell len own st i u h =
     shown : (i : ℕ) → (placed_at w.allocations i).released ≡ false → IsShown w.now.words.pages (claim_of c w.now.seats.holding.freed (placed_at w.allocations i))
     shown i u =
         let x : Claim = claim_of c w.now.seats.holding.freed (placed_at w.allocations i) in
-        st.scene.shown x (own_claim c o (terrain_of w) x (claim_among c w.now.seats.holding.freed w.allocations i u))
+        st.scene.shown x (own_claim c o (ground_of w) x (claim_among c w.now.seats.holding.freed w.allocations i u))
 
 pub freed_terrain : (c : Config) (o : Object) (w : World) (cell : Cell) → IsWithinLimits c → length w.now.words.pages ≡ c.pages → w.now.seats.holding.freed ≡ None
-    → IsCellOf c w.allocations cell → Laid c o false w (terrain_of w)
-    → Laid c o false w (record (terrain_of w) { run = run_of_cell w.now.words (Some cell); allocations = map (freed_where_it_stands w.now.words (Some cell)) w.allocations })
+    → IsCellOf c w.allocations cell → Laid c o false w (ground_of w)
+    → Laid c o false w (record (ground_of w) { run = run_of_cell w.now.words (Some cell); allocations = map (freed_where_it_stands w.now.words (Some cell)) w.allocations })
 freed_terrain c o w cell limits len none own st = by (cases_Bool (is_small_object (object_placed c (placed_at w.allocations own.number))))
   where
     a : PlacedAllocation
@@ -97,8 +98,8 @@ freed_terrain c o w cell limits len none own st = by (cases_Bool (is_small_objec
     stand : (i : ℕ) → (placed_at w.allocations i).released ≡ false → IsStanding c w.now.words (placed_at w.allocations i)
     stand = all_stand c o false w len st
 
-    among : (i : ℕ) → (placed_at w.allocations i).released ≡ false → Among (claim_of c w.now.seats.holding.freed (placed_at w.allocations i)) (claims_on c o (terrain_of w))
-    among i u = own_claim c o (terrain_of w) _ (claim_among c w.now.seats.holding.freed w.allocations i u)
+    among : (i : ℕ) → (placed_at w.allocations i).released ≡ false → Among (claim_of c w.now.seats.holding.freed (placed_at w.allocations i)) (claims_on c o (ground_of w))
+    among i u = own_claim c o (ground_of w) _ (claim_among c w.now.seats.holding.freed w.allocations i u)
 
     sized : IsSized (object_placed c (placed_at w.allocations own.number))
     sized = (st.scene.shown (claim_of c w.now.seats.holding.freed (placed_at w.allocations own.number)) (among own.number own.unreleased)).sized
@@ -121,7 +122,7 @@ freed_terrain c o w cell limits len none own st = by (cases_Bool (is_small_objec
     modes : (run : Option RunPages)
         → ((i : ℕ) → (placed_at w.allocations i).released ≡ false → stands_in w.now.words cell (placed_at w.allocations i) ≡ true
         → is_small_object (object_placed c (placed_at w.allocations i)) ≡ false → is_unmapping run ((placed_at w.allocations i).base / 64) ≡ true)
-        → Remodes c (terrain_of w) run (freed_where_it_stands w.now.words (Some cell))
+        → Remodes c (ground_of w) run (freed_where_it_stands w.now.words (Some cell))
     modes run going =
         record {
           leaves = freeing_leaves w.now.words (Some cell);
@@ -144,23 +145,23 @@ freed_terrain c o w cell limits len none own st = by (cases_Bool (is_small_objec
             (λ e. e) (λ e f l. absurd (true≢false (sym f ∙ e))) has
 
     by : (is_small_object (object_placed c (placed_at w.allocations own.number)) ≡ true) ⊎ (is_small_object (object_placed c (placed_at w.allocations own.number)) ≡ false)
-        → Laid c o false w (record (terrain_of w) { run = run_of_cell w.now.words (Some cell); allocations = map (freed_where_it_stands w.now.words (Some cell)) w.allocations })
+        → Laid c o false w (record (ground_of w) { run = run_of_cell w.now.words (Some cell); allocations = map (freed_where_it_stands w.now.words (Some cell)) w.allocations })
     by (inl small) =
-        subst (λ (r : Option RunPages). Laid c o false w (record (terrain_of w) { run = r; allocations = map (freed_where_it_stands w.now.words (Some cell)) w.allocations }))
+        subst (λ (r : Option RunPages). Laid c o false w (record (ground_of w) { run = r; allocations = map (freed_where_it_stands w.now.words (Some cell)) w.allocations }))
         (sym (run_small (object_placed c a) (header_in w.now.words cell.page) cell.page part small))
-        (remoded c o false w.now.words.marks (terrain_of w) None (freed_where_it_stands w.now.words (Some cell)) st
+        (remoded c o false w.now.words.marks (ground_of w) None (freed_where_it_stands w.now.words (Some cell)) st
         (modes None (λ i u h large.
         let there = cell_of i u h in
         let one =
-        one_claim (claims_on c o (terrain_of w)) (claim_of c w.now.seats.holding.freed (placed_at w.allocations i)) (claim_of c w.now.seats.holding.freed a) st.scene.apart
+        one_claim (claims_on c o (ground_of w)) (claim_of c w.now.seats.holding.freed (placed_at w.allocations i)) (claim_of c w.now.seats.holding.freed a) st.scene.apart
         (among i u) (among own.number own.unreleased) (ap (λ (x : Cell). x.page) (there ∙ sym own.is), ap (λ (x : Cell). x.index) (there ∙ sym own.is)) in
         absurd (true≢false (sym small ∙ ap (λ (z : Claim). is_small_object z.object) (sym one) ∙ large)))) tt)
     by (inr large) =
         let run : RunPages = record { page = cell.page; count = pages_made (object_placed c a) } in
         let is_run = run_large (object_placed c a) (header_in w.now.words cell.page) cell.page part large in
-        subst (λ (r : Option RunPages). Laid c o false w (record (terrain_of w) { run = r; allocations = map (freed_where_it_stands w.now.words (Some cell)) w.allocations }))
+        subst (λ (r : Option RunPages). Laid c o false w (record (ground_of w) { run = r; allocations = map (freed_where_it_stands w.now.words (Some cell)) w.allocations }))
         (sym is_run)
-        (remoded c o false w.now.words.marks (terrain_of w) (Some run) (freed_where_it_stands w.now.words (Some cell)) st
+        (remoded c o false w.now.words.marks (ground_of w) (Some run) (freed_where_it_stands w.now.words (Some cell)) st
         (modes (Some run) (λ i u h l. eq-eqb cell.page ((placed_at w.allocations i).base / 64) (sym (ap (λ (x : Cell). x.page) (cell_of i u h))))) (claimed_run run refl refl large))
       where
         claimed_run : (run : RunPages) → run.page ≡ cell.page → run.count ≡ pages_made (object_placed c (placed_at w.allocations own.number))
@@ -185,10 +186,10 @@ freed_terrain c o w cell limits len none own st = by (cases_Bool (is_small_objec
 
 -- The run is unmapped, and the call that freed it ends.
 pub gone_terrain : (c : Config) (o : Object) (releasing : Bool) (w : World) → ((run : RunPages) → w.now.seats.holding.freed ≡ Some run → is_run_unmapped w.now.words run ≡ true)
-    → Laid c o releasing w (terrain_of w) → Laid c o releasing w (record (terrain_of w) { run = None })
+    → Laid c o releasing w (ground_of w) → Laid c o releasing w (record (ground_of w) { run = None })
 gone_terrain c o releasing w unmapped st =
-    subst (λ (xs : List PlacedAllocation). Laid c o releasing w (record (terrain_of w) { run = None; allocations = xs })) (map-id w.allocations)
-    (remoded c o releasing w.now.words.marks (terrain_of w) None (λ a. a) st
+    subst (λ (xs : List PlacedAllocation). Laid c o releasing w (record (ground_of w) { run = None; allocations = xs })) (map-id w.allocations)
+    (remoded c o releasing w.now.words.marks (ground_of w) None (λ a. a) st
     (record {
       leaves = record { places = record { base = λ a. refl; ty = λ a. refl; none = refl }; released = λ a h. h };
       keeps = λ a u. u;
@@ -219,13 +220,13 @@ gone_terrain c o releasing w unmapped st =
         let page = eqb-true run.page (a.base / 64) g in
         let x : IsClaimedRun (claims_of c w.now.seats.holding.freed w.allocations) run =
         subst (λ (y : Option RunPages). RunStands (claims_of c w.now.seats.holding.freed w.allocations) y) is r in
-        let ix = own_claim c o (terrain_of w) x.claim x.among in
-        let ia = own_claim c o (terrain_of w) (claim_of c w.now.seats.holding.freed a) (claim_among c w.now.seats.holding.freed w.allocations i u) in
+        let ix = own_claim c o (ground_of w) x.claim x.among in
+        let ia = own_claim c o (ground_of w) (claim_of c w.now.seats.holding.freed a) (claim_among c w.now.seats.holding.freed w.allocations i u) in
         let sx = st.scene.shown x.claim ix in
         let some = pages_some x.claim.object sx.sized in
         let xp = x.page in
         let one =
-        shares_run (scene_of c o releasing w.now.words.marks (terrain_of w)) (claim_of c w.now.seats.holding.freed a) x.claim 0 0 st.scene ia ix large (omega arith) (omega arith) (omega arith) in
+        shares_run (scene_of c o releasing w.now.words.marks (ground_of w)) (claim_of c w.now.seats.holding.freed a) x.claim 0 0 st.scene ia ix large (omega arith) (omega arith) (omega arith) in
         let count : pages_made ob ≡ run.count = ap (λ (z : Claim). pages_made z.object) (sym one) ∙ x.count in
         let near : d < run.count = omega arith in (
           large,

@@ -12,7 +12,8 @@ use Rattle.mk_core.specs.declared.seats.Placing.TheVariants.{Granted, Used}
 use Rattle.mk_core.specs.declared.seats.RunPages.{RunPages}
 use Rattle.mk_core.proofs.StandingAllocations.{made_begins}
 use Rattle.mk_layout.specs.Scene.{Among, Claim, IsLaidOn, IsShown, NoPlot}
-use Rattle.mk_layout.specs.Terrain.{HasLayout, IsAtCell, RunStands, Terrain, claim_of, claims_of, is_unmapping, mode_of, place_claim, scene_of}
+use Rattle.mk_protocol.specs.Ground.{Ground}
+use Rattle.mk_layout.specs.Terrain.{HasLayout, IsAtCell, RunStands, claim_of, claims_of, is_unmapping, mode_of, place_claim, scene_of}
 use Rattle.mk_layout.proofs.Joined.{among_back, among_front}
 use Rattle.mk_layout.proofs.StandingClaims.{place_index}
 
@@ -55,7 +56,7 @@ pub record IsGrantedAt (c : Config) (a : PlacedAllocation) (place : Place) : Typ
   pub freed : a.freed ≡ false
   pub unreleased : a.released ≡ false
 
-pub granted_terrain : (c : Config) (releasing : Bool) (marks : List ℕ) (t : Terrain) (place : Place) (a : PlacedAllocation) → t.placing ≡ Used place → IsGrantedAt c a place
+pub granted_terrain : (c : Config) (releasing : Bool) (marks : List ℕ) (t : Ground) (place : Place) (a : PlacedAllocation) → t.placing ≡ Used place → IsGrantedAt c a place
     → HasLayout c (object_placed c a) releasing marks t
     → HasLayout c (object_placed c a) releasing marks (record t { placing = Granted; allocations = t.allocations ++ a ∷ [] })
 granted_terrain c releasing marks t place a used is st =

@@ -24,7 +24,8 @@ use Rattle.mk_protocol.proofs.Ground.{tally_ground}
 use Rattle.mk_protocol.proofs.OthersMoves.{WorldBehind}
 use Rattle.mk_layout.specs.Room.{HasHeaderWords}
 use Rattle.mk_layout.specs.Scene.{header_on}
-use Rattle.mk_layout.specs.Terrain.{IsClaimedRun, IsLaidOut, RunStands, claims_of, object_now, terrain_of}
+use Rattle.mk_protocol.specs.Ground.{ground_of}
+use Rattle.mk_layout.specs.Terrain.{IsClaimedRun, IsLaidOut, RunStands, claims_of, object_now}
 use Rattle.mk_layout.proofs.Before.{Before, page_within, reg_leaves_ground}
 use Rattle.mk_layout.proofs.Holders.{made_sized}
 use Rattle.mk_layout.proofs.PageSets.{headed_here, headed_other, used_header, with_header_on}
@@ -50,7 +51,7 @@ stored_word c w seat p n b there laid (ItUnmaps off x) =
     let r : IsClaimedRun (claims_of c w.now.seats.holding.freed w.allocations) x.run =
     subst (λ (y : Option RunPages). RunStands (claims_of c w.now.seats.holding.freed w.allocations) y) x.there laid.gone in
     let o : Object = r.claim.object in
-    let sized = (laid.scene.shown r.claim (own_claim c (object_now c w.now) (terrain_of w) r.claim r.among)).sized in
+    let sized = (laid.scene.shown r.claim (own_claim c (object_now c w.now) (ground_of w) r.claim r.among)).sized in
     let near : p - x.run.page < pages_made o = (let count = r.count in let lt = x.next.near in omega arith) in
     let value : unmapped_header (pages_made o) (p - x.run.page) ≡ n = ap (λ k. unmapped_header k (p - x.run.page)) r.count ∙ sym x.next.is in
     subst (λ v. IsHeaderWord v) value

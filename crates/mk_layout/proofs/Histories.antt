@@ -30,7 +30,8 @@ use Rattle.mk_layout.specs.LayoutLaws.{EventsKeepTheLayout, FewPagesAreResident,
 use Rattle.mk_layout.specs.Quarantine.{HasQuarantine, IsQuarantined}
 use Rattle.mk_layout.specs.Room.{is_taken_page}
 use Rattle.mk_layout.specs.Scene.{NoPlot}
-use Rattle.mk_layout.specs.Terrain.{IsLaidOut, object_now, terrain_of}
+use Rattle.mk_protocol.specs.Ground.{ground_of}
+use Rattle.mk_layout.specs.Terrain.{IsLaidOut, object_now}
 use Rattle.mk_layout.proofs.Before.{Before, is_releasing_behind}
 use Rattle.mk_layout.proofs.Behind.{layout_behind, phase_kind, releasing_marks}
 use Rattle.mk_layout.proofs.Counts.{count_none}
@@ -100,7 +101,7 @@ known_before c w limits lengths known others q =
       lengths = lengths;
       known = known;
       others = others;
-      unreleased = λ four. none_released c (object_now c w.now) w.now.words.marks (terrain_of w) (subst (λ b. HasQuarantine c b w.now.words.marks (terrain_of w)) four q);
+      unreleased = λ four. none_released c (object_now c w.now) w.now.words.marks (ground_of w) (subst (λ b. HasQuarantine c b w.now.words.marks (ground_of w)) four q);
     }
 
 quarantine_behind : (c : Config) (w : World) (seat : Seat) (x : Step) → Before c w → Meets c w.now seat x → IsLaidOut c w → IsQuarantined c w
@@ -108,12 +109,12 @@ quarantine_behind : (c : Config) (w : World) (seat : Seat) (x : Step) → Before
 quarantine_behind c w seat x b h laid q =
     let v : World = WorldBehind c w seat x in
     let kind = quarantine_by_kind c w seat x b h laid q in
-    subst (λ r. HasQuarantine c r v.now.words.marks (terrain_of v)) (sym (phase_kind c w seat x h)) (marks (is_releasing_behind x (is_phase w.now.words 4)) refl kind)
+    subst (λ r. HasQuarantine c r v.now.words.marks (ground_of v)) (sym (phase_kind c w seat x h)) (marks (is_releasing_behind x (is_phase w.now.words 4)) refl kind)
   where
-    marks : (r : Bool) → is_releasing_behind x (is_phase w.now.words 4) ≡ r → HasQuarantine c r w.now.words.marks (terrain_of (WorldBehind c w seat x))
-        → HasQuarantine c r (WorldBehind c w seat x).now.words.marks (terrain_of (WorldBehind c w seat x))
-    marks true is q = subst (λ (xs : List ℕ). HasQuarantine c true xs (terrain_of (WorldBehind c w seat x))) (sym (releasing_marks c w seat x b.known h is)) q
-    marks false is q = unmarked c w.now.words.marks (WorldBehind c w seat x).now.words.marks (terrain_of (WorldBehind c w seat x)) q
+    marks : (r : Bool) → is_releasing_behind x (is_phase w.now.words 4) ≡ r → HasQuarantine c r w.now.words.marks (ground_of (WorldBehind c w seat x))
+        → HasQuarantine c r (WorldBehind c w seat x).now.words.marks (ground_of (WorldBehind c w seat x))
+    marks true is q = subst (λ (xs : List ℕ). HasQuarantine c true xs (ground_of (WorldBehind c w seat x))) (sym (releasing_marks c w seat x b.known h is)) q
+    marks false is q = unmarked c w.now.words.marks (WorldBehind c w seat x).now.words.marks (ground_of (WorldBehind c w seat x)) q
 
 -- One event, from the world before it.
 pub order_behind : (c : Config) (w : World) (e : Event) → IsWithinLimits c → AreOfPages c.pages w.now.words → Known c w.now → IsEnabled c w.now e → OthersSay c w

@@ -8,13 +8,14 @@ use Rattle.mk_core.specs.declared.config.Config.{Config}
 use Rattle.mk_core.specs.declared.seats.Object.{Object}
 use Rattle.mk_core.specs.declared.seats.RunPages.{RunPages}
 use Rattle.mk_layout.specs.Scene.{Among, Claim, HasHeader, Mode, header_on}
-use Rattle.mk_layout.specs.Terrain.{HasLayout, RunStands, Terrain, claim_of, claims_of, claims_placed, scene_of}
+use Rattle.mk_protocol.specs.Ground.{Ground}
+use Rattle.mk_layout.specs.Terrain.{HasLayout, RunStands, claim_of, claims_of, claims_placed, scene_of}
 use Rattle.mk_layout.proofs.Claims.{LeavesCells, apart_behind, cells_behind, changed_among, claim_among, claim_is, was_claim}
 use Rattle.mk_layout.proofs.Joined.{among_back, among_front, among_parts, apart_across, apart_joined, apart_left, apart_right}
 use Rattle.mk_layout.proofs.Serving.{own_claim, placed_claim}
 use Rattle.mk_layout.proofs.Unmapping.{layout_changed}
 
-pub record Remodes (c : Config) (t : Terrain) (run : Option RunPages) (g : PlacedAllocation → PlacedAllocation) : Type 0 where
+pub record Remodes (c : Config) (t : Ground) (run : Option RunPages) (g : PlacedAllocation → PlacedAllocation) : Type 0 where
   pub leaves : LeavesCells g
   pub keeps : (a : PlacedAllocation) → a.released ≡ false → (g a).released ≡ false
   pub headers : (i : ℕ) → (placed_at t.allocations i).released ≡ false → (d : ℕ) → d < pages_made (object_placed c (placed_at t.allocations i))
@@ -28,7 +29,7 @@ same_claim c old new a b m base ty =
     ap (λ n. record { page = n / 64; index = (cell_of_allocation c (record b { base = n })).index; object = object_placed c b; mode = m }) base
     ∙ ap (λ n. record { page = a.base / 64; index = (cell_of_allocation c (record a { ty = n })).index; object = object_placed c (record a { ty = n }); mode = m }) ty
 
-pub remoded : (c : Config) (o : Object) (releasing : Bool) (marks : List ℕ) (t : Terrain) (run : Option RunPages) (g : PlacedAllocation → PlacedAllocation)
+pub remoded : (c : Config) (o : Object) (releasing : Bool) (marks : List ℕ) (t : Ground) (run : Option RunPages) (g : PlacedAllocation → PlacedAllocation)
     → HasLayout c o releasing marks t → Remodes c t run g → RunStands (claims_of c run (map g t.allocations)) run
     → HasLayout c o releasing marks (record t { run = run; allocations = map g t.allocations })
 remoded c o releasing marks t run g st r stands =

@@ -26,7 +26,8 @@ use Rattle.mk_core.proofs.PageSteps.{HeadStep, ItCarves, ItDrops, ItEmpties, ItF
 use Rattle.mk_core.proofs.PlacesNow.{freed_cell, placed_now, undecided_free, undecided_new}
 use Rattle.mk_protocol.proofs.Actors.{Meets}
 use Rattle.mk_protocol.proofs.OthersMoves.{WorldBehind}
-use Rattle.mk_layout.specs.Terrain.{IsLaidOut, Terrain, object_now, terrain_of}
+use Rattle.mk_protocol.specs.Ground.{Ground, ground_of}
+use Rattle.mk_layout.specs.Terrain.{IsLaidOut, object_now}
 use Rattle.mk_layout.proofs.Before.{Before, LaidNow, page_within}
 use Rattle.mk_layout.proofs.Dropped.{dropped, refreed, unreleasing}
 use Rattle.mk_layout.proofs.Freed.{freed_terrain}
@@ -42,7 +43,7 @@ none_chosen _ = refl
 abbrev HeadBehind : Config → World → ℕ → ℕ → Bool → Option Place → Type 0
 HeadBehind c w p n four place =
     Laid c (object_now c w.now) four w
-    (record (terrain_of w) {
+    (record (ground_of w) {
       pages = with_header_on w.now.words.pages p n;
       placing = if four then w.now.seats.holding.placing else chosen w.now.seats.holding.placing place;
     })
@@ -53,13 +54,13 @@ head_by c w seat p n b there lt laid (ItCarves off x) =
     let placed = placed_now c w.now (flight_of w.now seat) x.place x.there in
     let turn = new_has_turn c w.now seat there placed.new in
     let own = holding_object c w.now seat b.known turn in
-    let was = subst (λ four. Laid c (object_now c w.now) four w (terrain_of w)) off laid in
+    let was = subst (λ four. Laid c (object_now c w.now) four w (ground_of w)) off laid in
     subst (λ four. HeadBehind c w p n four (place_now c w.now (flight_of w.now seat))) (sym off)
     (subst (λ (place : Option Place). HeadBehind c w p n false place) (sym x.there)
     (subst
-    (λ (o : Object). Laid c o false w (record (terrain_of w) { pages = with_header_on w.now.words.pages p n; placing = chosen w.now.seats.holding.placing (Some x.place) }))
+    (λ (o : Object). Laid c o false w (record (ground_of w) { pages = with_header_on w.now.words.pages p n; placing = chosen w.now.seats.holding.placing (Some x.place) }))
     (sym own)
-    (head_carves c (object_made c (flight_of w.now seat).op) w x.place p n (subst (λ (o : Object). Laid c o false w (terrain_of w)) own was)
+    (head_carves c (object_made c (flight_of w.now seat).op) w x.place p n (subst (λ (o : Object). Laid c o false w (ground_of w)) own was)
     (made_sized c w.now seat b.limits b.known placed.new) placed.placed x.next)))
 head_by c w seat p n b there lt laid (ItUnmaps off x) =
     subst (λ four. HeadBehind c w p n four (place_now c w.now (flight_of w.now seat))) (sym off) (by (place_now c w.now (flight_of w.now seat)) refl)
@@ -70,22 +71,22 @@ head_by c w seat p n b there lt laid (ItUnmaps off x) =
         let turn = new_has_turn c w.now seat there placed.new in
         absurd (no_run c w.now seat b.known turn (undecided_new (flight_of w.now seat) placed.new).stage x.run x.there)
     by None at =
-        subst (λ (y : Placing). Laid c (object_now c w.now) false w (record (terrain_of w) { pages = with_header_on w.now.words.pages p n; placing = y }))
+        subst (λ (y : Placing). Laid c (object_now c w.now) false w (record (ground_of w) { pages = with_header_on w.now.words.pages p n; placing = y }))
         (sym (none_chosen w.now.seats.holding.placing))
-        (head_unmaps c (object_now c w.now) false w p n (subst (λ four. Laid c (object_now c w.now) four w (terrain_of w)) off laid) x)
+        (head_unmaps c (object_now c w.now) false w p n (subst (λ four. Laid c (object_now c w.now) four w (ground_of w)) off laid) x)
 head_by c w seat p n b there lt laid (ItEmpties on x) =
     subst (λ four. HeadBehind c w p n four (place_now c w.now (flight_of w.now seat))) (sym on)
-    (head_empties c (object_now c w.now) w p n lt (subst (λ four. Laid c (object_now c w.now) four w (terrain_of w)) on laid) x)
+    (head_empties c (object_now c w.now) w p n lt (subst (λ four. Laid c (object_now c w.now) four w (ground_of w)) on laid) x)
 
 pub head_kind : (c : Config) (w : World) (seat : Seat) (p n : ℕ) → Before c w → Meets c w.now seat (step.Head p n) → IsLaidOut c w
-    → LaidNow c w (terrain_of (WorldBehind c w seat (step.Head p n)))
+    → LaidNow c w (ground_of (WorldBehind c w seat (step.Head p n)))
 head_kind c w seat p n b h laid = head_by c w seat p n b h.seat (page_within c w p b h.range) laid (head_step c w.now (flight_of w.now seat) p n h.holder)
 
 -- `used`
 abbrev UsedBehind : Config → World → ℕ → ℕ → Bool → Option Place → Type 0
 UsedBehind c w p n four place =
     Laid c (object_now c w.now) four w
-    (record (terrain_of w) {
+    (record (ground_of w) {
       pages = with_used_on w.now.words.pages p n;
       placing = if four then w.now.seats.holding.placing else taken w.now.seats.holding.placing place;
     })
@@ -97,24 +98,24 @@ used_by c w seat p n b there lt laid (ItTakes off once x) =
     let turn = new_has_turn c w.now seat there placed.new in
     let own = holding_object c w.now seat b.known turn in
     let sized = made_sized c w.now seat b.limits b.known placed.new in
-    let was = subst (λ four. Laid c (object_now c w.now) four w (terrain_of w)) off laid in
+    let was = subst (λ four. Laid c (object_now c w.now) four w (ground_of w)) off laid in
     subst (λ four. UsedBehind c w p n four (place_now c w.now (flight_of w.now seat))) (sym off)
     (subst (λ (place : Option Place). UsedBehind c w p n false place) (sym x.there)
-    (subst (λ (o : Object). Laid c o false w (record (terrain_of w) { pages = with_used_on w.now.words.pages p n; placing = Used x.place })) (sym own)
-    (used_takes c (object_made c (flight_of w.now seat).op) false w x.place p n (subst (λ (o : Object). Laid c o false w (terrain_of w)) own was) sized
+    (subst (λ (o : Object). Laid c o false w (record (ground_of w) { pages = with_used_on w.now.words.pages p n; placing = Used x.place })) (sym own)
+    (used_takes c (object_made c (flight_of w.now seat).op) false w x.place p n (subst (λ (o : Object). Laid c o false w (ground_of w)) own was) sized
     (first_header (object_made c (flight_of w.now seat).op) sized) once placed.placed x.taken)))
 used_by c w seat p n b there lt laid (ItGivesBack on x) =
     subst (λ four. UsedBehind c w p n four (place_now c w.now (flight_of w.now seat))) (sym on)
-    (used_gives_back c (object_now c w.now) w p n lt (subst (λ four. Laid c (object_now c w.now) four w (terrain_of w)) on laid) x (b.unreleased on))
+    (used_gives_back c (object_now c w.now) w p n lt (subst (λ four. Laid c (object_now c w.now) four w (ground_of w)) on laid) x (b.unreleased on))
 
 pub used_kind : (c : Config) (w : World) (seat : Seat) (p n : ℕ) → Before c w → Meets c w.now seat (step.Used p n) → IsLaidOut c w
-    → LaidNow c w (terrain_of (WorldBehind c w seat (step.Used p n)))
+    → LaidNow c w (ground_of (WorldBehind c w seat (step.Used p n)))
 used_kind c w seat p n b h laid = used_by c w seat p n b h.seat (page_within c w p b h.range) laid (used_step c w.now (flight_of w.now seat) p n h.holder)
 
 -- `quar`
-abbrev pub Quarantined : World → ℕ → ℕ → Option Cell → Terrain
+abbrev pub Quarantined : World → ℕ → ℕ → Option Cell → Ground
 Quarantined w p n cell =
-    record (terrain_of w) {
+    record (ground_of w) {
       freed = slice_set w.now.words.freed p (n % 2 ^ 32);
       snapshot = slice_set w.now.words.snapshot p (n / 2 ^ 32);
       run = or_else (run_of_cell w.now.words cell) w.now.seats.holding.freed;
@@ -122,9 +123,9 @@ Quarantined w p n cell =
     }
 
 -- with another quarantine word of a page
-abbrev pub with_halves : World → ℕ → ℕ → Terrain
+abbrev pub with_halves : World → ℕ → ℕ → Ground
 with_halves w p n =
-    record (terrain_of w) { freed = slice_set w.now.words.freed p (n % 2 ^ 32); snapshot = slice_set w.now.words.snapshot p (n / 2 ^ 32) }
+    record (ground_of w) { freed = slice_set w.now.words.freed p (n % 2 ^ 32); snapshot = slice_set w.now.words.snapshot p (n / 2 ^ 32) }
 
 first_of_two : {A : Type 0} (x y : Option A) → y ≡ None → x ≡ or_else x y
 first_of_two None y e = sym e
@@ -141,8 +142,8 @@ left_by c w f p n laid step = by step
         subst
         (λ four. Laid c (object_now c w.now) four w (with_halves w p n))
         (sym off)
-        (unreleasing c (object_now c w.now) w.now.words.marks w.now.words.marks (terrain_of w) (slice_set w.now.words.freed p (n % 2 ^ 32)) (slice_set w.now.words.snapshot p (n / 2 ^ 32))
-        (subst (λ four. Laid c (object_now c w.now) four w (terrain_of w)) off laid))
+        (unreleasing c (object_now c w.now) w.now.words.marks w.now.words.marks (ground_of w) (slice_set w.now.words.freed p (n % 2 ^ 32)) (slice_set w.now.words.snapshot p (n / 2 ^ 32))
+        (subst (λ four. Laid c (object_now c w.now) four w (ground_of w)) off laid))
 
     by : QuarantineStep c w.now f p n
         → LaidNow c w (with_halves w p n)
@@ -154,11 +155,11 @@ left_by c w f p n laid step = by step
         subst
         (λ four. Laid c (object_now c w.now) four w (with_halves w p n))
         (sym on)
-        (refreed c (object_now c w.now) true w.now.words.marks (record (terrain_of w) { snapshot = slice_set w.now.words.snapshot p (n / 2 ^ 32) }) (slice_set w.now.words.freed p (n % 2 ^ 32))
-        (dropped c (object_now c w.now) w p (n % 2 ^ 32) (n / 2 ^ 32) (subst (λ four. Laid c (object_now c w.now) four w (terrain_of w)) on laid) x))
+        (refreed c (object_now c w.now) true w.now.words.marks (record (ground_of w) { snapshot = slice_set w.now.words.snapshot p (n / 2 ^ 32) }) (slice_set w.now.words.freed p (n % 2 ^ 32))
+        (dropped c (object_now c w.now) w p (n % 2 ^ 32) (n / 2 ^ 32) (subst (λ four. Laid c (object_now c w.now) four w (ground_of w)) on laid) x))
 
 pub quar_kind : (c : Config) (w : World) (seat : Seat) (p n : ℕ) → Before c w → Meets c w.now seat (step.Quar p n) → IsLaidOut c w
-    → LaidNow c w (terrain_of (WorldBehind c w seat (step.Quar p n)))
+    → LaidNow c w (ground_of (WorldBehind c w seat (step.Quar p n)))
 quar_kind c w seat p n b h laid = by (cell_freed c.pages w.now.words (flight_of w.now seat) p n) refl
   where
     by : (cell : Option Cell) → cell_freed c.pages w.now.words (flight_of w.now seat) p n ≡ cell → LaidNow c w (Quarantined w p n cell)
@@ -171,8 +172,8 @@ quar_kind c w seat p n b h laid = by (cell_freed c.pages w.now.words (flight_of 
         let frees = freed_cell c.pages w.now.words (flight_of w.now seat) p n cell is in
         let turn = free_has_turn c w.now seat h.seat frees.free in
         let none = none_on_its_way c w.now seat b.known turn (undecided_free (flight_of w.now seat) frees.free).stage in
-        let was : Laid c (object_now c w.now) false w (terrain_of w) = subst (λ four. Laid c (object_now c w.now) four w (terrain_of w)) frees.phase laid in
-        let t : Terrain = record (terrain_of w) { run = run_of_cell w.now.words (Some cell); allocations = map (freed_where_it_stands w.now.words (Some cell)) w.allocations } in
+        let was : Laid c (object_now c w.now) false w (ground_of w) = subst (λ four. Laid c (object_now c w.now) four w (ground_of w)) frees.phase laid in
+        let t : Ground = record (ground_of w) { run = run_of_cell w.now.words (Some cell); allocations = map (freed_where_it_stands w.now.words (Some cell)) w.allocations } in
         let now : Laid c (object_now c w.now) false w t = freed_terrain c (object_now c w.now) w cell b.limits b.lengths.pages none (b.others.target seat cell frees.at) was in
         subst (λ four. Laid c (object_now c w.now) four w (Quarantined w p n (Some cell))) (sym frees.phase)
         (subst (λ (r : Option RunPages). Laid c (object_now c w.now) false w (record (Quarantined w p n (Some cell)) { run = r }))

@@ -38,7 +38,8 @@ use Rattle.mk_protocol.proofs.Ground.{KeepsGround, tally_ground}
 use Rattle.mk_protocol.proofs.OthersMoves.{WorldBehind}
 use Rattle.mk_layout.specs.Quarantine.{HasQuarantine, IsQuarantined}
 use Rattle.mk_layout.specs.Scene.{Claim, IsShown, is_released_in}
-use Rattle.mk_layout.specs.Terrain.{IsLaidOut, Terrain, claim_of, object_now, terrain_of}
+use Rattle.mk_protocol.specs.Ground.{Ground, ground_of}
+use Rattle.mk_layout.specs.Terrain.{IsLaidOut, claim_of, object_now}
 use Rattle.mk_layout.proofs.Before.{Before, is_releasing_behind, reg_leaves_ground}
 use Rattle.mk_layout.proofs.ByKind.{off_at}
 use Rattle.mk_layout.proofs.Claims.{claim_among}
@@ -52,10 +53,10 @@ use Rattle.mk_layout.proofs.Readings.{none_set}
 use Rattle.mk_layout.proofs.Released.{all_stand}
 use Rattle.mk_layout.proofs.Serving.{Laid, own_claim}
 
-abbrev pub QuarantinedAs : Config → Bool → World → Terrain → Type 0
+abbrev pub QuarantinedAs : Config → Bool → World → Ground → Type 0
 QuarantinedAs c releasing w t = HasQuarantine c releasing w.now.words.marks t
 
-abbrev pub QuarantinedNow : Config → World → Terrain → Type 0
+abbrev pub QuarantinedNow : Config → World → Ground → Type 0
 QuarantinedNow c w t = QuarantinedAs c (is_phase w.now.words 4) w t
 
 -- What the layout says of an unreleased allocation's cell.
@@ -63,7 +64,7 @@ pub shown_at : (c : Config) (w : World) (i : ℕ) → IsLaidOut c w → (placed_
     → IsShown w.now.words.pages (claim_of c w.now.seats.holding.freed (placed_at w.allocations i))
 shown_at c w i laid u =
     let x : Claim = claim_of c w.now.seats.holding.freed (placed_at w.allocations i) in
-    laid.scene.shown x (own_claim c (object_now c w.now) (terrain_of w) x (claim_among c w.now.seats.holding.freed w.allocations i u))
+    laid.scene.shown x (own_claim c (object_now c w.now) (ground_of w) x (claim_among c w.now.seats.holding.freed w.allocations i u))
 
 -- `quar`
 
@@ -92,7 +93,7 @@ quar_none : (c : Config) (w : World) (f : Flight) (p n : ℕ) → p < length w.n
 quar_none c w f p n lf ls none (ItFrees off x) q = absurd (frees_some c.pages w.now.words f p n off x none)
 quar_none c w f p n lf ls none (ItDrops on x) q =
     subst (λ four. QuarantinedAs c four w (with_halves w p n)) (sym on)
-    (drop_kept c w p (n % 2 ^ 32) (n / 2 ^ 32) lf ls (subst (λ four. QuarantinedAs c four w (terrain_of w)) on q) x)
+    (drop_kept c w p (n % 2 ^ 32) (n / 2 ^ 32) lf ls (subst (λ four. QuarantinedAs c four w (ground_of w)) on q) x)
 quar_none c w f p n lf ls none (ItTakesSnapshot x) q =
     let value = x.is in
     let small = (q.small p).0 in
@@ -101,9 +102,9 @@ quar_none c w f p n lf ls none (ItTakesSnapshot x) q =
     let same : slice_set w.now.words.freed p (n % 2 ^ 32) ≡ w.now.words.freed = ap (λ v. slice_set w.now.words.freed p v) low ∙ set-get_or w.now.words.freed p 0 in
     let off = off_at w 0 x.phase (λ e. absurd (omega arith)) in
     subst (λ four. QuarantinedAs c four w (with_halves w p n)) (sym off)
-    (subst (λ (fs : List ℕ). QuarantinedAs c false w (record (terrain_of w) { freed = fs; snapshot = slice_set w.now.words.snapshot p (n / 2 ^ 32) })) (sym same)
-    (subst (λ v. QuarantinedAs c false w (record (terrain_of w) { snapshot = slice_set w.now.words.snapshot p v })) (sym high)
-    (snapshot_kept c w.now.words.marks (terrain_of w) p ls (subst (λ four. QuarantinedAs c four w (terrain_of w)) off q))))
+    (subst (λ (fs : List ℕ). QuarantinedAs c false w (record (ground_of w) { freed = fs; snapshot = slice_set w.now.words.snapshot p (n / 2 ^ 32) })) (sym same)
+    (subst (λ v. QuarantinedAs c false w (record (ground_of w) { snapshot = slice_set w.now.words.snapshot p v })) (sym high)
+    (snapshot_kept c w.now.words.marks (ground_of w) p ls (subst (λ four. QuarantinedAs c four w (ground_of w)) off q))))
 
 -- what a step that frees finds
 pub frees_here : (c : Config) (w : World) (seat : Seat) (p n : ℕ) (cell : Cell) → Before c w → Meets c w.now seat (step.Quar p n) → IsLaidOut c w
@@ -111,7 +112,7 @@ pub frees_here : (c : Config) (w : World) (seat : Seat) (p n : ℕ) (cell : Cell
 frees_here c w seat p n cell b h laid x =
     let own = b.others.target seat cell x.at in
     let a : PlacedAllocation = placed_at w.allocations own.number in
-    let off : Laid c (object_now c w.now) false w (terrain_of w) = subst (λ four. Laid c (object_now c w.now) four w (terrain_of w)) x.phase laid in
+    let off : Laid c (object_now c w.now) false w (ground_of w) = subst (λ four. Laid c (object_now c w.now) four w (ground_of w)) x.phase laid in
     let s = all_stand c (object_now c w.now) false w b.lengths.pages off own.number own.unreleased in
     let shown = shown_at c w own.number laid own.unreleased in
     let known : (cell_of_allocation c a).index < 32 = index_small (object_placed c a) (cell_of_allocation c a).index shown.sized shown.known in
@@ -134,7 +135,7 @@ frees_here c w seat p n cell b h laid x =
     }
 
 quar_kept : (c : Config) (w : World) (seat : Seat) (p n : ℕ) → Before c w → Meets c w.now seat (step.Quar p n) → IsLaidOut c w → IsQuarantined c w
-    → QuarantinedNow c w (terrain_of (WorldBehind c w seat (step.Quar p n)))
+    → QuarantinedNow c w (ground_of (WorldBehind c w seat (step.Quar p n)))
 quar_kept c w seat p n b h laid q = by (cell_freed c.pages w.now.words (flight_of w.now seat) p n) refl
   where
     lf : p < length w.now.words.freed
@@ -155,7 +156,7 @@ quar_kept c w seat p n b h laid q = by (cell_freed c.pages w.now.words (flight_o
         (subst
         (λ i. QuarantinedAs c false w (record (Quarantined w p n (Some cell)) { freed = slice_set w.now.words.freed i (n % 2 ^ 32); snapshot = slice_set w.now.words.snapshot i (n / 2 ^ 32) }))
         (sym x.page)
-        (free_kept c w cell (or_else (run_of_cell w.now.words (Some cell)) w.now.seats.holding.freed) n (frees_here c w seat p n cell b h laid x) (subst (λ four. QuarantinedAs c four w (terrain_of w)) x.phase q)))
+        (free_kept c w cell (or_else (run_of_cell w.now.words (Some cell)) w.now.seats.holding.freed) n (frees_here c w seat p n cell b h laid x) (subst (λ four. QuarantinedAs c four w (ground_of w)) x.phase q)))
 
 -- `head` and `used`
 head_from : (four : Bool) (placing : Placing) (found : Option Place) (place : Place) → (if four then placing else chosen placing found) ≡ Used place → placing ≡ Used place
@@ -164,18 +165,18 @@ head_from false placing found place e = chosen_used placing found place e
 
 abbrev UsedAs : Config → World → List Page → Bool → Option Place → Type 0
 UsedAs c w pages four found =
-    QuarantinedAs c four w (record (terrain_of w) { pages = pages; placing = if four then w.now.seats.holding.placing else taken w.now.seats.holding.placing found })
+    QuarantinedAs c four w (record (ground_of w) { pages = pages; placing = if four then w.now.seats.holding.placing else taken w.now.seats.holding.placing found })
 
 used_kept : (c : Config) (w : World) (seat : Seat) (p n : ℕ) (pages : List Page) → IsLaidOut c w → IsQuarantined c w → UsedStep c w.now (flight_of w.now seat) p n
     → UsedAs c w pages (is_phase w.now.words 4) (place_now c w.now (flight_of w.now seat))
 used_kept c w seat p n pages laid q (ItTakes off once x) =
     subst (λ four. UsedAs c w pages four (place_now c w.now (flight_of w.now seat))) (sym off)
     (subst (λ (found : Option Place). UsedAs c w pages false found) (sym x.there)
-    (take_kept c w.now.words.marks (terrain_of w) pages x.place (λ i u. (shown_at c w i laid u).used)
-    (ap (λ i. has_bit (used_at w.now.words i) x.place.index) (sym x.taken.at) ∙ x.taken.unused) (subst (λ four. QuarantinedAs c four w (terrain_of w)) off q)))
+    (take_kept c w.now.words.marks (ground_of w) pages x.place (λ i u. (shown_at c w i laid u).used)
+    (ap (λ i. has_bit (used_at w.now.words i) x.place.index) (sym x.taken.at) ∙ x.taken.unused) (subst (λ four. QuarantinedAs c four w (ground_of w)) off q)))
 used_kept c w seat p n pages laid q (ItGivesBack on x) =
     subst (λ four. UsedAs c w pages four (place_now c w.now (flight_of w.now seat))) (sym on)
-    (replaced c true w.now.words.marks (terrain_of w) pages w.now.seats.holding.placing w.now.seats.holding.freed (λ place e. e) (subst (λ four. QuarantinedAs c four w (terrain_of w)) on q))
+    (replaced c true w.now.words.marks (ground_of w) pages w.now.seats.holding.placing w.now.seats.holding.freed (λ place e. e) (subst (λ four. QuarantinedAs c four w (ground_of w)) on q))
 
 -- `mark`
 mark_from : (t : Bool) (placing : Placing) (found : Option Place) (place : Place) → (if t then chosen placing found else placing) ≡ Used place → placing ≡ Used place
@@ -184,11 +185,11 @@ mark_from true placing found place e = chosen_used placing found place e
 
 -- words that leave the quarantine
 kept_ground : (c : Config) (w : World) (x : Words) → KeepsGround w.now.words x → IsQuarantined c w
-    → QuarantinedNow c w (record (terrain_of w) { pages = x.pages; freed = x.freed; snapshot = x.snapshot })
+    → QuarantinedNow c w (record (ground_of w) { pages = x.pages; freed = x.freed; snapshot = x.snapshot })
 kept_ground c w x g q =
-    subst (λ (ps : List Page). QuarantinedNow c w (record (terrain_of w) { pages = ps; freed = x.freed; snapshot = x.snapshot })) (sym g.pages)
-    (subst (λ (fs : List ℕ). QuarantinedNow c w (record (terrain_of w) { freed = fs; snapshot = x.snapshot })) (sym g.freed)
-    (subst (λ (ss : List ℕ). QuarantinedNow c w (record (terrain_of w) { snapshot = ss })) (sym g.snapshot) q))
+    subst (λ (ps : List Page). QuarantinedNow c w (record (ground_of w) { pages = ps; freed = x.freed; snapshot = x.snapshot })) (sym g.pages)
+    (subst (λ (fs : List ℕ). QuarantinedNow c w (record (ground_of w) { freed = fs; snapshot = x.snapshot })) (sym g.freed)
+    (subst (λ (ss : List ℕ). QuarantinedNow c w (record (ground_of w) { snapshot = ss })) (sym g.snapshot) q))
 
 -- `grant` and `end`
 pub grants_early : (w : World) → ((phase_of w.now.words == 0) || (phase_of w.now.words == 1)) ≡ true → is_phase w.now.words 4 ≡ false
@@ -207,40 +208,40 @@ none_left c w b own p k = elim (cases_lt p c.pages) [
 
 -- each kind of event, whatever the seat
 pub quarantine_by_kind : (c : Config) (w : World) (seat : Seat) (x : Step) → Before c w → Meets c w.now seat x → IsLaidOut c w → IsQuarantined c w
-    → QuarantinedAs c (is_releasing_behind x (is_phase w.now.words 4)) w (terrain_of (WorldBehind c w seat x))
+    → QuarantinedAs c (is_releasing_behind x (is_phase w.now.words 4)) w (ground_of (WorldBehind c w seat x))
 quarantine_by_kind c w seat (step.Take o) b h laid q = by (w.now.words.turn == 0) refl
   where
     by : (t : Bool) → (w.now.words.turn == 0) ≡ t
-        → QuarantinedNow c w (record (terrain_of w) { placing = (if t then nothing_done else w.now.seats.holding).placing; run = (if t then nothing_done else w.now.seats.holding).freed })
+        → QuarantinedNow c w (record (ground_of w) { placing = (if t then nothing_done else w.now.seats.holding).placing; run = (if t then nothing_done else w.now.seats.holding).freed })
     by false is = q
     by true is =
-        subst (λ (y : Holding). QuarantinedNow c w (record (terrain_of w) { placing = y.placing; run = y.freed })) (b.known.orderly.free (eqb-true w.now.words.turn 0 is)) q
+        subst (λ (y : Holding). QuarantinedNow c w (record (ground_of w) { placing = y.placing; run = y.freed })) (b.known.orderly.free (eqb-true w.now.words.turn 0 is)) q
 quarantine_by_kind c w seat step.Give b h laid q =
-    replaced c (is_phase w.now.words 4) w.now.words.marks (terrain_of w) w.now.words.pages Unplaced None (λ place e. cc) q
+    replaced c (is_phase w.now.words 4) w.now.words.marks (ground_of w) w.now.words.pages Unplaced None (λ place e. cc) q
 quarantine_by_kind c w seat step.Reg b h laid q =
     kept_ground c w _
     (reg_leaves_ground c w seat) q
 quarantine_by_kind c w seat (step.Tally n v) b h laid q = kept_ground c w _ (tally_ground w.now.words n v) q
 quarantine_by_kind c w seat (step.Head p n) b h laid q =
-    replaced c (is_phase w.now.words 4) w.now.words.marks (terrain_of w) _ _ w.now.seats.holding.freed
+    replaced c (is_phase w.now.words 4) w.now.words.marks (ground_of w) _ _ w.now.seats.holding.freed
     (λ place e. head_from (is_phase w.now.words 4) w.now.seats.holding.placing (place_now c w.now (flight_of w.now seat)) place e) q
 quarantine_by_kind c w seat (step.Used p n) b h laid q = used_kept c w seat p n _ laid q (used_step c w.now (flight_of w.now seat) p n h.holder)
 quarantine_by_kind c w seat (step.Quar p n) b h laid q = quar_kept c w seat p n b h laid q
 quarantine_by_kind c w seat step.Grant b h laid q =
     let off = grants_early w h.phase in
-    subst (λ four. QuarantinedAs c four w (record (terrain_of w) { placing = Granted; allocations = w.allocations ++ granted c w.now (flight_of w.now seat) ∷ [] })) (sym off)
-    (grant_kept c w.now.words.marks (terrain_of w) (granted c w.now (flight_of w.now seat)) refl (subst (λ four. QuarantinedAs c four w (terrain_of w)) off q))
+    subst (λ four. QuarantinedAs c four w (record (ground_of w) { placing = Granted; allocations = w.allocations ++ granted c w.now (flight_of w.now seat) ∷ [] })) (sym off)
+    (grant_kept c w.now.words.marks (ground_of w) (granted c w.now (flight_of w.now seat)) refl (subst (λ four. QuarantinedAs c four w (ground_of w)) off q))
 quarantine_by_kind c w seat (step.Mark p n) b h laid q =
-    replaced c (is_phase w.now.words 4) w.now.words.marks (terrain_of w) _ _ w.now.seats.holding.freed
+    replaced c (is_phase w.now.words 4) w.now.words.marks (ground_of w) _ _ w.now.seats.holding.freed
     (λ place e.
     mark_from (marks_place w.now.words (object_made c (flight_of w.now seat).op) (place_now c w.now (flight_of w.now seat)) p n) w.now.seats.holding.placing
     (place_now c w.now (flight_of w.now seat)) place e) q
-quarantine_by_kind c w seat step.Begin b h laid q = begin_kept c (is_phase w.now.words 4) w.now.words.marks (terrain_of w) q
+quarantine_by_kind c w seat step.Begin b h laid q = begin_kept c (is_phase w.now.words 4) w.now.words.marks (ground_of w) q
 quarantine_by_kind c w seat step.Release b h laid q =
     let off = off_at w 3 h.phase (λ e. absurd (omega arith)) in
     release_kept c w b.limits
-    (all_stand c (object_now c w.now) false w b.lengths.pages (subst (λ four. Laid c (object_now c w.now) four w (terrain_of w)) off laid))
-    (subst (λ four. QuarantinedAs c four w (terrain_of w)) off q)
+    (all_stand c (object_now c w.now) false w b.lengths.pages (subst (λ four. Laid c (object_now c w.now) four w (ground_of w)) off laid))
+    (subst (λ four. QuarantinedAs c four w (ground_of w)) off q)
 quarantine_by_kind c w seat step.End b h laid q =
-    end_kept c w.now.words.marks (terrain_of w) (none_left c w b h.holder) (subst (λ four. QuarantinedAs c four w (terrain_of w)) h.phase q)
+    end_kept c w.now.words.marks (ground_of w) (none_left c w b h.holder) (subst (λ four. QuarantinedAs c four w (ground_of w)) h.phase q)
 quarantine_by_kind c w seat _ b h laid q = q

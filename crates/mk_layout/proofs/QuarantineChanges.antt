@@ -26,7 +26,8 @@ use Rattle.mk_core.proofs.WordBits.{added_here, added_other, sum_is_or}
 use Rattle.mk_protocol.specs.Protocol.{has_place}
 use Rattle.mk_layout.specs.Quarantine.{HasQuarantine, IsFreedCell, has_bit_of}
 use Rattle.mk_layout.specs.Scene.{is_released_in}
-use Rattle.mk_layout.specs.Terrain.{IsCellOf, Terrain, terrain_of}
+use Rattle.mk_protocol.specs.Ground.{Ground, ground_of}
+use Rattle.mk_layout.specs.Terrain.{IsCellOf}
 use Rattle.mk_layout.proofs.ByKind.{fresh_cells}
 use Rattle.mk_layout.proofs.Claims.{LeavesCells, same_cell}
 use Rattle.mk_layout.proofs.Freed.{freeing_leaves}
@@ -70,8 +71,8 @@ before_change c g xs i leaves u =
 
 -- `release`: what stays isn't released, and what goes is
 pub release_kept : (c : Config) (w : World) → IsWithinLimits c → ((i : ℕ) → (placed_at w.allocations i).released ≡ false → IsStanding c w.now.words (placed_at w.allocations i))
-    → HasQuarantine c false w.now.words.marks (terrain_of w)
-    → HasQuarantine c true w.now.words.marks (record (terrain_of w) { allocations = map (with_released c w.now.words) w.allocations })
+    → HasQuarantine c false w.now.words.marks (ground_of w)
+    → HasQuarantine c true w.now.words.marks (record (ground_of w) { allocations = map (with_released c w.now.words) w.allocations })
 release_kept c w limits stand q =
     record {
       small = q.small;
@@ -101,7 +102,7 @@ release_kept c w limits stand q =
     ]
 
 -- `begin`
-pub begin_kept : (c : Config) (releasing : Bool) (marks : List ℕ) (t : Terrain) → HasQuarantine c releasing marks t
+pub begin_kept : (c : Config) (releasing : Bool) (marks : List ℕ) (t : Ground) → HasQuarantine c releasing marks t
     → HasQuarantine c releasing marks (record t { allocations = map no_longer_fresh t.allocations })
 begin_kept c releasing marks t q =
     record {
@@ -121,7 +122,7 @@ begin_kept c releasing marks t q =
     }
 
 -- `grant`
-pub grant_kept : (c : Config) (marks : List ℕ) (t : Terrain) (a : PlacedAllocation) → a.freed ≡ false → HasQuarantine c false marks t
+pub grant_kept : (c : Config) (marks : List ℕ) (t : Ground) (a : PlacedAllocation) → a.freed ≡ false → HasQuarantine c false marks t
     → HasQuarantine c false marks (record t { placing = Granted; allocations = t.allocations ++ a ∷ [] })
 grant_kept c marks t a unfreed q =
     record {
@@ -184,7 +185,7 @@ pub record FreesHere (c : Config) (w : World) (cell : Cell) (n : ℕ) : Type 0 w
   pub unplaced : has_place w.now.seats.holding.placing ≡ false
 
 -- the halves of the value that it stores
-pub free_halves : (c : Config) (w : World) (cell : Cell) (n : ℕ) → FreesHere c w cell n → HasQuarantine c false w.now.words.marks (terrain_of w)
+pub free_halves : (c : Config) (w : World) (cell : Cell) (n : ℕ) → FreesHere c w cell n → HasQuarantine c false w.now.words.marks (ground_of w)
     → (n % 2 ^ 32 ≡ slice_index w.now.words.freed cell.page + 2 ^ cell.index) × (n / 2 ^ 32 ≡ slice_index w.now.words.snapshot cell.page)
 free_halves c w cell n x q = let e = x.value in let s = sum in (omega arith, omega arith)
   where
@@ -199,9 +200,9 @@ free_halves c w cell n x q = let e = x.value in let s = sum in (omega arith, ome
         let e = sum_is_or (slice_index w.now.words.freed cell.page) cell.index x.unset in
         omega arith
 
-pub free_kept : (c : Config) (w : World) (cell : Cell) (run : Option RunPages) (n : ℕ) → FreesHere c w cell n → HasQuarantine c false w.now.words.marks (terrain_of w)
+pub free_kept : (c : Config) (w : World) (cell : Cell) (run : Option RunPages) (n : ℕ) → FreesHere c w cell n → HasQuarantine c false w.now.words.marks (ground_of w)
     → HasQuarantine c false w.now.words.marks
-    (record (terrain_of w) {
+    (record (ground_of w) {
       freed = slice_set w.now.words.freed cell.page (n % 2 ^ 32);
       snapshot = slice_set w.now.words.snapshot cell.page (n / 2 ^ 32);
       run = run;

@@ -22,7 +22,8 @@ use Rattle.mk_core.proofs.PageSteps.{Drops, left_bits}
 use Rattle.mk_core.proofs.WordBits.{fewer_bits, rest_bits}
 use Rattle.mk_layout.specs.Quarantine.{HasQuarantine, IsFreedCell}
 use Rattle.mk_layout.specs.Scene.{Among, Claim, is_released_in, used_on}
-use Rattle.mk_layout.specs.Terrain.{Terrain, claims_of, claims_on, claims_placed, terrain_of}
+use Rattle.mk_protocol.specs.Ground.{Ground, ground_of}
+use Rattle.mk_layout.specs.Terrain.{claims_of, claims_on, claims_placed}
 use Rattle.mk_layout.proofs.Claims.{claim_is}
 use Rattle.mk_layout.proofs.Joined.{among_parts}
 
@@ -77,8 +78,8 @@ released_bits snapshot marks p k r =
 
 -- `quar` (c): on one page some released bits go, of both halves
 pub drop_kept : (c : Config) (w : World) (p f n : ℕ) → p < length w.now.words.freed → p < length w.now.words.snapshot
-    → HasQuarantine c true w.now.words.marks (terrain_of w) → Drops w.now.words p f n
-    → HasQuarantine c true w.now.words.marks (record (terrain_of w) { freed = slice_set w.now.words.freed p f; snapshot = slice_set w.now.words.snapshot p n })
+    → HasQuarantine c true w.now.words.marks (ground_of w) → Drops w.now.words p f n
+    → HasQuarantine c true w.now.words.marks (record (ground_of w) { freed = slice_set w.now.words.freed p f; snapshot = slice_set w.now.words.snapshot p n })
 drop_kept c w p f n lf ls q d =
     record {
       small = λ i. (least_set w.now.words.freed p f i lf f_small (q.small i).0, least_set w.now.words.snapshot p n i ls n_small (q.small i).1);
@@ -175,7 +176,7 @@ drop_kept c w p f n lf ls q d =
         ]
 
 -- `quar` (b): the freed cells are the snapshot
-pub snapshot_kept : (c : Config) (marks : List ℕ) (t : Terrain) (p : ℕ) → p < length t.snapshot → HasQuarantine c false marks t
+pub snapshot_kept : (c : Config) (marks : List ℕ) (t : Ground) (p : ℕ) → p < length t.snapshot → HasQuarantine c false marks t
     → HasQuarantine c false marks (record t { snapshot = slice_set t.snapshot p (slice_index t.freed p) })
 snapshot_kept c marks t p ls q =
     record {
@@ -191,7 +192,7 @@ snapshot_kept c marks t p ls q =
     }
 
 -- `end`
-pub end_kept : (c : Config) (marks : List ℕ) (t : Terrain) → ((p k : ℕ) → is_released_in true t.snapshot marks p k ≡ false)
+pub end_kept : (c : Config) (marks : List ℕ) (t : Ground) → ((p k : ℕ) → is_released_in true t.snapshot marks p k ≡ false)
     → HasQuarantine c true marks t → HasQuarantine c false marks t
 end_kept c marks t none q =
     record {
@@ -204,19 +205,19 @@ end_kept c marks t none q =
     }
 
 -- While the phase isn't releasing, the marks don't matter.
-pub unmarked : (c : Config) (marks other : List ℕ) (t : Terrain) → HasQuarantine c false marks t → HasQuarantine c false other t
+pub unmarked : (c : Config) (marks other : List ℕ) (t : Ground) → HasQuarantine c false marks t → HasQuarantine c false other t
 unmarked c marks other t q =
     record { small = q.small; within = q.within; owned = q.owned; shown = q.shown; taken = q.taken; kept = λ on. absurd (true≢false (sym on)) }
 
 -- Headers, used words and runs aren't read, and no step but one takes a cell.
-pub replaced : (c : Config) (releasing : Bool) (marks : List ℕ) (t : Terrain) (pages : List Page) (placing : Placing) (run : Option RunPages)
+pub replaced : (c : Config) (releasing : Bool) (marks : List ℕ) (t : Ground) (pages : List Page) (placing : Placing) (run : Option RunPages)
     → ((place : Place) → placing ≡ Used place → t.placing ≡ Used place) → HasQuarantine c releasing marks t
     → HasQuarantine c releasing marks (record t { pages = pages; placing = placing; run = run })
 replaced c releasing marks t pages placing run from q =
     record { small = q.small; within = q.within; owned = q.owned; shown = q.shown; taken = λ place is. q.taken place (from place is); kept = q.kept }
 
 -- `used` (a): a cell without a used bit is in no quarantine
-pub take_kept : (c : Config) (marks : List ℕ) (t : Terrain) (pages : List Page) (place : Place)
+pub take_kept : (c : Config) (marks : List ℕ) (t : Ground) (pages : List Page) (place : Place)
     → ((i : ℕ) → (placed_at t.allocations i).released ≡ false
     → has_bit (used_on t.pages (cell_of_allocation c (placed_at t.allocations i)).page) (cell_of_allocation c (placed_at t.allocations i)).index ≡ true)
     → has_bit (used_on t.pages place.page) place.index ≡ false → HasQuarantine c false marks t
@@ -238,7 +239,7 @@ take_kept c marks t pages place used unset q =
     ])
 
 -- what the layout asks of the quarantine while cells are released
-pub none_released : (c : Config) (o : Object) (marks : List ℕ) (t : Terrain) → HasQuarantine c true marks t → (x : Claim) → Among x (claims_on c o t)
+pub none_released : (c : Config) (o : Object) (marks : List ℕ) (t : Ground) → HasQuarantine c true marks t → (x : Claim) → Among x (claims_on c o t)
     → is_released_in true t.snapshot marks x.page x.index ≡ false
 none_released c o marks t q x i = elim (among_parts (claims_of c t.run t.allocations) (claims_placed o t.placing) x i) [
   | inl j ↦

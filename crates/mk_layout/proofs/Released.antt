@@ -18,7 +18,8 @@ use Rattle.mk_core.proofs.PointedAllocations.{released_where_left}
 use Rattle.mk_core.proofs.Sizes.{large_cells}
 use Rattle.mk_protocol.proofs.Kept.{kept}
 use Rattle.mk_layout.specs.Scene.{Among, Claim, is_released_in}
-use Rattle.mk_layout.specs.Terrain.{RunStands, claim_of, claims_of, claims_placed, scene_of, terrain_of}
+use Rattle.mk_protocol.specs.Ground.{ground_of}
+use Rattle.mk_layout.specs.Terrain.{RunStands, claim_of, claims_of, claims_placed, scene_of}
 use Rattle.mk_layout.proofs.Claims.{LeavesCells, apart_behind, cells_behind, changed_among, claim_among, claim_is, was_claim}
 use Rattle.mk_layout.proofs.Joined.{among_back, among_front, among_parts, apart_across, apart_joined, apart_left, apart_right}
 use Rattle.mk_layout.proofs.Releasing.{layout_released}
@@ -26,13 +27,13 @@ use Rattle.mk_layout.proofs.Serving.{Laid, own_claim, placed_claim}
 use Rattle.mk_layout.proofs.StandingClaims.{IsStanding, stands_there}
 
 -- The unreleased allocations stand on the heap, with their headers.
-pub all_stand : (c : Config) (o : Object) (releasing : Bool) (w : World) → length w.now.words.pages ≡ c.pages → Laid c o releasing w (terrain_of w)
+pub all_stand : (c : Config) (o : Object) (releasing : Bool) (w : World) → length w.now.words.pages ≡ c.pages → Laid c o releasing w (ground_of w)
     → (i : ℕ) → (placed_at w.allocations i).released ≡ false → IsStanding c w.now.words (placed_at w.allocations i)
 all_stand c o releasing w len st i u =
     let a : PlacedAllocation = placed_at w.allocations i in
     let x : Claim = claim_of c w.now.seats.holding.freed a in
     stands_there c w.now.seats.holding.freed w.now.words a len
-    (st.scene.shown x (own_claim c o (terrain_of w) x (claim_among c w.now.seats.holding.freed w.allocations i u))) u (st.cells i u)
+    (st.scene.shown x (own_claim c o (ground_of w) x (claim_among c w.now.seats.holding.freed w.allocations i u))) u (st.cells i u)
 
 pub releasing_leaves : (c : Config) (w : Words) → LeavesCells (with_released c w)
 releasing_leaves c w =
@@ -63,16 +64,16 @@ goes c run w xs x limits stand i =
       | inl r ↦ inr (ap (λ (y : Claim). is_released_in true w.snapshot w.marks y.page y.index) n.is ∙ sym left ∙ r)
     ]
 
-pub released_terrain : (c : Config) (o : Object) (w : World) → IsWithinLimits c → length w.now.words.pages ≡ c.pages → Laid c o false w (terrain_of w)
+pub released_terrain : (c : Config) (o : Object) (w : World) → IsWithinLimits c → length w.now.words.pages ≡ c.pages → Laid c o false w (ground_of w)
     → ((run : RunPages) → w.now.seats.holding.freed ≡ Some run → is_released_in true w.now.words.snapshot w.now.words.marks run.page 0 ≡ false)
-    → Laid c o true w (record (terrain_of w) { allocations = map (with_released c w.now.words) w.allocations })
+    → Laid c o true w (record (ground_of w) { allocations = map (with_released c w.now.words) w.allocations })
 released_terrain c o w limits len st kept =
     record {
-      scene = layout_released (scene_of c o false w.now.words.marks (terrain_of w)) (claims_of c w.now.seats.holding.freed ys ++ placed) st.scene refl
+      scene = layout_released (scene_of c o false w.now.words.marks (ground_of w)) (claims_of c w.now.seats.holding.freed ys ++ placed) st.scene refl
           (record {
             fewer = λ x i. elim (among_parts (claims_of c w.now.seats.holding.freed ys) placed x i) [
-              | inl j ↦ own_claim c o (terrain_of w) x (was x j)
-              | inr j ↦ placed_claim c o (terrain_of w) x j
+              | inl j ↦ own_claim c o (ground_of w) x (was x j)
+              | inr j ↦ placed_claim c o (ground_of w) x j
             ];
             apart = apart_joined (claims_of c w.now.seats.holding.freed ys) placed
                 (apart_behind c w.now.seats.holding.freed w.now.seats.holding.freed (with_released c w.now.words) w.allocations (releasing_leaves c w.now.words) (apart_left own placed st.scene.apart))
@@ -112,7 +113,7 @@ released_terrain c o w limits len st kept =
     gone (Some x) is r = elim (going r.claim r.among) [
       | inl j ↦ record { claim = r.claim; among = j; page = r.page; count = r.count; large = r.large; mode = r.mode }
       | inr lost ↦
-          let shown = st.scene.shown r.claim (own_claim c o (terrain_of w) r.claim r.among) in
+          let shown = st.scene.shown r.claim (own_claim c o (ground_of w) r.claim r.among) in
           let one = large_cells r.claim.object r.large in
           let lt = shown.known in
           let zero : r.claim.index ≡ 0 = omega arith in

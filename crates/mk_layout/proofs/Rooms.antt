@@ -37,7 +37,8 @@ use Rattle.mk_protocol.proofs.Ground.{tally_ground}
 use Rattle.mk_protocol.proofs.OthersMoves.{WorldBehind}
 use Rattle.mk_layout.specs.Room.{HasRoom, count_below, in_plot}
 use Rattle.mk_layout.specs.Scene.{Among, NoPlot, Plotted, used_on}
-use Rattle.mk_layout.specs.Terrain.{IsClaimedRun, IsLaidOut, RunStands, claims_of, claims_placed, object_now, place_claim, plot_of, terrain_of}
+use Rattle.mk_protocol.specs.Ground.{ground_of}
+use Rattle.mk_layout.specs.Terrain.{IsClaimedRun, IsLaidOut, RunStands, claims_of, claims_placed, object_now, place_claim, plot_of}
 use Rattle.mk_layout.proofs.Before.{Before, page_within, reg_leaves_ground}
 use Rattle.mk_layout.proofs.Behind.{object_kind}
 use Rattle.mk_layout.proofs.Counts.{count_range}
@@ -106,10 +107,10 @@ head_room c w seat p n b there lt laid room (ItCarves off x) =
         carved_room c o w place p n next
         (subst (λ (y : Placing). RoomOn c o w.now.words.pages y) is (subst (λ (y : Object). RoomOn c y w.now.words.pages w.now.seats.holding.placing) own room))
     by o sized own (Used place) is AsUsed next =
-        let st = subst (λ (y : Object). Laid c y (is_phase w.now.words 4) w (terrain_of w)) own laid in
+        let st = subst (λ (y : Object). Laid c y (is_phase w.now.words 4) w (ground_of w)) own laid in
         let there : Among (place_claim o place) (claims_placed o w.now.seats.holding.placing) =
         subst (λ (y : Placing). Among (place_claim o place) (claims_placed o y)) (sym is) (inl refl) in
-        let shown = st.scene.shown (place_claim o place) (placed_claim c o (terrain_of w) (place_claim o place) there) in
+        let shown = st.scene.shown (place_claim o place) (placed_claim c o (ground_of w) (place_claim o place) there) in
         let low = next.from in
         let back : place.page + (p - place.page) ≡ p = omega arith in
         absurd (next.not_yet (ap (λ q. header_at w.now.words q) (sym back) ∙ shown.headers (p - place.page) next.near))
@@ -122,7 +123,7 @@ head_room c w seat p n b there lt laid room (ItUnmaps off x) =
     out =
         let r : IsClaimedRun (claims_of c w.now.seats.holding.freed w.allocations) x.run =
         subst (λ (y : Option RunPages). RunStands (claims_of c w.now.seats.holding.freed w.allocations) y) x.there laid.gone in
-        let sized = (laid.scene.shown r.claim (own_claim c (object_now c w.now) (terrain_of w) r.claim r.among)).sized in
+        let sized = (laid.scene.shown r.claim (own_claim c (object_now c w.now) (ground_of w) r.claim r.among)).sized in
         let range = large_count r.claim.object sized r.large in
         let low = range.0 in
         let high = range.1 in

@@ -19,7 +19,8 @@ use Rattle.mk_core.proofs.Lengths.{histories_keep_lengths}
 use Rattle.mk_protocol.specs.Protocol.{has_place}
 use Rattle.mk_layout.specs.Scene.{Claim, IsLaidOn, NoPlot, Plot}
 use Rattle.mk_layout.specs.SettledPages.{FirstFitIsThePlace, HeadersStand, IsSettled, UnreleasedAreApart, UnreleasedStand}
-use Rattle.mk_layout.specs.Terrain.{IsLaidOut, claim_of, claims_of, claims_placed, object_now, plot_of, terrain_of}
+use Rattle.mk_protocol.specs.Ground.{ground_of}
+use Rattle.mk_layout.specs.Terrain.{IsLaidOut, claim_of, claims_of, claims_placed, object_now, plot_of}
 use Rattle.mk_layout.proofs.Apart.{Rests, quiet_scene}
 use Rattle.mk_layout.proofs.Claims.{claim_among}
 use Rattle.mk_layout.proofs.Freed.{gone_terrain}
@@ -35,7 +36,7 @@ unreleased_stand c es limits laid i u =
     let a : PlacedAllocation = placed_at w.allocations i in
     let x : Claim = claim_of c w.now.seats.holding.freed a in
     let s = all_stand c (object_now c w.now) (is_phase w.now.words 4) w (histories_keep_lengths c es).pages laid i u in
-    let shown = laid.scene.shown x (own_claim c (object_now c w.now) (terrain_of w) x (claim_among c w.now.seats.holding.freed w.allocations i u)) in
+    let shown = laid.scene.shown x (own_claim c (object_now c w.now) (ground_of w) x (claim_among c w.now.seats.holding.freed w.allocations i u)) in
     record { stands = s.stands; headers = s.headers; used = shown.used }
 
 pub unreleased_are_apart : UnreleasedAreApart
@@ -53,12 +54,12 @@ settled_rests c w limits len laid s = by w.now.seats.holding.placing refl s.plac
         let there : is_run_gone w.now.words (Some run) ≡ true = ap (λ (y : Option RunPages). is_run_gone w.now.words y) (sym is) ∙ k in
         (and_parts (is_run_unmapped w.now.words run) (words_are_zero w.now.words (64 * run.page) (64 * run.count)) there).0
 
-    rested : Laid c (object_now c w.now) false w (record (terrain_of w) { run = None })
+    rested : Laid c (object_now c w.now) false w (record (ground_of w) { run = None })
     rested =
         gone_terrain c (object_now c w.now) false w (λ run is. gone w.now.seats.holding.freed is s.gone)
-        (subst (λ b. Laid c (object_now c w.now) b w (terrain_of w)) s.releasing laid)
+        (subst (λ b. Laid c (object_now c w.now) b w (ground_of w)) s.releasing laid)
 
-    rests : (placing : Placing) → Laid c (object_now c w.now) false w (record (terrain_of w) { run = None; placing = placing })
+    rests : (placing : Placing) → Laid c (object_now c w.now) false w (record (ground_of w) { run = None; placing = placing })
         → plot_of (object_now c w.now) placing ≡ NoPlot → claims_of c None w.allocations ++ claims_placed (object_now c w.now) placing ≡ claims_of c None w.allocations
         → Rests c w.now.words w.allocations
     rests placing st plot claims =
@@ -70,8 +71,8 @@ settled_rests c w limits len laid s = by w.now.seats.holding.placing refl s.plac
           cells = st.cells;
         }
 
-    at : (placing : Placing) → w.now.seats.holding.placing ≡ placing → Laid c (object_now c w.now) false w (record (terrain_of w) { run = None; placing = placing })
-    at placing is = subst (λ (x : Placing). Laid c (object_now c w.now) false w (record (terrain_of w) { run = None; placing = x })) is rested
+    at : (placing : Placing) → w.now.seats.holding.placing ≡ placing → Laid c (object_now c w.now) false w (record (ground_of w) { run = None; placing = placing })
+    at placing is = subst (λ (x : Placing). Laid c (object_now c w.now) false w (record (ground_of w) { run = None; placing = x })) is rested
 
     by : (placing : Placing) → w.now.seats.holding.placing ≡ placing → has_place placing ≡ false → Rests c w.now.words w.allocations
     by Unplaced is out = rests Unplaced (at Unplaced is) refl (append-nil (claims_of c None w.allocations))

@@ -21,7 +21,8 @@ use Rattle.mk_core.proofs.PlacesNow.{freed_cell}
 use Rattle.mk_core.proofs.WordBits.{fewer_bits}
 use Rattle.mk_protocol.proofs.Actors.{Meets}
 use Rattle.mk_layout.specs.Quarantine.{HasQuarantine, HasSnapshot, IsQuarantined, KeepsSnapshot, has_bit_of, is_cycling}
-use Rattle.mk_layout.specs.Terrain.{IsLaidOut, Terrain, terrain_of}
+use Rattle.mk_protocol.specs.Ground.{Ground, ground_of}
+use Rattle.mk_layout.specs.Terrain.{IsLaidOut}
 use Rattle.mk_layout.proofs.Before.{Before}
 use Rattle.mk_layout.proofs.Claims.{LeavesCells}
 use Rattle.mk_layout.proofs.Freed.{freeing_leaves}
@@ -30,12 +31,12 @@ use Rattle.mk_layout.proofs.QuarantineChanges.{FreesHere, before_change, free_ha
 use Rattle.mk_layout.proofs.QuarantineSteps.{and_both, bit_cases}
 
 -- the snapshot's bit of an allocation whose freed bit isn't set
-pub unset_in_snapshot : (c : Config) (releasing : Bool) (marks : List ℕ) (t : Terrain) (p k : ℕ) → HasQuarantine c releasing marks t → has_bit (slice_index t.freed p) k ≡ false
+pub unset_in_snapshot : (c : Config) (releasing : Bool) (marks : List ℕ) (t : Ground) (p k : ℕ) → HasQuarantine c releasing marks t → has_bit (slice_index t.freed p) k ≡ false
     → has_bit (slice_index t.snapshot p) k ≡ false
 unset_in_snapshot c releasing marks t p k q out = false_from_ne_true (has_bit (slice_index t.snapshot p) k) (λ h. true≢false (sym (q.within p k h) ∙ out))
 
 -- `quar` (c): no unreleased allocation's bit goes
-dropped_bits : (c : Config) (w : World) (p f n i : ℕ) → p < length w.now.words.snapshot → HasQuarantine c true w.now.words.marks (terrain_of w) → Drops w.now.words p f n
+dropped_bits : (c : Config) (w : World) (p f n i : ℕ) → p < length w.now.words.snapshot → HasQuarantine c true w.now.words.marks (ground_of w) → Drops w.now.words p f n
     → (placed_at w.allocations i).released ≡ false
     → has_bit_of c (slice_set w.now.words.snapshot p n) (placed_at w.allocations i) ≡ has_bit_of c w.now.words.snapshot (placed_at w.allocations i)
 dropped_bits c w p f n i ls q d u = elim (bit_cases w.now.words.snapshot p n x.page x.index ls) [
@@ -74,10 +75,10 @@ quar_none c w f p n ls none (ItDrops four x) q s =
     record {
       fresh = s.fresh;
       quarantined = λ on i u.
-          dropped_bits c w p (n % 2 ^ 32) (n / 2 ^ 32) i ls (subst (λ b. QuarantinedAs c b w (terrain_of w)) four q) x u ∙ s.quarantined on i u;
+          dropped_bits c w p (n % 2 ^ 32) (n / 2 ^ 32) i ls (subst (λ b. QuarantinedAs c b w (ground_of w)) four q) x u ∙ s.quarantined on i u;
     }
 
-quar_frees : (c : Config) (w : World) (cell : Cell) (n : ℕ) → FreesHere c w cell n → HasQuarantine c false w.now.words.marks (terrain_of w) → KeepsSnapshot c w
+quar_frees : (c : Config) (w : World) (cell : Cell) (n : ℕ) → FreesHere c w cell n → HasQuarantine c false w.now.words.marks (ground_of w) → KeepsSnapshot c w
     → HasSnapshot c (is_cycling (phase_of w.now.words)) (slice_set w.now.words.snapshot cell.page (n / 2 ^ 32)) (map (freed_where_it_stands w.now.words (Some cell)) w.allocations)
 quar_frees c w cell n x q s =
     subst (λ (ss : List ℕ). HasSnapshot c (is_cycling (phase_of w.now.words)) ss (map (freed_where_it_stands w.now.words (Some cell)) w.allocations)) (sym same)
@@ -123,7 +124,7 @@ quar_frees c w cell n x q s =
     bit on i u true is =
         let a : PlacedAllocation = placed_at w.allocations i in
         ap (λ (y : Cell). has_bit (slice_index w.now.words.snapshot y.page) y.index) (x.others i u is)
-        ∙ unset_in_snapshot c false w.now.words.marks (terrain_of w) cell.page cell.index q x.unset
+        ∙ unset_in_snapshot c false w.now.words.marks (ground_of w) cell.page cell.index q x.unset
         ∙ sym (ap (λ b. (if b then record a { freed = true; fresh = true } else a).freed && not (if b then record a { freed = true; fresh = true } else a).fresh) is)
     bit on i u false is =
         let a : PlacedAllocation = placed_at w.allocations i in
@@ -147,4 +148,4 @@ snapshot_of_quar c w seat p n b h laid q s = by (cell_freed c.pages w.now.words 
     by (Some cell) is =
         let x = freed_cell c.pages w.now.words (flight_of w.now seat) p n cell is in
         subst (λ i. HasSnapshot c (is_cycling (phase_of w.now.words)) (slice_set w.now.words.snapshot i (n / 2 ^ 32)) (map (freed_where_it_stands w.now.words (Some cell)) w.allocations)) (sym x.page)
-        (quar_frees c w cell n (frees_here c w seat p n cell b h laid x) (subst (λ four. QuarantinedAs c four w (terrain_of w)) x.phase q) s)
+        (quar_frees c w cell n (frees_here c w seat p n cell b h laid x) (subst (λ four. QuarantinedAs c four w (ground_of w)) x.phase q) s)

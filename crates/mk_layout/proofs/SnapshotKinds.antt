@@ -30,7 +30,8 @@ use Rattle.mk_protocol.proofs.Ground.{tally_ground}
 use Rattle.mk_protocol.proofs.OthersMoves.{WorldBehind}
 use Rattle.mk_layout.specs.Quarantine.{HasSnapshot, IsQuarantined, KeepsSnapshot, has_bit_of, is_cycling}
 use Rattle.mk_layout.specs.Scene.{Among, is_released_in}
-use Rattle.mk_layout.specs.Terrain.{IsLaidOut, claims_of, claims_placed, object_now, place_claim, terrain_of}
+use Rattle.mk_protocol.specs.Ground.{ground_of}
+use Rattle.mk_layout.specs.Terrain.{IsLaidOut, claims_of, claims_placed, object_now, place_claim}
 use Rattle.mk_layout.proofs.Before.{Before, reg_leaves_ground}
 use Rattle.mk_layout.proofs.ByKind.{fresh_cells, off_at}
 use Rattle.mk_layout.proofs.Cycling.{cycle_kind, is_cycling_behind}
@@ -132,11 +133,11 @@ grant_kind c w seat b h laid q s =
         let there : Among (place_claim o place) (claims_placed o w.now.seats.holding.placing) =
         subst (λ (x : Placing). Among (place_claim o place) (claims_placed o x)) (sym is) (inl refl) in
         let shown =
-        (subst (λ (y : Object). Laid c y (is_phase w.now.words 4) w (terrain_of w)) own laid).scene.shown (place_claim o place) (placed_claim c o (terrain_of w) (place_claim o place) there) in
+        (subst (λ (y : Object). Laid c y (is_phase w.now.words 4) w (ground_of w)) own laid).scene.shown (place_claim o place) (placed_claim c o (ground_of w) (place_claim o place) there) in
         let cell = place_index c a place shown.sized base shown.known in
         ap (λ p. has_bit (slice_index w.now.words.snapshot p) (cell_of_allocation c a).index) cell.0
         ∙ ap (λ k. has_bit (slice_index w.now.words.snapshot place.page) k) cell.1
-        ∙ unset_in_snapshot c (is_phase w.now.words 4) w.now.words.marks (terrain_of w) place.page place.index q (q.taken place is)
+        ∙ unset_in_snapshot c (is_phase w.now.words 4) w.now.words.marks (ground_of w) place.page place.index q (q.taken place is)
 
 -- `release`: what is fresh isn't released
 release_kind : (c : Config) (w : World) → Before c w → is_phase w.now.words 3 ≡ true → IsLaidOut c w → KeepsSnapshot c w
@@ -164,7 +165,7 @@ release_kind c w b three laid s =
     stays i f u fresh =
         let a : PlacedAllocation = placed_at w.allocations i in
         let x : Cell = cell_of_allocation c a in
-        let off = subst (λ four. Laid c (object_now c w.now) four w (terrain_of w)) (off_at w 3 three (λ e. absurd (omega arith))) laid in
+        let off = subst (λ four. Laid c (object_now c w.now) four w (ground_of w)) (off_at w 3 three (λ e. absurd (omega arith))) laid in
         let on : is_cycling (phase_of w.now.words) ≡ true = ap (λ k. is_cycling k) (eqb-true (phase_of w.now.words) 3 three) in
         left_is c w.now.words a b.limits (all_stand c (object_now c w.now) false w b.lengths.pages off i u)
         ∙ ap (λ y. y && not (has_bit (slice_index w.now.words.marks x.page) x.index)) (s.quarantined on i u ∙ none_of a.freed a.fresh f fresh)

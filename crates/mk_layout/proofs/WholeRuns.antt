@@ -27,7 +27,8 @@ use Rattle.mk_protocol.proofs.Actors.{Meets}
 use Rattle.mk_protocol.proofs.Ground.{tally_ground}
 use Rattle.mk_protocol.proofs.OthersMoves.{WorldBehind}
 use Rattle.mk_layout.specs.Scene.{Among, Claim, InPlot, IsLaidOn, NoPlot, Plot, PlotStands, Plotted, Scene, head_on, header_on, is_released_in, run_count, shows_on, used_on}
-use Rattle.mk_layout.specs.Terrain.{IsLaidOut, object_now, plot_of, scene_of, terrain_of}
+use Rattle.mk_protocol.specs.Ground.{ground_of}
+use Rattle.mk_layout.specs.Terrain.{IsLaidOut, object_now, plot_of, scene_of}
 use Rattle.mk_layout.specs.WholeRuns.{HasLaterPage, HaveWholeRuns, RunIsWhole, RunsAreWhole}
 use Rattle.mk_layout.proofs.Before.{Before, is_releasing_behind, page_within, reg_leaves_ground}
 use Rattle.mk_layout.proofs.Behind.{phase_kind}
@@ -228,5 +229,5 @@ whole_behind c w seat x b h whole laid =
       | inl on ↦
           subst (λ r. HaveWholeRuns v.now.words.pages r plot) (sym (phase_kind c w seat x h ∙ on))
           (whole_by_kind c w seat x plot b h on (replotted w.now.words.pages (plot_of (object_now c w.now) w.now.seats.holding.placing) plot (is_phase w.now.words 4) whole))
-      | inr off ↦ whole_quiet (scene_of c (object_now c v.now) (is_phase v.now.words 4) v.now.words.marks (terrain_of v)) laid.scene (phase_kind c w seat x h ∙ off)
+      | inr off ↦ whole_quiet (scene_of c (object_now c v.now) (is_phase v.now.words 4) v.now.words.marks (ground_of v)) laid.scene (phase_kind c w seat x h ∙ off)
     ]

@@ -10,7 +10,7 @@ use Rattle.mk_core.specs.Words.{phase_of}
 use Rattle.mk_core.specs.declared.config.Config.{Config}
 use Rattle.mk_core.specs.declared.seats.Placing.TheVariants.{Used}
 use Rattle.mk_layout.specs.Scene.{is_released_in}
-use Rattle.mk_layout.specs.Terrain.{Terrain, terrain_of}
+use Rattle.mk_protocol.specs.Ground.{Ground, ground_of}
 
 -- The cell is that of an unreleased allocation that is freed.
 pub record IsFreedCell (c : Config) (xs : List PlacedAllocation) (p k : ℕ) : Type 0 where
@@ -23,7 +23,7 @@ pub record IsFreedCell (c : Config) (xs : List PlacedAllocation) (p k : ℕ) : T
 abbrev pub has_bit_of : Config → List ℕ → PlacedAllocation → Bool
 has_bit_of c words a = has_bit (slice_index words (cell_of_allocation c a).page) (cell_of_allocation c a).index
 
-pub record HasQuarantine (c : Config) (releasing : Bool) (marks : List ℕ) (t : Terrain) : Type 0 where
+pub record HasQuarantine (c : Config) (releasing : Bool) (marks : List ℕ) (t : Ground) : Type 0 where
   -- Both halves of a quarantine word fit it.
   pub small : (p : ℕ) → (slice_index t.freed p < 2 ^ 32) × (slice_index t.snapshot p < 2 ^ 32)
   -- The snapshot's bits are freed bits,
@@ -41,7 +41,7 @@ pub record HasQuarantine (c : Config) (releasing : Bool) (marks : List ℕ) (t :
       → is_released_in true t.snapshot marks (cell_of_allocation c (placed_at t.allocations i)).page (cell_of_allocation c (placed_at t.allocations i)).index ≡ false
 
 abbrev pub IsQuarantined : Config → World → Type 0
-IsQuarantined c w = HasQuarantine c (is_phase w.now.words 4) w.now.words.marks (terrain_of w)
+IsQuarantined c w = HasQuarantine c (is_phase w.now.words 4) w.now.words.marks (ground_of w)
 
 -- Each freed bit is that of a cell of its page.
 abbrev pub FreedCellsAreKnown : World → Type 0

@@ -14,6 +14,7 @@ use Rattle.mk_core.specs.NewPlaces.{object_made, is_small_object, pages_made}
 use Rattle.mk_core.specs.Allocations.{PlacedAllocation, placed_at, cell_of_allocation}
 use Rattle.mk_core.specs.StandingAllocations.{object_placed, BeginsAtCell}
 use Rattle.mk_core.specs.History.{World}
+use Rattle.mk_protocol.specs.Ground.{Ground, ground_of}
 use Rattle.mk_layout.specs.Scene.{Mode, Mapped, Unmapping, Unmapped, Claim, Among, Plot, NoPlot, Plotted, Scene, IsLaidOn}
 
 -- The call under way freed the run with its head there.
@@ -53,31 +54,11 @@ abbrev pub plot_of : Object → Placing → Plot
 plot_of o (Chosen place) = Plotted place.page o
 plot_of o _ = NoPlot
 
--- what layout and quarantine read of a world, but for the phase and the marks
-pub record Terrain : Type 0 where
-  pub pages : List Page
-  pub freed : List ℕ
-  pub snapshot : List ℕ
-  pub placing : Placing
-  pub run : Option RunPages
-  pub allocations : List PlacedAllocation
-
-abbrev pub terrain_of : World → Terrain
-terrain_of w =
-    record {
-      pages = w.now.words.pages;
-      freed = w.now.words.freed;
-      snapshot = w.now.words.snapshot;
-      placing = w.now.seats.holding.placing;
-      run = w.now.seats.holding.freed;
-      allocations = w.allocations;
-    }
-
--- the claims of a terrain, where the object of the turn's holder is this one
-abbrev pub claims_on : Config → Object → Terrain → List Claim
+-- the claims of a ground, where the object of the turn's holder is this one
+abbrev pub claims_on : Config → Object → Ground → List Claim
 claims_on c o t = claims_of c t.run t.allocations ++ claims_placed o t.placing
 
-abbrev pub scene_of : Config → Object → Bool → List ℕ → Terrain → Scene
+abbrev pub scene_of : Config → Object → Bool → List ℕ → Ground → Scene
 scene_of c o releasing marks t =
     record {
       pages = t.pages;
@@ -117,7 +98,7 @@ abbrev pub IsFirst : Placing → Type 0
 IsFirst (Chosen place) = place.index ≡ 0
 IsFirst _ = Unit {0}
 
-pub record HasLayout (c : Config) (o : Object) (releasing : Bool) (marks : List ℕ) (t : Terrain) : Type 0 where
+pub record HasLayout (c : Config) (o : Object) (releasing : Bool) (marks : List ℕ) (t : Ground) : Type 0 where
   pub scene : IsLaidOn (scene_of c o releasing marks t)
   pub gone : RunStands (claims_of c t.run t.allocations) t.run
   pub first : IsFirst t.placing
@@ -128,4 +109,4 @@ abbrev pub object_now : Config → Moment → Object
 object_now c m = object_made c (flight_of m (Caller (m.words.turn - 1))).op
 
 abbrev pub IsLaidOut : Config → World → Type 0
-IsLaidOut c w = HasLayout c (object_now c w.now) (is_phase w.now.words 4) w.now.words.marks (terrain_of w)
+IsLaidOut c w = HasLayout c (object_now c w.now) (is_phase w.now.words 4) w.now.words.marks (ground_of w)

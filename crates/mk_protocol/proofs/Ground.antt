@@ -31,30 +31,11 @@ use Rattle.mk_core.specs.Allocations.{PlacedAllocation, granted, freed_where_it_
 use Rattle.mk_core.specs.Accesses.{caller_number, tally_word, register_met, reg_access}
 use Rattle.mk_core.specs.Effects.{chosen, taken, run_of_cell}
 use Rattle.mk_core.specs.History.{World}
+use Rattle.mk_protocol.specs.Ground.{Ground, ground_of}
 use Rattle.mk_protocol.proofs.Asked.{give_phase}
 use Rattle.mk_protocol.proofs.NextSteps.{at_take, at_no_take}
 use Rattle.mk_protocol.proofs.Actors.{Meets, grants_new}
 use Rattle.mk_protocol.proofs.OthersMoves.{WorldBehind}
-
--- The pages and the quarantine words, how far the turn's holder is, and the allocations.
-pub record Ground : Type 0 where
-  pub pages : List Page
-  pub freed : List ℕ
-  pub snapshot : List ℕ
-  pub placing : Placing
-  pub run : Option RunPages
-  pub allocations : List PlacedAllocation
-
-abbrev pub ground_of : World → Ground
-ground_of w =
-    record {
-      pages = w.now.words.pages;
-      freed = w.now.words.freed;
-      snapshot = w.now.words.snapshot;
-      placing = w.now.seats.holding.placing;
-      run = w.now.seats.holding.freed;
-      allocations = w.allocations;
-    }
 
 abbrev pub with_header : Words → ℕ → ℕ → List Page
 with_header w p n = slice_set w.pages p (record { header = n; used = used_at w p })

@@ -16,7 +16,8 @@ use Rattle.mk_core.specs.TurnConditions.{is_marked_first, place_now, carves, unm
 use Rattle.mk_core.specs.History.{World}
 use Rattle.mk_protocol.proofs.HeaderSteps.{page_set, used_set}
 use Rattle.mk_protocol.proofs.RunsInHeap.{next_is}
-use Rattle.mk_protocol.proofs.Ground.{Ground, GroundStep, Carves, Unmaps, Empties, TakesCell, GivesBack, with_header}
+use Rattle.mk_protocol.specs.Ground.{Ground}
+use Rattle.mk_protocol.proofs.Ground.{GroundStep, Carves, Unmaps, Empties, TakesCell, GivesBack, with_header}
 
 -- the headers that are stored then aren't 0
 

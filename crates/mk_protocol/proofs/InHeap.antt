@@ -26,7 +26,8 @@ use Rattle.mk_protocol.proofs.Actors.{Meets}
 use Rattle.mk_protocol.proofs.OrderlyLists.{at_first}
 use Rattle.mk_protocol.proofs.Known.{Known, known_behind, known_at_first}
 use Rattle.mk_protocol.proofs.OthersMoves.{WorldBehind}
-use Rattle.mk_protocol.proofs.Ground.{ground_of, ground_step}
+use Rattle.mk_protocol.specs.Ground.{ground_of}
+use Rattle.mk_protocol.proofs.Ground.{ground_step}
 use Rattle.mk_protocol.proofs.NewPlace.{PlacesFit, place_fits_now, places_behind}
 use Rattle.mk_protocol.proofs.RunsInHeap.{RunFits, RunsFit, runs_behind}
 use Rattle.mk_protocol.proofs.ScansInHeap.{MarkerFits, nothing_fits, marker_fits_behind}

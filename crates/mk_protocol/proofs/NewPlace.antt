@@ -34,7 +34,8 @@ use Rattle.mk_protocol.proofs.Actors.{Meets}
 use Rattle.mk_protocol.proofs.OrderlyLists.{event_moves}
 use Rattle.mk_protocol.proofs.Known.{Known}
 use Rattle.mk_protocol.proofs.OthersMoves.{WorldBehind}
-use Rattle.mk_protocol.proofs.Ground.{Ground, GroundStep, Starts, Gives, Carves, Unmaps, TakesCell, Grants, Places, ground_step}
+use Rattle.mk_protocol.specs.Ground.{Ground}
+use Rattle.mk_protocol.proofs.Ground.{GroundStep, Starts, Gives, Carves, Unmaps, TakesCell, Grants, Places, ground_step}
 
 abbrev pub held_place : Placing → Option Place
 held_place (Chosen place) = Some place

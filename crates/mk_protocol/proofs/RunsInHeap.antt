@@ -21,7 +21,8 @@ use Rattle.mk_core.specs.NewPlaces.{object_made, is_small_object, class_made, pa
 use Rattle.mk_core.specs.TurnConditions.{is_marked_first, place_now, carves, unmaps, empties}
 use Rattle.mk_core.specs.History.{World}
 use Rattle.mk_protocol.proofs.HeaderSteps.{page_set, used_set}
-use Rattle.mk_protocol.proofs.Ground.{Ground, GroundStep, Carves, Unmaps, Empties, TakesCell, GivesBack}
+use Rattle.mk_protocol.specs.Ground.{Ground}
+use Rattle.mk_protocol.proofs.Ground.{GroundStep, Carves, Unmaps, Empties, TakesCell, GivesBack}
 use Rattle.mk_protocol.proofs.NewPlace.{PlaceFits}
 
 -- what a header word at a page shows ends in the heap

@@ -1,3 +1,4 @@
 pub mod Protocol
 pub mod Reaching
 pub mod Readings
+pub mod Ground

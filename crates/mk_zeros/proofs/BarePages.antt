@@ -15,7 +15,8 @@ use Rattle.mk_core.specs.History.{World}
 use Rattle.mk_core.proofs.ObjectHeaders.{made_shows, part_head}
 use Rattle.mk_core.proofs.Sizes.{pages_some}
 use Rattle.mk_layout.specs.Scene.{Claim, Among, IsShown, IsPlotShown, header_on, used_on, shows_on, head_on}
-use Rattle.mk_layout.specs.Terrain.{RunStands, IsClaimedRun, claim_of, claims_of, object_now, terrain_of}
+use Rattle.mk_protocol.specs.Ground.{ground_of}
+use Rattle.mk_layout.specs.Terrain.{RunStands, IsClaimedRun, claim_of, claims_of, object_now}
 use Rattle.mk_layout.proofs.Claims.{claim_among}
 use Rattle.mk_layout.proofs.Readings.{none_set, claimed_head, claimed_some}
 use Rattle.mk_layout.proofs.Serving.{Laid, own_claim}
@@ -27,7 +28,7 @@ use Rattle.mk_zeros.proofs.ChangedScenes.{none_released}
 -- a world in order, whose phase isn't releasing
 pub record Unreleasing (c : Config) (w : World) : Type 0 where
   pub off : is_phase w.now.words 4 ≡ false
-  pub laid : Laid c (object_now c w.now) false w (terrain_of w)
+  pub laid : Laid c (object_now c w.now) false w (ground_of w)
   pub zeros : HasZeros c w
 
 -- The page is one of an allocation's claim.
@@ -39,7 +40,7 @@ pub record IsOnAllocation (c : Config) (w : World) (p : ℕ) : Type 0 where
   pub at : claim.page + distance ≡ p
 
 pub shown_there : (c : Config) (w : World) (x : Claim) → Unreleasing c w → Among x (claims_of c w.now.seats.holding.freed w.allocations) → IsShown w.now.words.pages x
-shown_there c w x q i = q.laid.scene.shown x (own_claim c (object_now c w.now) (terrain_of w) x i)
+shown_there c w x q i = q.laid.scene.shown x (own_claim c (object_now c w.now) (ground_of w) x i)
 
 mapped_on : (c : Config) (w : World) (n : ℕ) → Unreleasing c w → IsMappedWord c w.allocations n → IsOnAllocation c w (n / 64)
 mapped_on c w n q m =

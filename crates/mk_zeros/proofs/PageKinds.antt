@@ -19,7 +19,8 @@ use Rattle.mk_core.specs.History.{World}
 use Rattle.mk_core.proofs.PageSteps.{HeadStep, ItCarves, ItUnmaps, ItEmpties, UsedStep, ItTakes, ItGivesBack, QuarantineStep, ItFrees, ItTakesSnapshot, ItDrops}
 use Rattle.mk_core.proofs.PlacesNow.{freed_cell, undecided_free}
 use Rattle.mk_protocol.proofs.Actors.{Meets}
-use Rattle.mk_layout.specs.Terrain.{object_now, terrain_of}
+use Rattle.mk_protocol.specs.Ground.{ground_of}
+use Rattle.mk_layout.specs.Terrain.{object_now}
 use Rattle.mk_layout.proofs.ByKind.{off_at}
 use Rattle.mk_layout.proofs.Freed.{standing_cell}
 use Rattle.mk_layout.proofs.Holders.{free_has_turn, none_on_its_way}
@@ -92,7 +93,7 @@ quar_early c w seat p v b h off z (Some cell) is =
     mapped : (n : ℕ) → IsMappedWord c w.allocations n → MayHold c (quarantined (is_phase w.now.words 4) w p v (Some cell)) n
     mapped n m =
         let frees = freed_cell c.pages w.now.words (flight_of w.now seat) p v cell is in
-        let laid : Laid c (object_now c w.now) false w (terrain_of w) = subst (λ four. Laid c (object_now c w.now) four w (terrain_of w)) off b.others.laid_out in
+        let laid : Laid c (object_now c w.now) false w (ground_of w) = subst (λ four. Laid c (object_now c w.now) four w (ground_of w)) off b.others.laid_out in
         let u = mapped_stays c (placed_at w.allocations m.number) m.mapped in
         elim (word_of_freed c w cell n b.limits m (standing c w seat (step.Quar p v) m.number b u)
         (standing_cell c (object_now c w.now) w cell b.lengths.pages (b.others.target cell frees.at) laid m.number u)) [

@@ -34,7 +34,8 @@ use Rattle.mk_core.proofs.Sizes.{large_is_not_small, pages_some, small_pages}
 use Rattle.mk_protocol.proofs.Known.{Known}
 use Rattle.mk_layout.specs.Scene.{Claim, Among, Mode, Mapped, Plot, NoPlot, Plotted, PlotStands}
 use Rattle.mk_layout.specs.Scene.{InPlot, HasHeader, IsClaimed, IsPlotShown, header_on, used_on, shows_on, head_on, run_count}
-use Rattle.mk_layout.specs.Terrain.{IsLaidOut, RunStands, IsClaimedRun, claims_of, claims_on, claims_placed, place_claim, is_unmapping, mode_of, plot_of, object_now, terrain_of}
+use Rattle.mk_protocol.specs.Ground.{ground_of}
+use Rattle.mk_layout.specs.Terrain.{IsLaidOut, RunStands, IsClaimedRun, claims_of, claims_on, claims_placed, place_claim, is_unmapping, mode_of, plot_of, object_now}
 use Rattle.mk_layout.proofs.Fits.{fits}
 use Rattle.mk_layout.proofs.Holders.{new_has_turn, holding_object, made_sized, first_header}
 use Rattle.mk_layout.proofs.OnClaims.{find_bit}
@@ -80,7 +81,7 @@ later_pages c w q p count distance is some lt = elim (cases_eq (used_on w.now.wo
     headed : header_on w.now.words.pages p ≢ 0
     headed z = true≢false (sym (ap heads_run is) ∙ ap (λ h. heads_run (header_of h)) z)
 
-    by_claim : (k : ℕ) → IsClaimed (claims_on c (object_now c w.now) (terrain_of w)) p k → head_page w.now.words (p + distance) ≡ p
+    by_claim : (k : ℕ) → IsClaimed (claims_on c (object_now c w.now) (ground_of w)) p k → head_page w.now.words (p + distance) ≡ p
     by_claim k o =
         let x : Claim = o.claim in
         let shown = q.laid.scene.shown x o.among in
@@ -136,7 +137,7 @@ new_exists c m (Caller k) known new = elim (cases_lt k c.callers) [
 new_exists c m (Marker k) known new = absurd (false≢true new)
 new_exists c m Host known new = absurd (false≢true new)
 
-bare_place : (c : Config) (w : World) (o : Object) (place : Place) → Unreleasing c w → Laid c o false w (terrain_of w) → IsSized o
+bare_place : (c : Config) (w : World) (o : Object) (place : Place) → Unreleasing c w → Laid c o false w (ground_of w) → IsSized o
     → IsPlaced c.resident w.now.words.pages o place w.now.seats.holding.placing → PlaceIsBare w.now.words o place
 bare_place c w o place q st sized placed = by w.now.seats.holding.placing refl placed
   where
@@ -166,7 +167,7 @@ bare_place c w o place q st sized placed = by w.now.seats.holding.placing refl p
     by (Used place) is AsUsed =
         let own : Among (place_claim o place) (claims_placed o w.now.seats.holding.placing) =
         subst (λ (x : Placing). Among (place_claim o place) (claims_placed o x)) (sym is) (inl refl) in
-        let shown = st.scene.shown (place_claim o place) (placed_claim c o (terrain_of w) (place_claim o place) own) in
+        let shown = st.scene.shown (place_claim o place) (placed_claim c o (ground_of w) (place_claim o place) own) in
         let some = pages_some o sized in
         record {
           headers = λ d lt. inr (shown.headers d lt);
@@ -221,7 +222,7 @@ guard_in c w known laid zeros =
           let there = new_exists c w.now seat known.now placed.new in
           let own = holding_object c w.now seat known.now (new_has_turn c w.now seat there placed.new) in
           bare_place c w (object_made c (flight_of w.now seat).op) place (quiet early)
-          (subst (λ (o : Object). Laid c o false w (terrain_of w)) own (quiet early).laid)
+          (subst (λ (o : Object). Laid c o false w (ground_of w)) own (quiet early).laid)
           (made_sized c w.now seat known.limits known.now placed.new) placed.placed;
       freed = λ early run is. run_has_object c w run (quiet early) is;
       later = λ early. later_pages c w (quiet early);
@@ -233,7 +234,7 @@ guard_in c w known laid zeros =
         let off : is_phase w.now.words 4 ≡ false = not_releasing (phase_of w.now.words) early in
         record {
           off = off;
-          laid = subst (λ four. Laid c (object_now c w.now) four w (terrain_of w)) off laid;
+          laid = subst (λ four. Laid c (object_now c w.now) four w (ground_of w)) off laid;
           zeros = zeros;
         }
 
