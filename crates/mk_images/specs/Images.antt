@@ -117,7 +117,9 @@ ProbedOwn n k f = is_past_probe f.stage ≡ true → IsMet n (register_at n k (q
 -- Words are the images of values: those of registers and globals, those of unreleased allocations that aren't unmapped,
 -- and what calls in flight have loaded.
 pub record AreImages (s : Scene) (n : NeverState) : Type 0 where
-  pub registers : (k : ℕ) → shown (flight_among s.flights (k / 8)) (k % 8) (slice_index s.registers k) ≡ image_of (bases_of s.allocations) (slice_index_or n.registers k Null)
+  pub registers :
+      (k : ℕ) → shown (flight_among s.flights (k / 8)) (k % 8) (slice_index s.registers k)
+      ≡ image_of (bases_of s.allocations) (slice_index_or n.registers k Null)
   pub globals : (g : ℕ) → slice_index s.globals g ≡ image_of (bases_of s.allocations) (global_at n g)
   pub heap : (a i : ℕ) → (placed_at s.allocations a).released ≡ false → is_unmapped (allocation_at n a) ≡ false → i < length (words_of n a)
       → slice_index s.heap ((placed_at s.allocations a).base + i) ≡ image_of (bases_of s.allocations) (word_at n a i)

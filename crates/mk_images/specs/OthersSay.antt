@@ -57,7 +57,8 @@ pub record IsCellOfFreed (c : Config) (w : World) (x : Cell) : Type 0 where
 
 -- The word is one of a mapped allocation, of a released cell, or of the run that a Free unmaps.
 pub data MayHoldWords (c : Config) (w : World) (n : ℕ) : Type 0 where
-  OfMapped : (i : ℕ) → is_mapped c (placed_at w.allocations i) ≡ true → IsWordOf (storage_of c (placed_at w.allocations i)) n → MayHoldWords c w n
+  OfMapped : (i : ℕ) → is_mapped c (placed_at w.allocations i) ≡ true → IsWordOf (storage_of c (placed_at w.allocations i)) n
+      → MayHoldWords c w n
   OfReleased : (cell : Cell) → pointed_cell c.pages w.now.words.pages (address_of n) ≡ Some cell → is_released w.now.words cell ≡ true
       → MayHoldWords c w n
   OfFreedRun : (run : RunPages) → w.now.seats.holding.freed ≡ Some run → is_in_run run n ≡ true → MayHoldWords c w n
@@ -79,7 +80,9 @@ pub record OthersSay (c : Config) (w : World) : Type 0 where
   pub shown : (i : ℕ) → (placed_at w.allocations i).released ≡ false → (placed_at w.allocations i).freed ≡ true
       → is_freed w.now.words (cell_of_allocation c (placed_at w.allocations i)) ≡ true
   pub freed : (cell : Cell) → is_freed w.now.words cell ≡ true → IsCellOfFreed c w cell ⊎ (is_released w.now.words cell ≡ true)
-  pub kept : (i : ℕ) → (placed_at w.allocations i).released ≡ false → is_released w.now.words (cell_of_allocation c (placed_at w.allocations i)) ≡ false
+  pub kept :
+      (i : ℕ) → (placed_at w.allocations i).released ≡ false
+      → is_released w.now.words (cell_of_allocation c (placed_at w.allocations i)) ≡ false
   -- All other words of the heap are 0.
   pub zero_words : (n : ℕ) → slice_index w.now.words.heap n ≢ 0 → MayHoldWords c w n
   -- Between `close` and `release` the marks are closed.

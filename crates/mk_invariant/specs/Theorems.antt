@@ -52,7 +52,8 @@ AllocationsStand c es =
 abbrev pub AllocationsAreDisjoint : Config → List Event → Type 0
 AllocationsAreDisjoint c es =
     (i j n : ℕ) → (placed_at (left c es).allocations i).released ≡ false → (placed_at (left c es).allocations j).released ≡ false
-    → IsWordOf (storage_of c (placed_at (left c es).allocations i)) n → IsWordOf (storage_of c (placed_at (left c es).allocations j)) n → i ≡ j
+    → IsWordOf (storage_of c (placed_at (left c es).allocations i)) n
+    → IsWordOf (storage_of c (placed_at (left c es).allocations j)) n → i ≡ j
 
 -- Where nothing is on its way, headers and used words are those of the unreleased storage,
 abbrev pub PagesShowTheStorage : Config → List Event → Type 0
@@ -72,7 +73,8 @@ GuardsBlackCells c es = MarkingIsGuarded c (left c es).now
 -- Each `close` finds the marks closed,
 abbrev pub ClosesFindMarksClosed : Config → List Event → Type 0
 ClosesFindMarksClosed c es =
-    (before behind : List Event) (seat : Seat) → es ≡ before ++ record { seat = seat; step = step.Close } ∷ behind → MarksAreClosed c (left c before)
+    (before behind : List Event) (seat : Seat) → es ≡ before ++ record { seat = seat; step = step.Close } ∷ behind
+    → MarksAreClosed c (left c before)
 
 -- and they are up to the `release`.
 abbrev pub MarksStayClosed : Config → List Event → Type 0
@@ -91,4 +93,5 @@ abbrev pub SnapshotIsTheCycles : Config → List Event → Type 0
 SnapshotIsTheCycles c es =
     (begin : At is_begin es) → list_any (λ (e : Event). is_begin e.step) begin.behind ≡ false
     → is_cycling (phase_of (left c es).now.words) ≡ true → (i : ℕ) → (placed_at (left c es).allocations i).released ≡ false
-    → has_bit_of c (left c es).now.words.snapshot (placed_at (left c es).allocations i) ≡ is_quarantined (placed_at (left c begin.before).allocations i)
+    → has_bit_of c (left c es).now.words.snapshot (placed_at (left c es).allocations i)
+    ≡ is_quarantined (placed_at (left c begin.before).allocations i)

@@ -22,7 +22,9 @@ pub record OthersSay (c : Config) (w : World) : Type 0 where
   -- The target of an admitted Free is the cell of an unreleased allocation.
   pub target : (seat : Seat) (cell : Cell) → target c.pages w.now.words (flight_of w.now seat) ≡ Some cell → IsCellOf c w.allocations cell
   -- At the end of the stop, the run that the call freed is marked.
-  pub marked : is_phase w.now.words 3 ≡ true → (run : RunPages) → w.now.seats.holding.freed ≡ Some run → has_bit (slice_index w.now.words.marks run.page) 0 ≡ true
+  pub marked :
+      is_phase w.now.words 3 ≡ true → (run : RunPages) → w.now.seats.holding.freed ≡ Some run
+      → has_bit (slice_index w.now.words.marks run.page) 0 ≡ true
 
 pub record StandsInOrder (c : Config) (w : World) : Type 0 where
   pub laid : IsLaidOut c w
@@ -46,11 +48,15 @@ OthersSayFrom c w (e ∷ es) = OthersSay c w × OthersSayFrom c (world_behind c 
 
 -- Then all is in order behind every list of enabled events.
 abbrev pub HistoriesAreLaidOut : Type 0
-HistoriesAreLaidOut = (c : Config) (es : List Event) → IsWithinLimits c → AreEnabled c es → OthersSayFrom c (first_world c) es → StandsInOrder c (left c es)
+HistoriesAreLaidOut =
+    (c : Config) (es : List Event) → IsWithinLimits c → AreEnabled c es → OthersSayFrom c (first_world c) es
+    → StandsInOrder c (left c es)
 
 -- So each page has a header word, and at most so many pages are resident.
 abbrev pub PagesHaveHeaderWords : Type 0
-PagesHaveHeaderWords = (c : Config) (es : List Event) → IsWithinLimits c → AreEnabled c es → OthersSayFrom c (first_world c) es → HasHeaderWords (left c es)
+PagesHaveHeaderWords =
+    (c : Config) (es : List Event) → IsWithinLimits c → AreEnabled c es → OthersSayFrom c (first_world c) es
+    → HasHeaderWords (left c es)
 
 abbrev pub FewPagesAreResident : Type 0
 FewPagesAreResident =

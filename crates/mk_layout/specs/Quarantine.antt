@@ -38,7 +38,9 @@ pub record HasQuarantine (c : Config) (releasing : Bool) (marks : List ℕ) (t :
   pub taken : (place : Place) → t.placing ≡ Used place → has_bit (slice_index t.freed place.page) place.index ≡ false
   -- No unreleased allocation's cell is released.
   pub kept : releasing ≡ true → (i : ℕ) → (placed_at t.allocations i).released ≡ false
-      → is_released_in true t.snapshot marks (cell_of_allocation c (placed_at t.allocations i)).page (cell_of_allocation c (placed_at t.allocations i)).index ≡ false
+      → is_released_in true t.snapshot marks (cell_of_allocation c (placed_at t.allocations i)).page
+      (cell_of_allocation c (placed_at t.allocations i)).index
+      ≡ false
 
 abbrev pub IsQuarantined : Config → World → Type 0
 IsQuarantined c w = HasQuarantine c (is_phase w.now.words 4) w.now.words.marks (ground_of w)

@@ -17,4 +17,5 @@ SnapshotsAreOfCycles =
     (c : Config) (es : List Event) → IsWithinLimits c → AreEnabled c es → OthersSayFrom c (first_world c) es
     → (begin : At is_begin es) → list_any (λ (e : Event). is_begin e.step) begin.behind ≡ false
     → is_cycling (phase_of (left c es).now.words) ≡ true → (i : ℕ) → (placed_at (left c es).allocations i).released ≡ false
-    → has_bit_of c (left c es).now.words.snapshot (placed_at (left c es).allocations i) ≡ is_quarantined (placed_at (left c begin.before).allocations i)
+    → has_bit_of c (left c es).now.words.snapshot (placed_at (left c es).allocations i)
+    ≡ is_quarantined (placed_at (left c begin.before).allocations i)
