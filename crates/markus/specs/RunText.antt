@@ -44,6 +44,9 @@ bases_of n = bases_behind 0 n.allocations
 pub record IsRunText (program : List Item) (text : List ℕ) : Type 0 where
   pub answers : List Answer
   pub ended : has_ended (feed program 0 answers) ≡ true
-  pub given : answers ≡ answers_of (bases_of (after_calls (heap_of program 1) (calls_fed program answers))) (replies_of (heap_of program 1) (calls_fed program answers))
+  pub given :
+      answers
+      ≡ answers_of (bases_of (after_calls (heap_of program 1) (calls_fed program answers)))
+      (replies_of (heap_of program 1) (calls_fed program answers))
   pub full : EachFullIsByRoom (64 * pages_of program) (heap_of program 1) (calls_fed program answers)
   pub printed : text ≡ (feed program 0 answers).text

@@ -27,7 +27,8 @@ with_element line (element.Repeat rounds) (body ∷ []) = []
 with_element line (element.Repeat rounds) (body ∷ part ∷ parts) = record part { steps = Rounds rounds body.steps part.steps } ∷ parts
 with_element line (element.If number) [] = []
 with_element line (element.If number) (first ∷ []) = []
-with_element line (element.If number) (first ∷ part ∷ parts) = record part { steps = Choice number first.steps first.second part.steps } ∷ parts
+with_element line (element.If number) (first ∷ part ∷ parts) =
+    record part { steps = Choice number first.steps first.second part.steps } ∷ parts
 with_element line element.Else [] = []
 with_element line element.Else (second ∷ parts) = record { steps = Done; second = second.steps } ∷ parts
 with_element line element.End parts = record { steps = Done; second = Done } ∷ parts

@@ -51,7 +51,8 @@ op_of scope fed (Getn number pointer index) = Some (op.GetNum (pointer_place sco
 op_of scope fed (Setn pointer index number) = Some (op.SetNum (pointer_place scope pointer) index (number_in scope fed number))
 op_of scope fed (Getp loaded pointer index) = Some (op.GetPtr (pointer_place scope loaded) (pointer_place scope pointer) index)
 op_of scope fed (Setp pointer index stored) = Some (op.SetPtr (pointer_place scope pointer) index (pointer_place scope stored))
-op_of scope fed (Casp number pointer index expected stored) = Some (op.CasPtr (pointer_place scope pointer) index (pointer_place scope expected) (pointer_place scope stored))
+op_of scope fed (Casp number pointer index expected stored) =
+    Some (op.CasPtr (pointer_place scope pointer) index (pointer_place scope expected) (pointer_place scope stored))
 op_of scope fed (Lea moved pointer index) = Some (op.Lea (pointer_place scope moved) (pointer_place scope pointer) index)
 op_of scope fed (Move copied pointer) = Some (op.Move (pointer_place scope copied) (pointer_place scope pointer))
 op_of scope fed (Clear pointer) = Some (op.Clear (pointer_place scope pointer))

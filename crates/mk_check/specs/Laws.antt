@@ -55,7 +55,9 @@ OpIsAdmittedBehind program callers calls caller op = IsAdmitted (globals_of prog
 -- What script k asks for next is admitted behind the calls, as it is asked for and as it is noted with any answer.
 pub record NextIsAdmitted (program : List Item) (callers : ℕ) (calls : List Call) (k : ℕ) (answers : List Answer) : Type 0 where
   pub asked : (op : Op) → next_op program k answers ≡ Some op → OpIsAdmittedBehind program callers calls k op
-  pub noted : (op : Op) (answer : Answer) → next_op program k answers ≡ Some op → OpIsAdmittedBehind program callers calls k (flagged op answer)
+  pub noted :
+      (op : Op) (answer : Answer) → next_op program k answers ≡ Some op
+      → OpIsAdmittedBehind program callers calls k (flagged op answer)
 
 -- some answers with which script k notes the caller's operations among the calls
 pub record HasAnswers (program : List Item) (k : ℕ) (calls : List Call) : Type 0 where

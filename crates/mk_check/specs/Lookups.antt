@@ -44,4 +44,6 @@ pub record AreDeclared (declarations : Declarations) (program : List Item) : Typ
 -- they are those of a script's lines
 pub record AreRegisters (registers : Registers) (lines : List Item) : Type 0 where
   pub pointers : (name : List ℕ) → option_copied (value_of registers.pointers name) ≡ pointer_at name lines
-  pub numbers : (name : List ℕ) → contains_by (λ key. bytes_eq name key.now) registers.numbers ≡ list_any (bytes_eq name) (number_names lines)
+  pub numbers :
+      (name : List ℕ) → contains_by (λ key. bytes_eq name key.now) registers.numbers
+      ≡ list_any (bytes_eq name) (number_names lines)

@@ -60,7 +60,9 @@ register_op scope other = None
 abbrev pub load : Scope → Item → Option Instruction
 load scope (item.Getn number pointer index) = Some (Load (number_place scope number) (op.GetNum (pointer_place scope pointer) index))
 load scope (item.Casp number pointer index expected stored) =
-    Some (Load (number_place scope number) (op.CasPtr (pointer_place scope pointer) index (pointer_place scope expected) (pointer_place scope stored)))
+    Some
+    (Load (number_place scope number)
+    (op.CasPtr (pointer_place scope pointer) index (pointer_place scope expected) (pointer_place scope stored)))
 load scope other = None
 
 -- an instruction that keeps or shows what it tests of pointers

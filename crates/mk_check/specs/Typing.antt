@@ -136,21 +136,40 @@ abbrev pub typing_fault : Around → ℕ → List Item → Item → Option TypeK
 typing_fault a line behind (Heap pages resident) = None
 typing_fault a line behind (TypeLine name words) = pointers_have_types a words or pointers_are_inside a words
 typing_fault a line behind (Global name ty) = is_type a ty
-typing_fault a line behind (Script name) = is_short (script_length (record { name = name; line = line + 1; items = before_next_script behind }))
+typing_fault a line behind (Script name) =
+    is_short (script_length (record { name = name; line = line + 1; items = before_next_script behind }))
 typing_fault a line behind (Ptr name at) = is_type a at.name or is_inside a (Some at)
 typing_fault a line behind (Num name) = None
-typing_fault a line behind (New pointer ty) = is_pointer a pointer or is_type a ty or same_kind (pointer_at pointer a.script) (Some (base_of ty))
+typing_fault a line behind (New pointer ty) =
+    is_pointer a pointer or is_type a ty or same_kind (pointer_at pointer a.script) (Some (base_of ty))
 typing_fault a line behind (Free pointer) = is_pointer a pointer or unless (is_base (pointer_at pointer a.script)) kind.InteriorFree
-typing_fault a line behind (Getn number pointer index) = is_number a number or is_pointer a pointer or is_inside a (place_behind a pointer index) or holds_number a pointer index
-typing_fault a line behind (Setn pointer index number) = is_pointer a pointer or is_number a number or is_inside a (place_behind a pointer index) or holds_number a pointer index
-typing_fault a line behind (Getp loaded pointer index) = is_pointer a loaded or is_pointer a pointer or is_inside a (place_behind a pointer index) or points_as a pointer index loaded
-typing_fault a line behind (Setp pointer index stored) = is_pointer a pointer or is_pointer a stored or is_inside a (place_behind a pointer index) or points_as a pointer index stored
-typing_fault a line behind (Casp number pointer index expected stored) = is_number a number or is_pointer a pointer or is_pointer a expected or is_pointer a stored or is_inside a (place_behind a pointer index) or points_as a pointer index expected or points_as a pointer index stored
-typing_fault a line behind (Lea moved pointer index) = is_pointer a moved or is_pointer a pointer or is_inside a (place_behind a pointer index) or same_kind (pointer_at moved a.script) (place_behind a pointer index)
-typing_fault a line behind (Move copied pointer) = is_pointer a copied or is_pointer a pointer or same_kind (pointer_at copied a.script) (pointer_at pointer a.script)
+typing_fault a line behind (Getn number pointer index) =
+    is_number a number or is_pointer a pointer or is_inside a (place_behind a pointer index)
+    or holds_number a pointer index
+typing_fault a line behind (Setn pointer index number) =
+    is_pointer a pointer or is_number a number or is_inside a (place_behind a pointer index)
+    or holds_number a pointer index
+typing_fault a line behind (Getp loaded pointer index) =
+    is_pointer a loaded or is_pointer a pointer or is_inside a (place_behind a pointer index)
+    or points_as a pointer index loaded
+typing_fault a line behind (Setp pointer index stored) =
+    is_pointer a pointer or is_pointer a stored or is_inside a (place_behind a pointer index)
+    or points_as a pointer index stored
+typing_fault a line behind (Casp number pointer index expected stored) =
+    is_number a number or is_pointer a pointer or is_pointer a expected or is_pointer a stored
+    or is_inside a (place_behind a pointer index) or points_as a pointer index expected
+    or points_as a pointer index stored
+typing_fault a line behind (Lea moved pointer index) =
+    is_pointer a moved or is_pointer a pointer or is_inside a (place_behind a pointer index)
+    or same_kind (pointer_at moved a.script) (place_behind a pointer index)
+typing_fault a line behind (Move copied pointer) =
+    is_pointer a copied or is_pointer a pointer
+    or same_kind (pointer_at copied a.script) (pointer_at pointer a.script)
 typing_fault a line behind (Clear pointer) = is_pointer a pointer
-typing_fault a line behind (Loadg loaded global) = is_pointer a loaded or is_global a global or same_kind (pointer_at loaded a.script) (global_at a global)
-typing_fault a line behind (Storeg stored global) = is_pointer a stored or is_global a global or same_kind (pointer_at stored a.script) (global_at a global)
+typing_fault a line behind (Loadg loaded global) =
+    is_pointer a loaded or is_global a global or same_kind (pointer_at loaded a.script) (global_at a global)
+typing_fault a line behind (Storeg stored global) =
+    is_pointer a stored or is_global a global or same_kind (pointer_at stored a.script) (global_at a global)
 typing_fault a line behind (Same number first second) = is_number a number or is_pointer a first or is_pointer a second
 typing_fault a line behind (Isnull number pointer) = is_number a number or is_pointer a pointer
 typing_fault a line behind (Show pointer) = is_pointer a pointer
