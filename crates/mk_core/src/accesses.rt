@@ -3,14 +3,14 @@
 use crate::Word;
 
 /// A word of the shared table: the turn, or one that can be looked at.
-#[derive(Clone, Copy, Debug, PartialEq, Eq)]
+#[derive(Clone, Copy)]
 pub enum TableWord {
     Turn,
     Named(Word),
 }
 
 /// How a word is accessed. Each is one sequentially consistent step.
-#[derive(Clone, Copy, Debug, PartialEq, Eq)]
+#[derive(Clone, Copy)]
 pub enum Access {
     Load,
     Store(u64),

@@ -12,7 +12,7 @@ pub enum Seat {
 
 /// The name of a word of the shared table that can be looked at. Pages, callers, registers, globals and
 /// heap words are numbered from 0.
-#[derive(Clone, Copy, Debug, PartialEq, Eq)]
+#[derive(Clone, Copy)]
 pub enum Word {
     Phase,
     Gate(u64),
@@ -44,7 +44,7 @@ pub enum Tally {
 
 /// A kind of step, with the numbers that are fixed before its access. What the access finds isn't among
 /// them.
-#[derive(Clone, Copy, Debug, PartialEq, Eq)]
+#[derive(Clone, Copy)]
 pub enum Step {
     Enter(Op),
     Leave,
@@ -90,7 +90,7 @@ pub enum Step {
 }
 
 /// One step of one seat.
-#[derive(Clone, Copy, Debug, PartialEq, Eq)]
+#[derive(Clone, Copy)]
 pub struct Event {
     pub seat: Seat,
     pub step: Step,
@@ -117,7 +117,7 @@ pub struct NotEnabled {
 
 /// The seats that a kind of step is open to: callers in a call, the holder of the turn, markers, or the
 /// host alone.
-#[derive(Clone, Copy, Debug, PartialEq, Eq)]
+#[derive(Clone, Copy)]
 pub enum Group {
     Callers,
     Turn,

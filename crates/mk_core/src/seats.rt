@@ -5,7 +5,7 @@ use mk_geom::Place;
 use mk_never::Op;
 
 /// The next step of a caller's call.
-#[derive(Clone, Copy, Debug, PartialEq, Eq)]
+#[derive(Clone, Copy)]
 pub enum Stage {
     /// No call is in flight.
     Idle,
@@ -32,7 +32,7 @@ pub enum Stage {
 
 /// A caller's call in flight: its next step, its operation, and what it has loaded: the registers q, p and
 /// r, and the word or global that it puts into d.
-#[derive(Clone, Copy, Debug, PartialEq, Eq)]
+#[derive(Clone, Copy)]
 pub struct Flight {
     pub stage: Stage,
     pub op: Op,
@@ -44,7 +44,7 @@ pub struct Flight {
 
 /// Where the value of a look comes from: a root, which is a register or a global, or a word of a marked or
 /// of an unmarked cell.
-#[derive(Clone, Copy, Debug, PartialEq, Eq)]
+#[derive(Clone, Copy)]
 pub enum Source {
     Root,
     Marked,
@@ -52,14 +52,14 @@ pub enum Source {
 }
 
 /// A value that the turn's holder has looked at and may mark by.
-#[derive(Clone, Copy, Debug, PartialEq, Eq)]
+#[derive(Clone, Copy)]
 pub struct Hand {
     pub value: u64,
     pub source: Source,
 }
 
 /// The place of a `New`, and how far it is.
-#[derive(Clone, Copy, Debug, PartialEq, Eq)]
+#[derive(Clone, Copy)]
 pub enum Placing {
     Unplaced,
     /// A step has served the new object, so its place is fixed.
@@ -70,7 +70,7 @@ pub enum Placing {
 }
 
 /// The cycle that is begun in a turn.
-#[derive(Clone, Copy, Debug, PartialEq, Eq)]
+#[derive(Clone, Copy)]
 pub enum OwnCycle {
     NotBegun,
     Begun,
@@ -78,14 +78,14 @@ pub enum OwnCycle {
 }
 
 /// The run of a large object: its head page, and its count of pages.
-#[derive(Clone, Copy, Debug, PartialEq, Eq)]
+#[derive(Clone, Copy)]
 pub struct RunPages {
     pub page: u64,
     pub count: u64,
 }
 
 /// What the turn's holder has done in this turn.
-#[derive(Clone, Copy, Debug, PartialEq, Eq)]
+#[derive(Clone, Copy)]
 pub struct Holding {
     pub hand: Option<Hand>,
     pub placing: Placing,
@@ -95,7 +95,7 @@ pub struct Holding {
 }
 
 /// Whether a marker is in. One that found another phase than marking is visiting.
-#[derive(Clone, Copy, Debug, PartialEq, Eq)]
+#[derive(Clone, Copy)]
 pub enum Presence {
     Out,
     Visiting,
@@ -104,7 +104,7 @@ pub enum Presence {
 
 /// The cell that a marker scans: its page and index, and the heap words from `next` up to `end` that it
 /// has still to load.
-#[derive(Clone, Copy, Debug, PartialEq, Eq)]
+#[derive(Clone, Copy)]
 pub struct Scan {
     pub page: u64,
     pub index: u64,
@@ -113,7 +113,7 @@ pub struct Scan {
 }
 
 /// A page's header word as a marker has seen it.
-#[derive(Clone, Copy, Debug, PartialEq, Eq)]
+#[derive(Clone, Copy)]
 pub struct SeenHeader {
     pub page: u64,
     pub header: u64,
@@ -121,7 +121,7 @@ pub struct SeenHeader {
 
 /// What a marker is at: its scan, its open hand, and the header that its last look showed, where that look
 /// was at a header.
-#[derive(Clone, Copy, Debug, PartialEq, Eq)]
+#[derive(Clone, Copy)]
 pub struct Marker {
     pub presence: Presence,
     pub scan: Option<Scan>,
@@ -130,14 +130,14 @@ pub struct Marker {
 }
 
 /// What a step makes of a call: how it goes on, and the answer, where the step decides it.
-#[derive(Clone, Copy, Debug, PartialEq, Eq)]
+#[derive(Clone, Copy)]
 pub struct Progress {
     pub flight: Flight,
     pub answer: Option<Answer>,
 }
 
 /// What a `New` makes: so many words, leaf where none of them is a pointer.
-#[derive(Clone, Copy, Debug, PartialEq, Eq)]
+#[derive(Clone, Copy)]
 pub struct Object {
     pub words: u64,
     pub leaf: bool,
