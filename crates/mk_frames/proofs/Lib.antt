@@ -1,0 +1,10 @@
+pub mod Grown
+pub mod LastEvents
+pub mod OtherCalls
+pub mod Tests
+pub mod AdmittedStill
+pub mod AskedStill
+pub mod GatesStill
+pub mod HolderStill
+pub mod RunsStill
+pub mod WipedStill
