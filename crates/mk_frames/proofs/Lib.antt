@@ -8,3 +8,6 @@ pub mod GatesStill
 pub mod HolderStill
 pub mod RunsStill
 pub mod WipedStill
+pub mod Holders
+pub mod ProbesStill
+pub mod EnabledStill

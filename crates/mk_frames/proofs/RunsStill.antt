@@ -6,7 +6,6 @@ use Rattle.std.specs.Prelude.{None, Option, Some, slice_index}
 use Rattle.std.proofs.lemmas.List.{get_or-set_other}
 use Rattle.mk_core.specs.declared.config.Config.{Config}
 use Rattle.mk_core.specs.declared.events.Event.{Event}
-use Rattle.mk_core.specs.declared.events.Group.TheVariants as group
 use Rattle.mk_core.specs.declared.events.Seat.{Seat}
 use Rattle.mk_core.specs.declared.events.Step.{Step}
 use Rattle.mk_core.specs.declared.events.Step.TheVariants as step
@@ -17,13 +16,12 @@ use Rattle.mk_core.specs.Calls.{word_met}
 use Rattle.mk_core.specs.Frames.{Steady}
 use Rattle.mk_core.specs.Growing.{AreOfOthers, is_one_of}
 use Rattle.mk_core.specs.History.{IsHistory, World, left, world_behind}
-use Rattle.mk_core.specs.Moments.{Moment, flight_of}
+use Rattle.mk_core.specs.Moments.{flight_of}
 use Rattle.mk_core.specs.NewPlaces.{is_run_gone}
-use Rattle.mk_core.specs.Order.{group_of}
 use Rattle.mk_core.specs.Readings.{Holds}
-use Rattle.mk_protocol.proofs.Actors.{Actor, AsHolder, AsMarker, CallTakes, HostTakes, InCallOf, Meets}
+use Rattle.mk_protocol.proofs.Actors.{Meets, is_holders}
 use Rattle.mk_protocol.proofs.Frames.{left_after, other_seat}
-use Rattle.mk_protocol.proofs.Known.{Known, holds_turn}
+use Rattle.mk_protocol.proofs.Known.{holds_turn}
 use Rattle.mk_protocol.proofs.Orderly.{same_holder}
 use Rattle.mk_protocol.proofs.OrderlyLists.{actor_of}
 use Rattle.mk_protocol.proofs.OthersMoves.{WorldBehind}
@@ -36,27 +34,17 @@ use Rattle.mk_zeros.specs.Zeros.{IsMappedWord}
 use Rattle.mk_invariant.proofs.Joined.{told_to_zeros}
 use Rattle.mk_invariant.proofs.RunWords.{gone_behind}
 use Rattle.mk_frames.proofs.Grown.{along_others}
+use Rattle.mk_frames.proofs.Holders.{acts_as_holder}
 use Rattle.mk_frames.proofs.LastEvents.{comes_last, stands}
 
 abbrev is_wipe : Step → Bool
 is_wipe (step.Wipe n) = true
 is_wipe _ = false
 
-call_wipes_nothing : (x : Step) → group_of x ≡ group.Callers → is_wipe x ≡ false
-call_wipes_nothing (step.Wipe n) g = cc
-call_wipes_nothing _ g = refl
-
-marker_wipes_nothing : (x : Step) → group_of x ≡ group.Markers → is_wipe x ≡ false
-marker_wipes_nothing (step.Wipe n) g = cc
-marker_wipes_nothing _ g = refl
-
 -- Only the turn's holder wipes.
-wiper_holds : (c : Config) (m : Moment) (seat : Seat) (x : Step) → Actor c m seat x → is_wipe x ≡ true → HoldsTurn c (view_of m) seat
-wiper_holds c m seat x (InCallOf k _ lt g) w = absurd (true≢false (sym w ∙ call_wipes_nothing x g))
-wiper_holds c m seat x (AsMarker k _ lt g) w = absurd (true≢false (sym w ∙ marker_wipes_nothing x g))
-wiper_holds c m seat x (CallTakes k o lt idle is) w = cc
-wiper_holds c m seat x (HostTakes free) w = cc
-wiper_holds c m seat x (AsHolder _ _ t n) w = t
+wipe_is_holders : (x : Step) → is_wipe x ≡ true → is_holders x ≡ true
+wipe_is_holders (step.Wipe n) w = refl
+wipe_is_holders _ w = cc
 
 -- A word of no mapped allocation is changed by the holder alone.
 heap_after : (c : Config) (w : World) (seat : Seat) (x : Step) → (is_wipe x ≡ false) → (stores x ≡ true → IsMappedWord c w.allocations (word_met (flight_of w.now seat)))
@@ -112,7 +100,7 @@ finds_one c s es e h other holds =
     let out : HoldsTurn c (view_of w.now) e.seat → ⊥ = λ t. ne (same_holder c (view_of w.now) e.seat s st.known.now.orderly t (holds_turn c w.now s st.known.now.orderly holds)) in
     let no_wipe : is_wipe e.step ≡ false = elim (cases_Bool (is_wipe e.step)) [
       | inr e' ↦ e'
-      | inl e' ↦ absurd (out (wiper_holds c w.now e.seat e.step (actor_of c w.now e.seat e.step st.known.now.orderly last.meets) e'))
+      | inl e' ↦ absurd (out (acts_as_holder c w.now e.seat e.step (actor_of c w.now e.seat e.step st.known.now.orderly last.meets) (wipe_is_holders e.step e')))
     ] in
     subst (λ (v : World). HolderFinds c s w v) (sym last.leaves)
     (record {
