@@ -11,3 +11,6 @@ pub mod WipedStill
 pub mod Holders
 pub mod ProbesStill
 pub mod EnabledStill
+pub mod DecidesStill
+pub mod TidyStill
+pub mod LongerLists
