@@ -29,7 +29,7 @@ pub record SeesTheSame (c : Config) (m n : Moment) (f : Flight) (found find : �
   pub look : (y : Word) → x ≡ step.Look y → sees_double n.words (target c.pages n.words f) y ≡ sees_double m.words (target c.pages m.words f) y
   pub quar : (p v : ℕ) → x ≡ step.Quar p v → cell_freed c.pages n.words f p v ≡ cell_freed c.pages m.words f p v
 
-begins_nothing : (f : Flight) (o : Op) (n : ℕ) → (begins_where_free f o n).answer ≡ None
+pub begins_nothing : (f : Flight) (o : Op) (n : ℕ) → (begins_where_free f o n).answer ≡ None
 begins_nothing f o n = by (n == 0)
   where
     by : (b : Bool) → (if b then record { flight = begun o; answer = None } else still f).answer ≡ None

@@ -14,3 +14,6 @@ pub mod EnabledStill
 pub mod DecidesStill
 pub mod TidyStill
 pub mod LongerLists
+pub mod TargetsStill
+pub mod CallsStill
+pub mod Frames

@@ -28,7 +28,7 @@ entry_not_by j k o (Some a) ne = (ne, tt)
 entry_not_by j k o None ne = tt
 
 -- one event of another seat
-call_not_by : (c : Config) (w : World) (seat : Seat) (x : Step) (k : ℕ) → seat ≢ Caller k → AreNotBy k (asked (call_decided c w.now (record { seat = seat; step = x })))
+pub call_not_by : (c : Config) (w : World) (seat : Seat) (x : Step) (k : ℕ) → seat ≢ Caller k → AreNotBy k (asked (call_decided c w.now (record { seat = seat; step = x })))
 call_not_by c w (Caller j) x k ne =
     entry_not_by j k (flight_of w.now (Caller j)).op (answer_decided c w.now (record { seat = Caller j; step = x })) (λ e. ne (ap (λ i. Caller i) e))
 call_not_by c w (Marker j) x k ne = tt
