@@ -8,7 +8,7 @@ use Rattle.mk_never.specs.declared.values.Value.TheVariants.{Null, Num, Ptr}
 use Rattle.mk_never.specs.declared.operations.Op.{Op}
 use Rattle.mk_never.specs.declared.operations.Op.TheVariants as op
 use Rattle.mk_never.specs.Types.{kinds_of}
-use Rattle.mk_never.specs.NeverHeap.{NeverState, allocation_at, register_at, words_of}
+use Rattle.mk_never.specs.NeverHeap.{NeverState, allocation_at, register_at}
 use Rattle.mk_never.specs.Laws.{Continues, KeepsRegisters}
 use Rattle.mk_never.specs.Admitted.{AccessIsAdmitted, AreAdmitted, IsAdmitted, IsBase, IsNumber, IsOfKind, IsPointer, Meets, OperandsAreInRange, StoreIsAdmitted}
 use Rattle.mk_never.specs.Typed.{IsSound, IsTyped}

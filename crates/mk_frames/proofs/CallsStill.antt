@@ -21,10 +21,10 @@ use Rattle.mk_core.specs.Accesses.{found}
 use Rattle.mk_core.specs.Bounded.{all_below}
 use Rattle.mk_core.specs.Decided.{asked, entry_of}
 use Rattle.mk_core.specs.Effects.{progress}
-use Rattle.mk_core.specs.Frames.{HoldsAll, Written, written_of}
+use Rattle.mk_core.specs.Frames.{HoldsAll, Written}
 use Rattle.mk_core.specs.Growing.{AreOfOthers, is_one_of}
 use Rattle.mk_core.specs.History.{IsHistory, World, call_decided, left, never_behind}
-use Rattle.mk_core.specs.Moments.{Moment, flight_of, holder_number, is_number_of, others_are_held}
+use Rattle.mk_core.specs.Moments.{Moment, flight_of, holder_number, is_number_of}
 use Rattle.mk_core.specs.Order.{comes_next}
 use Rattle.mk_core.specs.Readings.{Holds}
 use Rattle.mk_protocol.proofs.Actors.{Meets}

@@ -1,15 +1,12 @@
 -- The call that an event decides behind a list, it decides behind what others did since, and it is admitted there.
-use Rattle.std.proofs.Common.{Bool, List, [], ap, false, inl, inr, refl, subst, sym, true, ℕ, ◌++◌, ◌<◌, ◌∙◌, ◌∷◌, ◌≡◌}
-use Rattle.std.specs.Prelude.{None, Option, Some, if◌then◌else◌, is_some, not, slice_index, ◌&&◌, ◌==◌}
+use Rattle.std.proofs.Common.{Bool, List, [], ap, inl, inr, refl, subst, sym, true, ℕ, ◌++◌, ◌<◌, ◌∙◌, ◌∷◌, ◌≡◌}
+use Rattle.std.specs.Prelude.{None, Some, if◌then◌else◌, is_some, not, ◌&&◌, ◌==◌}
 use Rattle.std.proofs.lemmas.Bool.{cases_Bool, ltb-true}
-use Rattle.mk_never.specs.declared.operations.Op.{Op}
 use Rattle.mk_never.specs.Admitted.{AreAdmitted}
 use Rattle.mk_never.specs.NeverHeap.{Call}
-use Rattle.mk_geom.specs.declared.addresses.Cell.{Cell}
 use Rattle.mk_geom.specs.Headers.{header_of}
 use Rattle.mk_core.specs.declared.accesses.TableWord.{TableWord}
 use Rattle.mk_core.specs.declared.config.Config.{Config}
-use Rattle.mk_core.specs.declared.events.Answer.{Answer}
 use Rattle.mk_core.specs.declared.events.Answer.TheVariants as answer
 use Rattle.mk_core.specs.declared.events.Event.{Event}
 use Rattle.mk_core.specs.declared.events.Seat.{Seat}
@@ -18,7 +15,6 @@ use Rattle.mk_core.specs.declared.events.Step.{Step}
 use Rattle.mk_core.specs.declared.events.Step.TheVariants as step
 use Rattle.mk_core.specs.declared.events.Word.{Word}
 use Rattle.mk_core.specs.declared.seats.Flight.{Flight}
-use Rattle.mk_core.specs.declared.seats.Stage.{Stage}
 use Rattle.mk_core.specs.declared.seats.Stage.TheVariants as stage
 use Rattle.mk_core.specs.Accesses.{found, reached, register_met}
 use Rattle.mk_core.specs.Calls.{onward, page_met, q_of, refused}
@@ -29,11 +25,11 @@ use Rattle.mk_core.specs.Enabled.{IsEnabled}
 use Rattle.mk_core.specs.Frames.{IsInCall, IsLeft, Steady}
 use Rattle.mk_core.specs.Growing.{AreOfOthers}
 use Rattle.mk_core.specs.History.{IsHistory, World, call_decided, left, never_behind}
-use Rattle.mk_core.specs.Moments.{Moment, flight_of}
+use Rattle.mk_core.specs.Moments.{flight_of}
 use Rattle.mk_core.specs.NewPlaces.{target}
-use Rattle.mk_core.specs.Readings.{Holds, is_in_call}
+use Rattle.mk_core.specs.Readings.{Holds}
 use Rattle.mk_core.specs.TurnConditions.{cell_freed, frees}
-use Rattle.mk_core.specs.Words.{Words, header_at, word_in}
+use Rattle.mk_core.specs.Words.{Words, word_in}
 use Rattle.mk_core.proofs.Conditions.{enabled_meets}
 use Rattle.mk_protocol.proofs.Actors.{Meets, is_holders}
 use Rattle.mk_protocol.proofs.NextSteps.{at_its_stage}
@@ -44,10 +40,10 @@ use Rattle.mk_protocol.proofs.Stages.{calls_stand, is_call_stage}
 use Rattle.mk_protocol.proofs.Standings.{InCall, in_call_told, is_standing_in_call, standing}
 use Rattle.mk_images.proofs.CallSorts.{admitted_call, call_outside}
 use Rattle.mk_frames.proofs.AdmittedStill.{call_on}
-use Rattle.mk_frames.proofs.AskedStill.{SeesTheSame, asked_the_same}
+use Rattle.mk_frames.proofs.AskedStill.{asked_the_same}
 use Rattle.mk_frames.proofs.EnabledStill.{before, left_to}
 use Rattle.mk_frames.proofs.Holders.{acts_as_holder, holds_is}
-use Rattle.mk_frames.proofs.LastEvents.{Stands, comes_last, stands}
+use Rattle.mk_frames.proofs.LastEvents.{Stands, stands}
 use Rattle.mk_frames.proofs.OtherCalls.{never_continues, registers_are_left}
 use Rattle.mk_frames.proofs.ProbesStill.{probe_still}
 

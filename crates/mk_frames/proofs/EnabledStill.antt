@@ -1,7 +1,7 @@
 -- An event that is enabled behind a list is enabled behind what others did since.
-use Rattle.std.proofs.Common.{Bool, List, [], ap, arith, false, inl, inr, refl, subst, sym, true, ℕ, ◌++◌, ◌+◌, ◌<◌, ◌∙◌, ◌∷◌, ◌≡◌, ◌≢◌}
-use Rattle.std.specs.Prelude.{None, Option, Some, if◌then◌else◌, ◌==◌}
-use Rattle.std.proofs.lemmas.Bool.{cases_Bool, eq-eqb, eqb-false, eqb-true, false≢true, ltb-true, ne_eqb}
+use Rattle.std.proofs.Common.{Bool, List, [], ap, arith, false, inl, inr, refl, subst, sym, true, ◌++◌, ◌+◌, ◌∙◌, ◌∷◌, ◌≡◌, ◌≢◌}
+use Rattle.std.specs.Prelude.{Option, if◌then◌else◌, ◌==◌}
+use Rattle.std.proofs.lemmas.Bool.{cases_Bool, eq-eqb, eqb-false, eqb-true, ltb-true, ne_eqb}
 use Rattle.mk_never.specs.declared.operations.Op.{Op}
 use Rattle.mk_core.specs.declared.config.Config.{Config}
 use Rattle.mk_core.specs.declared.events.Event.{Event}
@@ -14,9 +14,9 @@ use Rattle.mk_core.specs.declared.seats.Marker.{Marker as MarkerState}
 use Rattle.mk_core.specs.Accesses.{caller_number, reg_access, register_met}
 use Rattle.mk_core.specs.Enabled.{IsEnabled, MeetsAll, holder_may, marker_may}
 use Rattle.mk_core.specs.Frames.{IsLeft}
-use Rattle.mk_core.specs.Growing.{AreOfOthers, is_one_of}
+use Rattle.mk_core.specs.Growing.{AreOfOthers}
 use Rattle.mk_core.specs.History.{IsHistory, World, left}
-use Rattle.mk_core.specs.Moments.{Moment, flight_of, holder_number}
+use Rattle.mk_core.specs.Moments.{Moment, flight_of}
 use Rattle.mk_core.specs.Order.{comes_next, comes_next_to_host, host_has_turn, is_in_order}
 use Rattle.mk_core.specs.Ranges.{has_gates, has_phase, is_in_range}
 use Rattle.mk_core.specs.Words.{phase_of}

@@ -3,8 +3,7 @@ use Rattle.std.proofs.Common.{List, [], append_assoc, subst, sym, ◌++◌, ◌�
 use Rattle.mk_core.specs.declared.config.Config.{Config}
 use Rattle.mk_core.specs.declared.events.Event.{Event}
 use Rattle.mk_core.specs.declared.events.Seat.{Seat}
-use Rattle.mk_core.specs.declared.events.Seat.TheVariants.{Caller}
-use Rattle.mk_core.specs.Frames.{AdmittedOthersLeave, HeapIsLeft, IsInCall, TargetsAreLeft}
+use Rattle.mk_core.specs.Frames.{AdmittedOthersLeave, HeapIsLeft, IsInCall}
 use Rattle.mk_core.specs.Growing.{AreOfOthers}
 use Rattle.mk_core.specs.History.{IsHistory, World, left, never_behind}
 use Rattle.mk_core.specs.Readings.{Holds}

@@ -1,5 +1,5 @@
 -- The gates that a step of the turn's holder asks for are as it asks, whatever others did since.
-use Rattle.std.proofs.Common.{Bool, List, ap, false, refl, subst, sym, true, ℕ, ◌<◌, ◌∙◌, ◌≡◌}
+use Rattle.std.proofs.Common.{List, ap, refl, true, ℕ, ◌∙◌, ◌≡◌}
 use Rattle.std.specs.Prelude.{not, slice_index, ◌||◌, ◌==◌}
 use Rattle.std.proofs.lemmas.Bool.{eq-eqb, eqb-false, eqb-true, ne_eqb, not-true}
 use Rattle.mk_geom.specs.declared.pages.Page.{Page}
@@ -11,7 +11,7 @@ use Rattle.mk_core.specs.declared.events.Step.TheVariants as step
 use Rattle.mk_core.specs.declared.events.Word.TheVariants as word
 use Rattle.mk_core.specs.declared.seats.Flight.{Flight}
 use Rattle.mk_core.specs.Cells.{is_unmapped_header}
-use Rattle.mk_core.specs.Frames.{Steady, TurnIsLeft, steady_of}
+use Rattle.mk_core.specs.Frames.{Steady, TurnIsLeft}
 use Rattle.mk_core.specs.History.{World}
 use Rattle.mk_core.specs.Moments.{is_held, is_number_of, is_phase, none_is_held, others_are_held}
 use Rattle.mk_core.specs.NewPlaces.{target}

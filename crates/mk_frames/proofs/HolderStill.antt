@@ -1,7 +1,6 @@
 -- What a step of the turn's holder asks of the words still holds, whatever others did since.
-use Rattle.std.proofs.Common.{Bool, List, ap, arith, false, refl, subst, sym, true, ℕ, ◌+◌, ◌-◌, ◌/◌, ◌%◌, ◌^◌, ◌<◌, ◌∙◌, ◌≡◌, ◌≢◌}
+use Rattle.std.proofs.Common.{Bool, List, ap, arith, refl, sym, true, ℕ, ◌+◌, ◌-◌, ◌/◌, ◌%◌, ◌^◌, ◌∙◌, ◌≡◌, ◌≢◌}
 use Rattle.std.specs.Prelude.{Option, if◌then◌else◌, not, slice_index, ◌&&◌, ◌||◌, ◌==◌, bit_and}
-use Rattle.std.specs.List.{list_all}
 use Rattle.std.proofs.Common.{inl, inr}
 use Rattle.std.proofs.lemmas.Bool.{and_parts, cases_Bool, eqb-true, or_left, or_right}
 use Rattle.mk_geom.specs.declared.addresses.Cell.{Cell}
@@ -14,25 +13,22 @@ use Rattle.mk_core.specs.declared.events.Step.TheVariants as step
 use Rattle.mk_core.specs.declared.seats.Flight.{Flight}
 use Rattle.mk_core.specs.declared.seats.Holding.{Holding}
 use Rattle.mk_core.specs.declared.seats.Object.{Object}
-use Rattle.mk_core.specs.declared.seats.RunPages.{RunPages}
-use Rattle.mk_core.specs.Bits.{has_bit, without}
+use Rattle.mk_core.specs.Bits.{without}
 use Rattle.mk_core.specs.Bounded.{all_below, is_some_and}
 use Rattle.mk_core.specs.Cells.{are_left_unmarked, head_page, is_left_unmarked, is_released, pointed_cell}
 use Rattle.mk_core.specs.Enabled.{holder_may}
-use Rattle.mk_core.specs.Frames.{Steady, TurnIsLeft, Written, steady_of, written_of}
+use Rattle.mk_core.specs.Frames.{Steady, TurnIsLeft, Written, written_of}
 use Rattle.mk_core.specs.History.{World}
 use Rattle.mk_core.specs.MarkerConditions.{may_end_all}
 use Rattle.mk_core.specs.Moments.{is_phase, others_are_held}
 use Rattle.mk_core.specs.Ranges.{has_gates, has_phase}
 use Rattle.mk_core.specs.declared.events.Seat.{Seat}
 use Rattle.mk_core.specs.NewPlaces.{bits_made, header_made, is_next_header, is_run_gone, object_made, pages_made, target}
-use Rattle.mk_core.specs.Order.{host_has_turn}
-use Rattle.mk_core.specs.Readings.{NoneAttends}
-use Rattle.mk_core.specs.StopConditions.{blackens, has_clean_page, has_closed_page, has_settled_page, marks_by_hand, marks_place, may_begin, may_black, may_close, may_end, may_mark, may_turn_black, may_unblack, may_undirty, none_attends, roots_point_well}
+use Rattle.mk_core.specs.StopConditions.{blackens, has_closed_page, marks_by_hand, marks_place, may_begin, may_black, may_close, may_end, may_mark, may_turn_black, may_unblack, may_undirty, none_attends, roots_point_well}
 use Rattle.mk_core.specs.TurnConditions.{are_wiped, carves, drops, empties, frees, gives_back, is_decided, is_full, is_in_gone_run, is_marked_first, is_used_once, may_give, may_head, may_quarantine, may_use, may_wipe, place_now, takes_cell, takes_snapshot, unmaps, words_held}
 use Rattle.mk_core.specs.Words.{Words, header_at, phase_of, quarantine_word, used_at}
 use Rattle.mk_protocol.proofs.Asked.{none_at}
-use Rattle.mk_frames.proofs.Tests.{all_below_on, and_on, if_on, none_from, or_on, some_on, without_on}
+use Rattle.mk_frames.proofs.Tests.{and_on, if_on, none_from, or_on, some_on, without_on}
 use Rattle.mk_frames.proofs.GatesStill.{pages_same, phase_same}
 
 module _ (c : Config) (w v : World) (kept : TurnIsLeft w v) (own : v.now.seats.holding ≡ w.now.seats.holding) where

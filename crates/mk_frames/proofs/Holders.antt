@@ -1,7 +1,5 @@
 -- Who steps: the turn's holder, or a seat whose step no gate, phase or word of the turn's is asked for.
-use Rattle.std.proofs.Common.{ap, false, refl, sym, true, ℕ, ◌+◌, ◌<◌, ◌∙◌, ◌≡◌}
-use Rattle.std.specs.Prelude.{None, Some, slice_index}
-use Rattle.mk_never.specs.declared.operations.Op.{Op}
+use Rattle.std.proofs.Common.{ap, false, refl, sym, true, ℕ, ◌∙◌, ◌≡◌}
 use Rattle.mk_core.specs.declared.config.Config.{Config}
 use Rattle.mk_core.specs.declared.events.Group.TheVariants as group
 use Rattle.mk_core.specs.declared.events.Seat.{Seat}
@@ -14,7 +12,6 @@ use Rattle.mk_core.specs.Moments.{Moment, flight_of}
 use Rattle.mk_core.specs.Order.{group_of, is_of_turn}
 use Rattle.mk_core.specs.Ranges.{has_gates, has_phase}
 use Rattle.mk_core.specs.Readings.{Holds}
-use Rattle.mk_core.specs.Words.{Words}
 use Rattle.std.proofs.lemmas.Bool.{true≢false}
 use Rattle.mk_protocol.proofs.Actors.{Actor, AsHolder, AsMarker, CallTakes, HostTakes, InCallOf, is_holders}
 use Rattle.mk_protocol.proofs.Orderly.{Orderly}

@@ -1,12 +1,11 @@
 -- The calls that events of others decide: none is a seat's own, so they leave its registers in the heap that never
 -- reuses storage.
-use Rattle.std.proofs.Common.{List, [], ap, false, refl, subst, sym, ℕ, ◌++◌, ◌∙◌, ◌<◌, ◌∷◌, ◌≡◌, ◌≢◌}
+use Rattle.std.proofs.Common.{List, [], ap, subst, sym, ℕ, ◌++◌, ◌∷◌, ◌≢◌}
 use Rattle.std.specs.Prelude.{None, Option, Some}
 use Rattle.std.proofs.lemmas.List.{map-append}
 use Rattle.mk_never.specs.declared.operations.Op.{Op}
-use Rattle.mk_never.specs.Admitted.{AreAdmitted}
 use Rattle.mk_never.specs.Laws.{AreNotBy, Continues, KeepsRegisters}
-use Rattle.mk_never.specs.NeverHeap.{Call, NeverState, after_calls}
+use Rattle.mk_never.specs.NeverHeap.{Call, NeverState}
 use Rattle.mk_never.proofs.Later.{calls_stay}
 use Rattle.mk_never.proofs.Registers.{admitted_keep}
 use Rattle.mk_core.specs.declared.config.Config.{Config}

@@ -1,16 +1,15 @@
 -- A run that a `probe` finds unmapped stays so: the call's own register points into its allocation.
 use Rattle.std.proofs.Common.{Bool, ap, arith, false, inl, inr, length, refl, subst, sym, true, ℕ, ◌+◌, ◌*◌, ◌<◌, ◌∙◌, ◌≡◌}
-use Rattle.std.specs.Prelude.{Some, if◌then◌else◌, nat_lt, slice_index, ◌&&◌}
+use Rattle.std.specs.Prelude.{if◌then◌else◌, nat_lt}
 use Rattle.std.proofs.lemmas.Bool.{and_from, and_parts, cases_Bool, true≢false}
 use Rattle.mk_never.specs.declared.operations.Op.{Op}
 use Rattle.mk_never.specs.declared.operations.Op.TheVariants as op
 use Rattle.mk_never.specs.declared.types.Kind.{Kind}
-use Rattle.mk_never.specs.declared.values.Target.{Target}
 use Rattle.mk_never.specs.declared.values.Target.TheVariants.{Unmapped, WordOf}
 use Rattle.mk_never.specs.declared.values.Value.{Value}
 use Rattle.mk_never.specs.declared.values.Value.TheVariants.{Null, Num, Ptr}
 use Rattle.mk_never.specs.Admitted.{AccessIsAdmitted, IsAdmitted, IsNumber, IsPointer, Meets}
-use Rattle.mk_never.specs.Laws.{Continues, KeepsRegisters}
+use Rattle.mk_never.specs.Laws.{Continues}
 use Rattle.mk_never.specs.NeverHeap.{NeverState, allocation_at, is_unmapped, register_at, target_of, words_of}
 use Rattle.mk_never.specs.Types.{is_large}
 use Rattle.mk_never.specs.Typed.{IsSound}

@@ -1,7 +1,7 @@
 -- What others leave to the turn's holder of the heap's words: those that lie in no mapped allocation, and the run that it
 -- has unmapped and wiped.
 use Rattle.std.proofs.Common.{Bool, List, [], ap, false, inl, inr, refl, subst, sym, true, ℕ, ◌++◌, ◌∙◌, ◌∷◌, ◌≡◌}
-use Rattle.std.proofs.lemmas.Bool.{cases_Bool, true≢false}
+use Rattle.std.proofs.lemmas.Bool.{cases_Bool}
 use Rattle.std.specs.Prelude.{None, Option, Some, slice_index}
 use Rattle.std.proofs.lemmas.List.{get_or-set_other}
 use Rattle.mk_core.specs.declared.config.Config.{Config}
@@ -15,7 +15,7 @@ use Rattle.mk_core.specs.Allocations.{PlacedAllocation}
 use Rattle.mk_core.specs.Calls.{word_met}
 use Rattle.mk_core.specs.Frames.{Steady}
 use Rattle.mk_core.specs.Growing.{AreOfOthers, is_one_of}
-use Rattle.mk_core.specs.History.{IsHistory, World, left, world_behind}
+use Rattle.mk_core.specs.History.{IsHistory, World, left}
 use Rattle.mk_core.specs.Moments.{flight_of}
 use Rattle.mk_core.specs.NewPlaces.{is_run_gone}
 use Rattle.mk_core.specs.Readings.{Holds}

@@ -1,11 +1,11 @@
 -- An allocation to which a caller's register leads stays unreleased, where it is, and in a call of the caller mapped.
 use Rattle.std.proofs.Common.{List, [], append-nil, append_assoc, ap, arith, false, inl, inr, length, refl, subst, sym, true, ℕ, ◌++◌, ◌*◌, ◌+◌, ◌/◌, ◌<◌, ◌∙◌, ◌∷◌, ◌≡◌}
-use Rattle.std.specs.Prelude.{not, slice_index, ◌&&◌}
+use Rattle.std.specs.Prelude.{not, slice_index}
 use Rattle.std.proofs.lemmas.Bool.{and_from, and_parts, cases_lt, not-true, false≢true}
 use Rattle.std.proofs.lemmas.List.{get_or_append_left, get_or_past, length-map}
 use Rattle.mk_never.specs.declared.values.Value.{Value}
 use Rattle.mk_never.specs.declared.values.Value.TheVariants.{Null, Num, Ptr}
-use Rattle.mk_never.specs.NeverHeap.{NeverState, allocation_at, is_unmapped, register_at, words_of}
+use Rattle.mk_never.specs.NeverHeap.{NeverState, register_at}
 use Rattle.mk_never.specs.Reach.{LeadsTo, by_register}
 use Rattle.mk_never.specs.Typed.{IsSound}
 use Rattle.mk_core.specs.declared.config.Config.{Config}
@@ -16,7 +16,7 @@ use Rattle.mk_core.specs.declared.seats.Flight.{Flight}
 use Rattle.mk_core.specs.Allocations.{PlacedAllocation, is_mapped, placed_at}
 use Rattle.mk_core.specs.Calls.{at_rest}
 use Rattle.mk_core.specs.Cells.{header_in, is_unmapped_header}
-use Rattle.mk_core.specs.Frames.{CallIsLeft, IsInCall, TargetsAreLeft}
+use Rattle.mk_core.specs.Frames.{IsInCall, TargetsAreLeft}
 use Rattle.mk_core.specs.Growing.{AreOfOthers}
 use Rattle.mk_core.specs.History.{IsHistory, World, bases_of, left, never_behind}
 use Rattle.mk_core.specs.Moments.{Moment, flight_of}

@@ -1,5 +1,5 @@
 -- Tests that still hold where their parts do.
-use Rattle.std.proofs.Common.{Bool, List, [], ◌∷◌, ap, arith, false, inl, inr, refl, suc, sym, true, zero, ℕ, ◌+◌, ◌<◌, ◌∙◌, ◌≡◌}
+use Rattle.std.proofs.Common.{Bool, List, [], ◌∷◌, ap, arith, false, inl, inr, refl, suc, sym, true, zero, ℕ, ◌<◌, ◌∙◌, ◌≡◌}
 use Rattle.std.specs.Prelude.{None, Option, Some, if◌then◌else◌, not, slice_index_or, ◌&&◌, ◌||◌, ◌==◌}
 use Rattle.std.proofs.lemmas.Bool.{and_from, and_parts, cases_Bool, eq-eqb, eqb-true, true≢false}
 use Rattle.mk_core.specs.declared.seats.Marker.{Marker}
@@ -7,7 +7,7 @@ use Rattle.mk_core.specs.Bits.{has_bit, without}
 use Rattle.mk_core.specs.Bounded.{all_below, is_some_and}
 use Rattle.mk_core.specs.Moments.{outside}
 use Rattle.mk_core.specs.StopConditions.{is_attending, none_attends}
-use Rattle.mk_core.proofs.AllBelow.{all_below-at, all_below_more_is, all_below_zero_is}
+use Rattle.mk_core.proofs.AllBelow.{all_below-at}
 use Rattle.mk_core.proofs.BitsWithout.{has_bit_without}
 use Rattle.mk_core.proofs.WordBits.{no_bit, zero_from_bits}
 

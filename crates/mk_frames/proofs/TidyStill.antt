@@ -1,10 +1,8 @@
 -- A `give` that keeps a tidy list tidy does so behind what others did since: they leave the tallies and what these count.
-use Rattle.std.proofs.Common.{List, [], ap, inl, inr, refl, subst, sym, ℕ, ◌++◌, ◌∙◌, ◌∷◌, ◌≡◌, ◌⊎◌}
+use Rattle.std.proofs.Common.{List, [], ap, refl, subst, sym, ◌++◌, ◌∙◌, ◌∷◌, ◌≡◌}
 use Rattle.mk_core.specs.declared.config.Config.{Config}
 use Rattle.mk_core.specs.declared.events.Event.{Event}
-use Rattle.mk_core.specs.declared.events.Step.{Step}
 use Rattle.mk_core.specs.declared.events.Step.TheVariants as step
-use Rattle.mk_core.specs.Allocations.{PlacedAllocation}
 use Rattle.mk_core.specs.Counts.{IsTidy, TalliesAreTidy, in_a_word, releases}
 use Rattle.mk_core.specs.Frames.{CountsAreLeft, Steady, TurnIsLeft}
 use Rattle.mk_core.specs.History.{left}

@@ -1,6 +1,6 @@
 -- The words of released cells are in no mapped allocation: what is wiped stays so.
 use Rattle.std.proofs.Common.{Bool, List, ap, arith, false, inl, inr, refl, subst, sym, true, ℕ, ◌*◌, ◌+◌, ◌-◌, ◌/◌, ◌%◌, ◌<◌, ◌∙◌, ◌≡◌, ◌≢◌}
-use Rattle.std.specs.Prelude.{None, Option, Some, if◌then◌else◌, nat_le, nat_lt, not, slice_index, ◌&&◌, ◌||◌, ◌==◌}
+use Rattle.std.specs.Prelude.{None, Option, Some, if◌then◌else◌, nat_le, nat_lt, not, slice_index, ◌||◌, ◌==◌}
 use Rattle.std.proofs.lemmas.Nat.{div-mul-add}
 use Rattle.std.proofs.lemmas.Bool.{and_from, cases_Bool, cases_eq, or_left, or_right, true≢false}
 use Rattle.mk_never.specs.NeverHeap.{NeverState}
