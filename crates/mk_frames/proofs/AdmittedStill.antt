@@ -15,7 +15,8 @@ use Rattle.mk_never.specs.Typed.{IsSound, IsTyped}
 use Rattle.mk_core.specs.declared.events.Answer.{Answer}
 use Rattle.mk_core.specs.Decided.{asked, entry_of, flagged}
 
-module _ (globals : List ℕ) (n m : NeverState) (k : ℕ) (on : Continues n m) (own : KeepsRegisters k n m) (typed : IsTyped globals n) where
+module _ (globals : List ℕ) (n m : NeverState) (k : ℕ) (on : Continues n m) (own : KeepsRegisters k n m)
+    (typed : IsTyped globals n) where
   operands_on : (o : Op) → OperandsAreInRange n o → OperandsAreInRange m o
   operands_on (op.New d ty full) h = (h.0, subst (λ (types : List (List Kind)). ty < length types) (sym on.types) h.1)
   operands_on (op.Free p) h = h
@@ -37,13 +38,18 @@ module _ (globals : List ℕ) (n m : NeverState) (k : ℕ) (on : Continues n m) 
   meets_value (Num x) i P sound h = tt
   meets_value (Ptr a t o) i P sound h = (subst (λ count. o + i < count) (sym (on.size a sound.0)) h.0, subst P kind h.1)
     where
-      kind : slice_index_or (kinds_of n.types (allocation_at n a).ty) (o + i) Number ≡ slice_index_or (kinds_of m.types (allocation_at m a).ty) (o + i) Number
+      kind : slice_index_or (kinds_of n.types (allocation_at n a).ty) (o + i) Number
+          ≡ slice_index_or (kinds_of m.types (allocation_at m a).ty) (o + i) Number
       kind =
-          ap (λ (types : List (List Kind)). slice_index_or (kinds_of types (allocation_at n a).ty) (o + i) Number) (sym on.types)
+          ap (λ (types : List (List Kind)). slice_index_or (kinds_of types (allocation_at n a).ty)
+          (o + i) Number) (sym on.types)
           ∙ ap (λ ty. slice_index_or (kinds_of m.types ty) (o + i) Number) (sym (on.ty a sound.0))
 
-  pub meets_register : (q i : ℕ) (P : Kind → Type 0) → q < 8 → Meets n (register_at n k q) i P → Meets m (register_at m k q) i P
-  meets_register q i P lt h = subst (λ (v : Value). Meets m v i P) (sym (own q lt)) (meets_value (register_at n k q) i P (typed.registers (8 * k + q)) h)
+  pub meets_register : (q i : ℕ) (P : Kind → Type 0) → q < 8 → Meets n (register_at n k q) i P
+      → Meets m (register_at m k q) i P
+  meets_register q i P lt h =
+      subst (λ (v : Value). Meets m v i P) (sym (own q lt)) (meets_value (register_at n k q) i P
+      (typed.registers (8 * k + q)) h)
 
   access_on : (o : Op) → OperandsAreInRange n o → AccessIsAdmitted n k o → AccessIsAdmitted m k o
   access_on (op.GetNum q i) r h = meets_register q i IsNumber r h
@@ -64,12 +70,16 @@ module _ (globals : List ℕ) (n m : NeverState) (k : ℕ) (on : Continues n m) 
   store_on : (o : Op) → OperandsAreInRange n o → StoreIsAdmitted globals n k o → StoreIsAdmitted globals m k o
   store_on (op.Free p) r h = subst IsBase (sym (own p r)) h
   store_on (op.SetPtr q i p) r h =
-      subst (λ (v : Value). Meets m (register_at m k q) i (IsOfKind v)) (sym (own p r.1)) (meets_register q i (IsOfKind (register_at n k p)) r.0 h)
+      subst (λ (v : Value). Meets m (register_at m k q) i (IsOfKind v)) (sym (own p r.1))
+      (meets_register q i (IsOfKind (register_at n k p)) r.0 h)
   store_on (op.CasPtr q i p s) r h =
-      subst (λ (u : Value). Meets m (register_at m k q) i (λ kind. IsOfKind u kind × IsOfKind (register_at m k s) kind)) (sym (own p r.1))
-      (subst (λ (v : Value). Meets m (register_at m k q) i (λ kind. IsOfKind (register_at n k p) kind × IsOfKind v kind)) (sym (own s r.2))
+      subst (λ (u : Value). Meets m (register_at m k q) i (λ kind. IsOfKind u kind × IsOfKind (register_at m k s) kind))
+      (sym (own p r.1))
+      (subst (λ (v : Value). Meets m (register_at m k q) i (λ kind. IsOfKind (register_at n k p) kind
+      × IsOfKind v kind)) (sym (own s r.2))
       (meets_register q i (λ kind. IsOfKind (register_at n k p) kind × IsOfKind (register_at n k s) kind) r.0 h))
-  store_on (op.SetGlobal g p) r h = subst (λ (v : Value). IfSome (slice_get globals g) (λ ty. IsOfKind v (To ty 0))) (sym (own p r.1)) h
+  store_on (op.SetGlobal g p) r h =
+      subst (λ (v : Value). IfSome (slice_get globals g) (λ ty. IsOfKind v (To ty 0))) (sym (own p r.1)) h
   store_on (op.New d ty full) r h = tt
   store_on (op.GetNum q i) r h = tt
   store_on (op.SetNum q i x) r h = tt
@@ -90,6 +100,7 @@ module _ (globals : List ℕ) (n m : NeverState) (k : ℕ) (on : Continues n m) 
         store = store_on o h.in_range h.store;
       }
 
-  pub call_on : (o : Op) (a : Option Answer) → AreAdmitted globals n (asked (entry_of k o a)) → AreAdmitted globals m (asked (entry_of k o a))
+  pub call_on : (o : Op) (a : Option Answer) → AreAdmitted globals n (asked (entry_of k o a))
+      → AreAdmitted globals m (asked (entry_of k o a))
   call_on o (Some a) h = (admitted_on (flagged o a) h.0, tt)
   call_on o None h = tt

@@ -36,7 +36,8 @@ use Rattle.mk_frames.proofs.WipedStill.{wiped_still}
 
 -- Nobody but the host takes the turn for the host.
 
-taken_turn : (c : Config) (m : Moment) (seat : Seat) (o : Option Op) → Meets c m seat (step.Take o) → seat ≢ Host → m.words.turn ≢ 1 + c.callers
+taken_turn : (c : Config) (m : Moment) (seat : Seat) (o : Option Op) → Meets c m seat (step.Take o) → seat ≢ Host
+    → m.words.turn ≢ 1 + c.callers
     → (Behind c m seat (step.Take o)).words.turn ≢ 1 + c.callers
 taken_turn c m (Caller k) o h ne out = by (m.words.turn == 0)
   where
@@ -46,32 +47,39 @@ taken_turn c m (Caller k) o h ne out = by (m.words.turn == 0)
 taken_turn c m (Marker k) o h ne out = let kind = h.kind in cc
 taken_turn c m Host o h ne out = absurd (ne refl)
 
-turn_after : (c : Config) (m : Moment) (seat : Seat) (x : Step) → Meets c m seat x → seat ≢ Host → m.words.turn ≢ 1 + c.callers → (Behind c m seat x).words.turn ≢ 1 + c.callers
+turn_after : (c : Config) (m : Moment) (seat : Seat) (x : Step) → Meets c m seat x → seat ≢ Host
+    → m.words.turn ≢ 1 + c.callers → (Behind c m seat x).words.turn ≢ 1 + c.callers
 turn_after c m seat (step.Take o) h ne out = taken_turn c m seat o h ne out
 turn_after c m seat step.Give h ne out = λ e. absurd (omega arith)
 turn_after c m seat step.Reg h ne out =
-    λ e. out (sym (reg_keeps m.words (caller_number seat) (register_met (flight_of m seat) (flight_of m seat).stage) (reg_access (flight_of m seat) (flight_of m seat).stage)).turn ∙ e)
+    λ e. out (sym (reg_keeps m.words (caller_number seat) (register_met (flight_of m seat) (flight_of m seat).stage)
+    (reg_access (flight_of m seat) (flight_of m seat).stage)).turn ∙ e)
 turn_after c m seat (step.Tally n v) h ne out = λ e. out (sym (tally_keeps m.words n v).turn ∙ e)
 turn_after c m seat _ h ne out = out
 
-host_stays_out : (c : Config) (es more : List Event) → IsHistory c (es ++ more) → AreOfOthers (Host ∷ []) more → (left c es).now.words.turn ≢ 1 + c.callers
+host_stays_out : (c : Config) (es more : List Event) → IsHistory c (es ++ more) → AreOfOthers (Host ∷ []) more
+    → (left c es).now.words.turn ≢ 1 + c.callers
     → (left c (es ++ more)).now.words.turn ≢ 1 + c.callers
 host_stays_out c es more h others =
-    along_others c (Host ∷ []) (λ xs ys. (left c xs).now.words.turn ≢ 1 + c.callers → (left c ys).now.words.turn ≢ 1 + c.callers)
+    along_others c (Host ∷ []) (λ xs ys. (left c xs).now.words.turn ≢ 1 + c.callers
+    → (left c ys).now.words.turn ≢ 1 + c.callers)
     (λ xs out. out) (λ xs ys zs f g out. g (f out))
     (λ xs e whole other out.
     let last = comes_last c xs e whole in
-    subst (λ (v : World). v.now.words.turn ≢ 1 + c.callers) (sym last.leaves) (turn_after c (left c xs).now e.seat e.step last.meets (other_seat Host e.seat other) out))
+    subst (λ (v : World). v.now.words.turn ≢ 1 + c.callers) (sym last.leaves) (turn_after c (left c xs).now e.seat
+    e.step last.meets (other_seat Host e.seat other) out))
     es more h others
 
 -- the order of steps
-order_on : (c : Config) (m n : Moment) (s : Seat) (x : Step) → flight_of n s ≡ flight_of m s → (s ≡ Host → host_has_turn c n ≡ host_has_turn c m)
+order_on : (c : Config) (m n : Moment) (s : Seat) (x : Step) → flight_of n s ≡ flight_of m s
+    → (s ≡ Host → host_has_turn c n ≡ host_has_turn c m)
     → is_in_order c m s x ≡ true → is_in_order c n s x ≡ true
 order_on c m n (Caller k) x flight host h = ap (λ (f : Flight). comes_next f.stage f.op x) flight ∙ h
 order_on c m n (Marker k) x flight host h = refl
 order_on c m n Host x flight host h = ap (λ b. comes_next_to_host b x) (host refl) ∙ h
 
-module _ (c : Config) (es more : List Event) (e : Event) (h : IsHistory c (es ++ more)) (others : AreOfOthers (e.seat ∷ []) more) where
+module _ (c : Config) (es more : List Event) (e : Event) (h : IsHistory c (es ++ more))
+    (others : AreOfOthers (e.seat ∷ []) more) where
   abbrev w : World
   w = left c es
 
@@ -88,10 +96,12 @@ module _ (c : Config) (es more : List Event) (e : Event) (h : IsHistory c (es ++
   host_same is = elim (cases_Bool (host_has_turn c w.now)) [
     | inl on ↦
         let turn = subst (λ (s : Seat). IsLeft c s es (es ++ more)) is left_to in
-        eq-eqb v.now.words.turn (1 + c.callers) (turn.own.holding (eqb-true w.now.words.turn (1 + c.callers) on)).0 ∙ sym on
+        eq-eqb v.now.words.turn (1 + c.callers) (turn.own.holding (eqb-true w.now.words.turn (1 + c.callers) on)).0
+        ∙ sym on
     | inr off ↦
         ne_eqb v.now.words.turn (1 + c.callers)
-        (host_stays_out c es more h (subst (λ (s : Seat). AreOfOthers (s ∷ []) more) is others) (eqb-false w.now.words.turn (1 + c.callers) off)) ∙ sym off
+        (host_stays_out c es more h (subst (λ (s : Seat). AreOfOthers (s ∷ []) more) is others)
+        (eqb-false w.now.words.turn (1 + c.callers) off)) ∙ sym off
   ]
 
   -- what is asked of the turn's holder alone
@@ -111,17 +121,20 @@ module _ (c : Config) (es more : List Event) (e : Event) (h : IsHistory c (es ++
       let finds = holder_finds c e.seat es more h others holds in
       let pages = pages_same c w v turn in
       record {
-        gates = ap (λ (f : Flight). has_gates c v.now.words e.seat f e.step) left_to.own.flight ∙ gates_on c w v turn e.seat (flight_of w.now e.seat) e.step meets.gates;
+        gates = ap (λ (f : Flight). has_gates c v.now.words e.seat f e.step) left_to.own.flight
+            ∙ gates_on c w v turn e.seat (flight_of w.now e.seat) e.step meets.gates;
         phase = ap (λ n. has_phase n e.step) (phase_same c w v turn) ∙ meets.phase;
         holder = ap (λ (f : Flight). holder_may c v.now f e.step) left_to.own.flight
-            ∙ holder_on c w v turn finds.holding e.seat (flight_of w.now e.seat) e.step meets.gates meets.phase (λ all. left_to.stop (holds, all)) finds.gone
+            ∙ holder_on c w v turn finds.holding e.seat (flight_of w.now e.seat) e.step meets.gates meets.phase
+            (λ all. left_to.stop (holds, all)) finds.gone
             (λ p n four back. wiped_still c w v _ st.known st.all pages finds.outside p n four back) meets.holder;
       }
 
   pub enabled_still : IsEnabled c w.now e → IsEnabled c v.now e
   enabled_still on =
       let meets = enabled_meets c w.now e on in
-      let still = asks_still meets (asks c w.now e.seat e.step (actor_of c w.now e.seat e.step (stands c es before).known.now.orderly meets)) in
+      let still = asks_still meets (asks c w.now e.seat e.step (actor_of c w.now e.seat e.step
+      (stands c es before).known.now.orderly meets)) in
       meets_enabled c v.now e (record {
         seat = meets.seat;
         kind = meets.kind;

@@ -30,7 +30,8 @@ said_along c es (e ∷ more) h =
       subst (λ (w : World). OthersSayFrom c w more) last.leaves (said_along c (es ++ e ∷ []) more parts),
     )
 
-heap_is_left : (c : Config) (es more : List Event) (s : Seat) → IsHistory c (es ++ more) → AreOfOthers (s ∷ []) more → Holds c (left c es).now s
+heap_is_left : (c : Config) (es more : List Event) (s : Seat) → IsHistory c (es ++ more) → AreOfOthers (s ∷ []) more
+    → Holds c (left c es).now s
     → HeapIsLeft c (left c es) (left c (es ++ more))
 heap_is_left c es more s h others holds =
     record {
@@ -41,9 +42,11 @@ heap_is_left c es more s h others holds =
 pub admitted_others_leave : AdmittedOthersLeave
 admitted_others_leave c es more s h others =
     record {
-      registers = λ k r is lt. registers_are_left c es more k h (subst (λ (x : Seat). AreOfOthers (x ∷ []) more) is others) r lt;
+      registers = λ k r is lt. registers_are_left c es more k h
+          (subst (λ (x : Seat). AreOfOthers (x ∷ []) more) is others) r lt;
       in_call = λ k is call.
-          targets_are_left c es more k h (subst (λ (x : Seat). AreOfOthers (x ∷ []) more) is others) (subst (λ (x : Seat). IsInCall (left c es).now x) is call);
+          targets_are_left c es more k h (subst (λ (x : Seat). AreOfOthers (x ∷ []) more) is others)
+          (subst (λ (x : Seat). IsInCall (left c es).now x) is call);
       turn = heap_is_left c es more s h others;
       held = λ holds k r lt two. held_registers c s es more k h others holds two r lt;
       stop = never_stands_still c s es more h others;

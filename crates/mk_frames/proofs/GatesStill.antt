@@ -30,31 +30,43 @@ module _ (c : Config) (w v : World) (kept : TurnIsLeft w v) where
   held_on j h = eq-eqb _ 2 (kept.held_gates j (eqb-true (slice_index w.now.words.gates j) 2 h))
 
   free_on : (j : ℕ) → not (is_held w.now.words j) ≡ true → not (is_held v.now.words j) ≡ true
-  free_on j h = ap not (ne_eqb _ 2 (kept.other_gates j (eqb-false (slice_index w.now.words.gates j) 2 (not-true (is_held w.now.words j) h))))
+  free_on j h =
+      ap not (ne_eqb _ 2 (kept.other_gates j (eqb-false (slice_index w.now.words.gates j) 2
+      (not-true (is_held w.now.words j) h))))
 
-  pub others_on : (s : Seat) → others_are_held c.callers w.now.words s ≡ true → others_are_held c.callers v.now.words s ≡ true
+  pub others_on : (s : Seat) → others_are_held c.callers w.now.words s ≡ true
+      → others_are_held c.callers v.now.words s ≡ true
   others_on s h =
-      all_below_on c.callers (λ j. is_number_of s j || is_held w.now.words j) (λ j. is_number_of s j || is_held v.now.words j)
-      (λ j lt. or_on (is_number_of s j) (is_held w.now.words j) (is_number_of s j) (is_held v.now.words j) (λ e. e) (held_on j)) h
+      all_below_on c.callers (λ j. is_number_of s j || is_held w.now.words j)
+      (λ j. is_number_of s j || is_held v.now.words j)
+      (λ j lt. or_on (is_number_of s j) (is_held w.now.words j) (is_number_of s j)
+      (is_held v.now.words j) (λ e. e) (held_on j)) h
 
   none_on : none_is_held c.callers w.now.words ≡ true → none_is_held c.callers v.now.words ≡ true
-  none_on h = all_below_on c.callers (λ j. not (is_held w.now.words j)) (λ j. not (is_held v.now.words j)) (λ j lt. free_on j) h
+  none_on h = all_below_on c.callers (λ j. not (is_held w.now.words j))
+      (λ j. not (is_held v.now.words j)) (λ j lt. free_on j) h
 
-  run_cell_same : (f : Flight) → is_run_cell v.now.words (target c.pages v.now.words f) ≡ is_run_cell w.now.words (target c.pages w.now.words f)
-  run_cell_same f = ap (λ (ps : List Page). is_run_cell (record w.now.words { pages = ps }) (target c.pages (record w.now.words { pages = ps }) f)) pages_same
+  run_cell_same : (f : Flight) → is_run_cell v.now.words (target c.pages v.now.words f) ≡ is_run_cell w.now.words
+      (target c.pages w.now.words f)
+  run_cell_same f =
+      ap (λ (ps : List Page). is_run_cell (record w.now.words { pages = ps })
+      (target c.pages (record w.now.words { pages = ps }) f)) pages_same
 
   two_or : (s : Seat) → (not (is_phase w.now.words 2) || others_are_held c.callers w.now.words s) ≡ true
       → (not (is_phase v.now.words 2) || others_are_held c.callers v.now.words s) ≡ true
   two_or s h =
-      or_on (not (is_phase w.now.words 2)) (others_are_held c.callers w.now.words s) (not (is_phase v.now.words 2)) (others_are_held c.callers v.now.words s)
+      or_on (not (is_phase w.now.words 2)) (others_are_held c.callers w.now.words s) (not (is_phase v.now.words 2))
+      (others_are_held c.callers v.now.words s)
       (λ e. ap (λ n. not (n == 2)) phase_same ∙ e) (others_on s) h
 
-  pub gates_on : (s : Seat) (f : Flight) (x : Step) → has_gates c w.now.words s f x ≡ true → has_gates c v.now.words s f x ≡ true
+  pub gates_on : (s : Seat) (f : Flight) (x : Step) → has_gates c w.now.words s f x ≡ true
+      → has_gates c v.now.words s f x ≡ true
   gates_on s f step.Give h = none_on h
   gates_on s f (step.Look (word.Reg j r)) h =
       or_on (is_number_of s j) (is_held w.now.words j) (is_number_of s j) (is_held v.now.words j) (λ e. e) (held_on j) h
   gates_on s f (step.Head p n) h =
-      or_on (not (is_unmapped_header (header_of n))) (others_are_held c.callers w.now.words s) (not (is_unmapped_header (header_of n))) (others_are_held c.callers v.now.words s)
+      or_on (not (is_unmapped_header (header_of n))) (others_are_held c.callers w.now.words s)
+      (not (is_unmapped_header (header_of n))) (others_are_held c.callers v.now.words s)
       (λ e. e) (others_on s) h
   gates_on s f (step.Quar p n) h =
       or_on (not (is_run_cell w.now.words (target c.pages w.now.words f))) (others_are_held c.callers w.now.words s)

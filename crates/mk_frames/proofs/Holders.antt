@@ -20,9 +20,13 @@ use Rattle.mk_protocol.proofs.Standings.{in_turn_told, is_standing_under_turn}
 use Rattle.mk_protocol.proofs.Views.{HoldsTurn, view_of}
 
 -- who holds the turn by what the protocol reads holds it by its call
-pub holds_is : (c : Config) (m : Moment) (seat : Seat) → Orderly c (view_of m) → HoldsTurn c (view_of m) seat → Holds c m seat
-holds_is c m (Caller k) o t =
-    (t.0, sym (in_turn_told (flight_of m (Caller k)).stage (flight_of m (Caller k)).op (not_astray c m o k t.0)) ∙ ap is_standing_under_turn t.1)
+pub holds_is : (c : Config) (m : Moment) (seat : Seat) → Orderly c (view_of m) → HoldsTurn c (view_of m) seat
+    → Holds c m seat
+holds_is c m (Caller k) o t = (
+  t.0,
+  sym (in_turn_told (flight_of m (Caller k)).stage (flight_of m (Caller k)).op (not_astray c m o k t.0))
+      ∙ ap is_standing_under_turn t.1,
+)
 holds_is c m (Marker k) o t = t
 holds_is c m Host o t = t
 
@@ -38,7 +42,8 @@ markers_kind (step.Take o) g = cc
 markers_kind step.Over g = cc
 markers_kind x g = ap is_of_turn g
 
-pub acts_as_holder : (c : Config) (m : Moment) (seat : Seat) (x : Step) → Actor c m seat x → is_holders x ≡ true → HoldsTurn c (view_of m) seat
+pub acts_as_holder : (c : Config) (m : Moment) (seat : Seat) (x : Step) → Actor c m seat x → is_holders x ≡ true
+    → HoldsTurn c (view_of m) seat
 acts_as_holder c m seat x (InCallOf k _ lt g) is = absurd (true≢false (sym is ∙ calls_kind x g))
 acts_as_holder c m seat x (AsMarker k _ lt g) is = absurd (true≢false (sym is ∙ markers_kind x g))
 acts_as_holder c m seat x (CallTakes k o lt idle take) is = cc
@@ -51,7 +56,8 @@ pub record AsksNothing (c : Config) (m : Moment) (s : Seat) (f : Flight) (n : �
   pub phase : has_phase n x ≡ true
   pub holder : holder_may c m f x ≡ true
 
-call_asks_nothing : (c : Config) (m : Moment) (s : Seat) (f : Flight) (n : ℕ) (x : Step) → group_of x ≡ group.Callers → AsksNothing c m s f n x
+call_asks_nothing : (c : Config) (m : Moment) (s : Seat) (f : Flight) (n : ℕ) (x : Step) → group_of x ≡ group.Callers
+    → AsksNothing c m s f n x
 call_asks_nothing c m s f n (step.Enter o) g = record { gates = refl; phase = refl; holder = refl }
 call_asks_nothing c m s f n step.Leave g = record { gates = refl; phase = refl; holder = refl }
 call_asks_nothing c m s f n step.Reg g = record { gates = refl; phase = refl; holder = refl }
@@ -64,7 +70,8 @@ call_asks_nothing c m s f n step.Setg g = record { gates = refl; phase = refl; h
 call_asks_nothing c m s f n step.Dirty g = record { gates = refl; phase = refl; holder = refl }
 call_asks_nothing c m s f n _ g = cc
 
-marker_asks_nothing : (c : Config) (m : Moment) (s : Seat) (f : Flight) (n : ℕ) (x : Step) → group_of x ≡ group.Markers → AsksNothing c m s f n x
+marker_asks_nothing : (c : Config) (m : Moment) (s : Seat) (f : Flight) (n : ℕ) (x : Step) → group_of x ≡ group.Markers
+    → AsksNothing c m s f n x
 marker_asks_nothing c m s f n step.Attend g = record { gates = refl; phase = refl; holder = refl }
 marker_asks_nothing c m s f n step.Quit g = record { gates = refl; phase = refl; holder = refl }
 marker_asks_nothing c m s f n (step.Mlook w) g = record { gates = refl; phase = refl; holder = refl }

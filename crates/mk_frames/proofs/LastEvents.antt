@@ -34,13 +34,15 @@ pub comes_last : (c : Config) (es : List Event) (e : Event) → IsHistory c (es 
 unfolding left_from AreEnabledFrom calls_from
 comes_last c es e h =
     let xs : List Decided = call_decided c (left c es).now e ++ [] in
-    let one : asked xs ≡ asked (call_decided c (left c es).now e) = ap (λ (ys : List Decided). asked ys) (append-nil (call_decided c (left c es).now e)) in
+    let one : asked xs ≡ asked (call_decided c (left c es).now e) =
+    ap (λ (ys : List Decided). asked ys) (append-nil (call_decided c (left c es).now e)) in
     let on = ((enabled_in_parts c es (e ∷ [])).0 h.enabled).1.0 in
     record {
       before = earlier_part_is_history c es (e ∷ []) h;
       on = on;
       meets = enabled_meets c (left c es).now e on;
-      admitted = subst (λ (ys : List Call). AreAdmitted c.globals (never_behind c es) ys) one ((admitted_in_parts c es (e ∷ [])).0 h.admitted).1;
+      admitted = subst (λ (ys : List Call). AreAdmitted c.globals (never_behind c es) ys) one
+          ((admitted_in_parts c es (e ∷ [])).0 h.admitted).1;
       leaves = left_in_parts c es (e ∷ []);
       never = never_in_parts c es (e ∷ []) ∙ ap (λ (ys : List Call). after_calls (never_behind c es) ys) one;
     }
@@ -55,5 +57,6 @@ goes_on_by c es e h on admitted =
     record {
       within_limits = h.within_limits;
       enabled = (enabled_in_parts c es (e ∷ [])).1 (h.enabled, (on, tt));
-      admitted = (admitted_in_parts c es (e ∷ [])).1 (h.admitted, subst (λ (ys : List Call). AreAdmitted c.globals (never_behind c es) ys) (sym one) admitted);
+      admitted = (admitted_in_parts c es (e ∷ [])).1
+          (h.admitted, subst (λ (ys : List Call). AreAdmitted c.globals (never_behind c es) ys) (sym one) admitted);
     }

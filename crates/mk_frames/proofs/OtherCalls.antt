@@ -27,9 +27,11 @@ entry_not_by j k o (Some a) ne = (ne, tt)
 entry_not_by j k o None ne = tt
 
 -- one event of another seat
-pub call_not_by : (c : Config) (w : World) (seat : Seat) (x : Step) (k : ℕ) → seat ≢ Caller k → AreNotBy k (asked (call_decided c w.now (record { seat = seat; step = x })))
+pub call_not_by : (c : Config) (w : World) (seat : Seat) (x : Step) (k : ℕ) → seat ≢ Caller k
+    → AreNotBy k (asked (call_decided c w.now (record { seat = seat; step = x })))
 call_not_by c w (Caller j) x k ne =
-    entry_not_by j k (flight_of w.now (Caller j)).op (answer_decided c w.now (record { seat = Caller j; step = x })) (λ e. ne (ap (λ i. Caller i) e))
+    entry_not_by j k (flight_of w.now (Caller j)).op (answer_decided c w.now (record { seat = Caller j; step = x }))
+    (λ e. ne (ap (λ i. Caller i) e))
 call_not_by c w (Marker j) x k ne = tt
 call_not_by c w Host x k ne = tt
 
@@ -37,22 +39,29 @@ both_not_by : (k : ℕ) (xs ys : List Call) → AreNotBy k xs → AreNotBy k ys 
 both_not_by k [] ys a b = b
 both_not_by k (x ∷ xs) ys a b = (a.0, both_not_by k xs ys a.1 b)
 
-calls_not_by : (c : Config) (w : World) (es : List Event) (k : ℕ) → AreOfOthers (Caller k ∷ []) es → AreNotBy k (asked (calls_from c w es))
+calls_not_by : (c : Config) (w : World) (es : List Event) (k : ℕ) → AreOfOthers (Caller k ∷ []) es
+    → AreNotBy k (asked (calls_from c w es))
 unfolding calls_from AreOfOthers
 calls_not_by c w [] k others = tt
 calls_not_by c w (e ∷ es) k others =
-    subst (λ (xs : List Call). AreNotBy k xs) (sym (map-append (λ (x : Decided). record { caller = x.caller; op = x.op }) (call_decided c w.now e) (calls_from c (world_behind c w e) es)))
+    subst (λ (xs : List Call). AreNotBy k xs)
+    (sym (map-append (λ (x : Decided). record { caller = x.caller; op = x.op }) (call_decided c w.now e)
+    (calls_from c (world_behind c w e) es)))
     (both_not_by k (asked (call_decided c w.now e)) (asked (calls_from c (world_behind c w e) es))
-    (call_not_by c w e.seat e.step k (other_seat (Caller k) e.seat others.0)) (calls_not_by c (world_behind c w e) es k others.1))
+    (call_not_by c w e.seat e.step k (other_seat (Caller k) e.seat others.0))
+    (calls_not_by c (world_behind c w e) es k others.1))
 
 -- many
-pub registers_are_left : (c : Config) (es more : List Event) (k : ℕ) → IsHistory c (es ++ more) → AreOfOthers (Caller k ∷ []) more
+pub registers_are_left : (c : Config) (es more : List Event) (k : ℕ) → IsHistory c (es ++ more)
+    → AreOfOthers (Caller k ∷ []) more
     → KeepsRegisters k (never_behind c es) (never_behind c (es ++ more))
 registers_are_left c es more k h others =
     subst (λ (m : NeverState). KeepsRegisters k (never_behind c es) m) (sym (never_in_parts c es more))
-    (admitted_keep c.globals (never_behind c es) k (asked (calls_from c (left c es) more)) ((admitted_in_parts c es more).0 h.admitted).1 (calls_not_by c (left c es) more k others))
+    (admitted_keep c.globals (never_behind c es) k (asked (calls_from c (left c es) more))
+    ((admitted_in_parts c es more).0 h.admitted).1 (calls_not_by c (left c es) more k others))
 
 -- What was granted stays, whoever calls.
 pub never_continues : (c : Config) (es more : List Event) → Continues (never_behind c es) (never_behind c (es ++ more))
 never_continues c es more =
-    subst (λ (m : NeverState). Continues (never_behind c es) m) (sym (never_in_parts c es more)) (calls_stay (never_behind c es) (asked (calls_from c (left c es) more)))
+    subst (λ (m : NeverState). Continues (never_behind c es) m) (sym (never_in_parts c es more))
+    (calls_stay (never_behind c es) (asked (calls_from c (left c es) more)))
