@@ -1,0 +1,9 @@
+pub mod AllocationSteps
+pub mod Worlds
+pub mod Precise
+pub mod Granting
+pub mod MarkSteps
+pub mod HandSteps
+pub mod NoLeaves
+pub mod ScannedWords
+pub mod MarkerSteps
