@@ -7,3 +7,6 @@ pub mod HandSteps
 pub mod NoLeaves
 pub mod ScannedWords
 pub mod MarkerSteps
+pub mod PhaseSteps
+pub mod OneStep
+pub mod Marking
