@@ -10,3 +10,5 @@ pub mod MarkerSteps
 pub mod PhaseSteps
 pub mod OneStep
 pub mod Marking
+pub mod Stretches
+pub mod Stopped
