@@ -12,3 +12,6 @@ pub mod OneStep
 pub mod Marking
 pub mod Stretches
 pub mod Stopped
+pub mod OlderAllocations
+pub mod FreeStorage
+pub mod Freeing

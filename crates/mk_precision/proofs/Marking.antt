@@ -3,7 +3,7 @@ use Rattle.std.proofs.Common.{Bool, List, [], ap, append-nil, append_assoc, fals
 use Rattle.std.specs.Prelude.{◌||◌}
 use Rattle.std.proofs.lemmas.Bool.{eqb-true}
 use Rattle.std.specs.List.{list_any}
-use Rattle.mk_core.specs.Cycles.{Marking, NoneSweepsFrom, before_close, is_begin, is_close, sweeps, through}
+use Rattle.mk_core.specs.Cycles.{Marking, NoneSweepsFrom, before_close, is_begin, is_close, is_release, sweeps, through}
 use Rattle.mk_core.specs.History.{AreEnabledFrom, IsHistory, World, first_world, left, left_from, never_behind, world_behind}
 use Rattle.mk_core.specs.Moments.{flight_of}
 use Rattle.mk_core.specs.Touched.{IsTouched, LeadsToMoment, by_global, by_register, by_word}
@@ -93,17 +93,18 @@ moment_behind c es k front e h here there other unswept at =
           (precise_behind c w (never_behind c front) e.seat e.step (never_behind c (front ++ e ∷ [])) (IsTouched c k) s at.precise);
     }
 
--- what stands at the end of the marking, and that no `begin` came since
+-- what stands at the end of the marking, and that no `begin` and no `release` came since
 pub record Marked (c : Config) {es : List Event} (k : Marking es) (rest : List Event) : Type 0 where
   pub at : AtMoment c (IsTouched c k) (before_close k)
   pub begun : list_any (λ (e : Event). is_begin e.step) rest ≡ false
+  pub released : list_any (λ (e : Event). is_release e.step) rest ≡ false
 
 along : (c : Config) (es : List Event) (k : Marking es) (done rest : List Event) → k.close.at.before ≡ done ++ rest → IsHistory c (through k.begin ++ (done ++ rest))
     → list_any (λ (e : Event). is_close e.step) rest ≡ false → NoneSweepsFrom c (left c (through k.begin ++ done)) rest
     → AtMoment c (IsTouched c k) (through k.begin ++ done) → Marked c k rest
 unfolding NoneSweepsFrom
 along c es k done [] is h none unswept at =
-    record { at = subst (λ (xs : List Event). AtMoment c (IsTouched c k) (through k.begin ++ xs)) (sym (is ∙ append-nil done)) at; begun = refl }
+    record { at = subst (λ (xs : List Event). AtMoment c (IsTouched c k) (through k.begin ++ xs)) (sym (is ∙ append-nil done)) at; begun = refl; released = refl }
 along c es k done (e ∷ rest) is h none unswept at =
     let first : List Event = through k.begin in
     let front : List Event = first ++ done in
@@ -122,13 +123,14 @@ along c es k done (e ∷ rest) is h none unswept at =
     let left_is : world_behind c (left c front) e ≡ left c (first ++ (done ++ e ∷ [])) = sym m.left ∙ ap (λ (xs : List Event). left c xs) longer in
     let end = along c es k (done ++ e ∷ []) rest (is ∙ split) whole parts.1 (subst (λ (v : World). NoneSweepsFrom c v rest) left_is unswept.1)
         (subst (λ (xs : List Event). AtMoment c (IsTouched c k) xs) longer behind) in
+    let on = marking_goes_on c (left c front).now e.seat e.step at.early m.meets parts.0 in
     record {
       at = end.at;
-      begun = none_more (is_begin e.step) (list_any (λ (x : Event). is_begin x.step) rest)
-          (marking_goes_on c (left c front).now e.seat e.step at.early m.meets parts.0).begun end.begun;
+      begun = none_more (is_begin e.step) (list_any (λ (x : Event). is_begin x.step) rest) on.begun end.begun;
+      released = none_more (is_release e.step) (list_any (λ (x : Event). is_release x.step) rest) on.released end.released;
     }
 
-begin_is : (x : Step) → is_begin x ≡ true → x ≡ step.Begin
+pub begin_is : (x : Step) → is_begin x ≡ true → x ≡ step.Begin
 begin_is step.Begin h = refl
 begin_is _ h = cc
 

@@ -18,9 +18,14 @@ none_begins : (x : Step) → is_phase_step x ≡ false → is_begin x ≡ false
 none_begins step.Begin stays = cc
 none_begins _ stays = refl
 
+none_releases : (x : Step) → is_phase_step x ≡ false → is_release x ≡ false
+none_releases step.Release stays = cc
+none_releases _ stays = refl
+
 pub record GoesOnMarking (c : Config) (m : Moment) (seat : Seat) (x : Step) : Type 0 where
   pub early : IsMarking (Behind c m seat x).words
   pub begun : is_begin x ≡ false
+  pub released : is_release x ≡ false
 
 not_at : (n p : ℕ) → (n ≡ 1) ⊎ (n ≡ 2) → n ≡ p → (p ≡ 0) ⊎ (3 ≤ p) → ⊥
 not_at n p (inl e) at (inl z) = absurd (omega arith)
@@ -31,7 +36,7 @@ not_at n p (inr e) at (inr le) = absurd (omega arith)
 -- While it marks, what isn't a `close` leaves it marking.
 pub marking_goes_on : (c : Config) (m : Moment) (seat : Seat) (x : Step) → IsMarking m.words → Meets c m seat x → is_close x ≡ false → GoesOnMarking c m seat x
 marking_goes_on c m seat step.Begin early h other = absurd (not_at (phase_of m.words) 0 early (eqb-true (phase_of m.words) 0 h.phase) (inl refl))
-marking_goes_on c m seat step.Want early h other = let one = eqb-true (phase_of m.words) 1 h.phase in record { early = inr (omega arith); begun = refl }
+marking_goes_on c m seat step.Want early h other = let one = eqb-true (phase_of m.words) 1 h.phase in record { early = inr (omega arith); begun = refl; released = refl }
 marking_goes_on c m seat step.Close early h other = cc
 marking_goes_on c m seat step.Release early h other =
     absurd (not_at (phase_of m.words) 3 early (eqb-true (phase_of m.words) 3 h.phase) (inr (omega arith)))
@@ -42,7 +47,7 @@ marking_goes_on c m seat x early h other = rest x refl
     rest : (x : Step) → is_phase_step x ≡ false → GoesOnMarking c m seat x
     rest x stays =
         let same = phase_stays c m seat x stays in
-        record { early = elim early [ inl e ↦ inl (same ∙ e) | inr e ↦ inr (same ∙ e) ]; begun = none_begins x stays }
+        record { early = elim early [ inl e ↦ inl (same ∙ e) | inr e ↦ inr (same ∙ e) ]; begun = none_begins x stays; released = none_releases x stays }
 
 abbrev pub is_grant : Step → Bool
 is_grant step.Grant = true

@@ -55,7 +55,7 @@ close_is : (x : Step) → is_close x ≡ true → x ≡ step.Close
 close_is step.Close h = refl
 close_is _ h = cc
 
-release_is : (x : Step) → is_release x ≡ true → x ≡ step.Release
+pub release_is : (x : Step) → is_release x ≡ true → x ≡ step.Release
 release_is step.Release h = refl
 release_is _ h = cc
 
@@ -112,12 +112,13 @@ stop_begins c T front e h kind marked =
     }
 
 -- what stands before the `release`
-record AtRelease (c : Config) {es : List Event} (k : Releasing es) : Type 0 where
-  phase : phase_of (left c (before_release k)).now.words ≡ 3
-  marked : IsMarkedOnly c (left c (before_release k)) (IsTouched c k.marking)
-  begun : None_of is_begin (k.marking.close.at.before ++ k.marking.close.at.event ∷ k.release.at.before)
+pub record AtRelease (c : Config) {es : List Event} (k : Releasing es) : Type 0 where
+  pub phase : phase_of (left c (before_release k)).now.words ≡ 3
+  pub marked : IsMarkedOnly c (left c (before_release k)) (IsTouched c k.marking)
+  pub begun : None_of is_begin (k.marking.close.at.before ++ k.marking.close.at.event ∷ k.release.at.before)
+  pub released : None_of is_release (k.marking.close.at.before ++ k.marking.close.at.event ∷ k.release.at.before)
 
-at_the_release : (c : Config) (es : List Event) (k : Releasing es) → IsHistory c es → NoneSweeps c k.marking → AtRelease c k
+pub at_the_release : (c : Config) (es : List Event) (k : Releasing es) → IsHistory c es → NoneSweeps c k.marking → AtRelease c k
 at_the_release c es k h unswept =
     let e : Event = k.marking.close.at.event in
     let front : List Event = before_close k.marking in
@@ -138,10 +139,13 @@ at_the_release c es k h unswept =
       marked = subst (λ (xs : List Event). IsMarkedOnly c (left c xs) T) same at.marked;
       begun = none_joined is_begin k.marking.close.at.before (e ∷ more) marked.begun
           (none_more (is_begin e.step) (list_any (λ (x : Event). is_begin x.step) more) (ap is_begin (close_is e.step k.marking.close.at.of_kind)) at.begun);
+      released = none_joined is_release k.marking.close.at.before (e ∷ more) marked.released
+          (none_more (is_release e.step) (list_any (λ (x : Event). is_release x.step) more)
+          (ap is_release (close_is e.step k.marking.close.at.of_kind)) k.release.none_before);
     }
 
 -- the last `begin` before the `release` is the cycle's
-abbrev last_begin : {es : List Event} (k : Releasing es) → At is_begin (before_release k)
+abbrev pub last_begin : {es : List Event} (k : Releasing es) → At is_begin (before_release k)
 last_begin {es} k =
     let b : At is_begin es = k.marking.begin in
     let close : List Event = k.marking.close.at.before in
