@@ -15,6 +15,7 @@ use Rattle.mk_core.specs.declared.events.Step.TheVariants as step
 use Rattle.mk_core.specs.declared.seats.Flight.{Flight}
 use Rattle.mk_geom.specs.Addresses.{address_of}
 use Rattle.mk_core.proofs.ChangedAllocations.{LeavesPlaces, changed_at, earlier_at, freed_leaves, freed_released, fresh_leaves, granted_at, released_leaves}
+use Rattle.mk_precision.proofs.StepKinds.{neither}
 
 -- An unreleased allocation is one of the list.
 pub is_there : (xs : List PlacedAllocation) (i : ℕ) → (placed_at xs i).released ≡ false → i < length xs
@@ -36,10 +37,6 @@ pub data AllocationStep (xs : List PlacedAllocation) (x : Step) : List PlacedAll
   Changes : (g : PlacedAllocation → PlacedAllocation) → ChangesOne x g → AllocationStep xs x (map g xs)
   Grants : (a : PlacedAllocation) → x ≡ step.Grant → AllocationStep xs x (xs ++ a ∷ [])
 
-either_false : (a b : Bool) → (a || b) ≡ false → a ≡ false
-either_false false b h = refl
-either_false true b h = cc
-
 pub allocation_step : (c : Config) (m : Moment) (f : Flight) (x : Step) (xs : List PlacedAllocation) → AllocationStep xs x (allocations_by c m f x xs)
 allocation_step c m f step.Grant xs = Grants (granted c m f) refl
 allocation_step c m f (step.Quar p v) xs =
@@ -53,7 +50,7 @@ allocation_step c m f step.Begin xs =
 allocation_step c m f step.Release xs =
     Changes (with_released c m.words) (record {
       places = released_leaves c m.words;
-      was = λ a u. either_false a.released (is_some_and (is_left_unmarked m.words) (pointed_cell c.pages m.words.pages (address_of a.base))) u;
+      was = λ a u. (neither a.released (is_some_and (is_left_unmarked m.words) (pointed_cell c.pages m.words.pages (address_of a.base))) u).0;
       stays = λ other a u. absurd (true≢false other);
     })
 allocation_step c m f _ xs = Leaves

@@ -25,11 +25,12 @@ use Rattle.mk_invariant.proofs.Theorems.{allocations_are_disjoint}
 use Rattle.mk_precision.specs.Precision.{CountsAsFree, FreesTheUntouched, through_end, through_release}
 use Rattle.mk_precision.proofs.AllocationSteps.{is_there}
 use Rattle.mk_precision.proofs.FreeStorage.{counts_as_free}
-use Rattle.mk_precision.proofs.Marking.{begin_is, none_more, one_more, told}
+use Rattle.mk_precision.proofs.Marking.{one_more, told}
+use Rattle.mk_precision.proofs.StepKinds.{begin_is, both_fail, end_is, is_grant, release_is}
 use Rattle.mk_precision.proofs.OlderAllocations.{AreOlder, IsKept, kept_along, older_behind, older_joined, older_same}
-use Rattle.mk_precision.proofs.PhaseSteps.{is_grant, releasing_waits}
+use Rattle.mk_precision.proofs.PhaseSteps.{releasing_waits}
 use Rattle.mk_precision.proofs.Precise.{same_word, same_words}
-use Rattle.mk_precision.proofs.Stopped.{AtRelease, at_the_release, last_begin, release_is, releases_the_untouched}
+use Rattle.mk_precision.proofs.Stopped.{AtRelease, at_the_release, last_begin, releases_the_untouched}
 use Rattle.mk_precision.proofs.Stretches.{along_without, at_end, at_release, history_through}
 use Rattle.mk_precision.proofs.Worlds.{stands}
 
@@ -50,10 +51,6 @@ releasing_goes_on c start more e h other at =
       older = subst (λ (v : World). AreOlder (left c start).allocations v.allocations) left_is
           (older_joined (left c start).allocations w.allocations (WorldBehind c w e.seat e.step).allocations at.older (older_behind c w e.seat e.step waits.granted));
     }
-
-end_grants_none : (x : Step) → is_end x ≡ true → is_grant x ≡ false
-end_grants_none step.End h = refl
-end_grants_none _ h = cc
 
 -- what the `release`, and what comes up to the `end`, leave of the allocations before
 record Released (c : Config) {es : List Event} (k : Cycle es) : Type 0 where
@@ -91,7 +88,7 @@ released c es k h at =
       end = older_joined (left c start).allocations v.allocations (left c (through_end k)).allocations
           (subst (λ (xs : List Event). AreOlder (left c start).allocations (left c xs).allocations) same along.older)
           (subst (λ (y : World). AreOlder v.allocations y.allocations) (sym last.left)
-          (older_behind c v k.end.at.event.seat k.end.at.event.step (end_grants_none k.end.at.event.step k.end.at.of_kind)));
+          (older_behind c v k.end.at.event.seat k.end.at.event.step (ap is_grant (end_is k.end.at.event.step k.end.at.of_kind))));
     }
 
 -- What is in the snapshot is unreleased up to the `release`.
@@ -104,7 +101,7 @@ kept_to_release c es k i h at u =
     let whole = earlier_part_is_history c (before_release k) (e ∷ []) releasing in
     subst (λ (xs : List Event). IsKept (left c xs) i) (sym b.is)
     (kept_along c b.before (b.event ∷ b.behind) i (subst (λ (xs : List Event). IsHistory c xs) b.is whole)
-    (none_more (is_release b.event.step) (list_any (λ (x : Event). is_release x.step) b.behind) (ap is_release (begin_is b.event.step b.of_kind)) at.released)
+    (both_fail (is_release b.event.step) (list_any (λ (x : Event). is_release x.step) b.behind) (ap is_release (begin_is b.event.step b.of_kind)) at.released)
     (record { there = is_there (left c b.before).allocations i u; unreleased = u }))
 
 pub frees_the_untouched : OfHistories FreesTheUntouched

@@ -1,3 +1,4 @@
+pub mod StepKinds
 pub mod AllocationSteps
 pub mod Worlds
 pub mod Precise

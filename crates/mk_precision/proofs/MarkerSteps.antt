@@ -29,20 +29,24 @@ use Rattle.mk_core.specs.declared.seats.Marker.{Marker as MarkerState}
 use Rattle.mk_core.specs.declared.seats.Presence.{Presence}
 use Rattle.mk_core.specs.declared.seats.Scan.{Scan}
 use Rattle.mk_core.specs.declared.seats.SeenHeader.{SeenHeader}
+use Rattle.mk_protocol.specs.Protocol.{IsIdle}
 use Rattle.mk_protocol.proofs.Markers.{marker_set}
 use Rattle.mk_protocol.proofs.OthersMoves.{WorldBehind}
 use Rattle.mk_guard.specs.Guard.{EndsItsCell, GoesOn, MarkerStands, ScanStands, cell_scanned}
 use Rattle.mk_precision.proofs.Granting.{points_behind}
 use Rattle.mk_precision.proofs.NoLeaves.{no_leaf_behind, scanned_has_none}
-use Rattle.mk_precision.proofs.Precise.{HasNoLeaf, IsPrecise, MarkerIsPrecise, PointsOnlyInto, Steps, scene_of}
+use Rattle.mk_precision.proofs.Precise.{HasNoLeaf, IsPrecise, MarkerIsPrecise, PointsOnlyInto, Scene, Steps, scene_of}
 use Rattle.mk_precision.proofs.ScannedWords.{scanned_cell}
 use Rattle.mk_precision.proofs.Worlds.{IsHeld, Told, held}
 
--- A marker that is in the middle of nothing
-pub idle_is_precise : (c : Config) (w : World) (T : ℕ → Type 0) (presence : Presence)
-    → MarkerIsPrecise c (scene_of w) T (record { presence = presence; scan = None; hand = None; seen = None })
-idle_is_precise c w T presence =
-    record { hand = λ v is. absurd (none-some _ is); scan = λ s is. absurd (none-some _ is); seen = λ s is. absurd (none-some _ is) }
+-- A marker that is in the middle of nothing holds and has seen nothing.
+pub idle_is_precise : (c : Config) (s : Scene) (T : ℕ → Type 0) (x : MarkerState) → IsIdle x → MarkerIsPrecise c s T x
+idle_is_precise c s T x idle =
+    record {
+      hand = λ v is. absurd (none-some _ (sym idle.hand ∙ is));
+      scan = λ z is. absurd (none-some _ (sym idle.scan ∙ is));
+      seen = λ z is. absurd (none-some _ (sym idle.seen ∙ is));
+    }
 
 -- what goes on behind a step of another, or of its own
 pub marker_kept : (c : Config) (w : World) (n : NeverState) (seat : Seat) (x : Step) (after : NeverState) (T : ℕ → Type 0) (y : MarkerState) → Steps c w n seat x after T
@@ -187,8 +191,10 @@ load_precise c w n seat x after T y s precise stand more m =
 own_marker : (c : Config) (w : World) (n : NeverState) (k : ℕ) (x : Step) (after : NeverState) (T : ℕ → Type 0) → Steps c w n (Marker k) x after T → IsPrecise c w T
     → MarkerStands c w.now (marker_of w.now k)
     → MarkerIsPrecise c (scene_of (WorldBehind c w (Marker k) x)) T (marker_behind c (found c w.now (record { seat = Marker k; step = x })) x (marker_of w.now k))
-own_marker c w n k step.Attend after T s precise stand = idle_is_precise c (WorldBehind c w (Marker k) step.Attend) T _
-own_marker c w n k step.Quit after T s precise stand = idle_is_precise c (WorldBehind c w (Marker k) step.Quit) T _
+own_marker c w n k step.Attend after T s precise stand =
+    idle_is_precise c (scene_of (WorldBehind c w (Marker k) step.Attend)) T _ (record { scan = refl; hand = refl; seen = refl })
+own_marker c w n k step.Quit after T s precise stand =
+    idle_is_precise c (scene_of (WorldBehind c w (Marker k) step.Quit)) T _ (record { scan = refl; hand = refl; seen = refl })
 own_marker c w n k (step.Mlook x) after T s precise stand =
     looks c w n T (marker_of w.now k) x (found c w.now (record { seat = Marker k; step = step.Mlook x })) s.before
     (λ p e. ap (λ (y : Word). found c w.now (record { seat = Marker k; step = step.Mlook y })) e) (precise.markers k)

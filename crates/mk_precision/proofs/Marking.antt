@@ -20,6 +20,7 @@ use Rattle.mk_protocol.proofs.OthersMoves.{WorldBehind}
 use Rattle.mk_guard.specs.Guard.{IsMarking}
 use Rattle.mk_images.proofs.KnownWorlds.{known_world}
 use Rattle.mk_invariant.proofs.Histories.{histories_keep_the_invariant}
+use Rattle.mk_precision.proofs.StepKinds.{begin_is, both_fail, neither}
 use Rattle.mk_precision.proofs.OneStep.{precise_begun, precise_behind}
 use Rattle.mk_precision.proofs.PhaseSteps.{marking_goes_on}
 use Rattle.mk_precision.proofs.Precise.{IsClosedIn, IsPrecise, Steps}
@@ -43,14 +44,6 @@ one_more c front e h =
       meets = enabled_meets c (left c front).now e ((enabled_in_parts c front (e ∷ [])).0 h.enabled).1.0;
       left = left_more c (first_world c) front e;
     }
-
-pub or_parts : (a b : Bool) → (a || b) ≡ false → (a ≡ false) × (b ≡ false)
-or_parts false b h = (refl, h)
-or_parts true b h = cc
-
-pub none_more : (a b : Bool) → a ≡ false → b ≡ false → (a || b) ≡ false
-none_more false b e f = f
-none_more true b e f = cc
 
 -- what stands at a moment of the marking
 pub record AtMoment (c : Config) (T : ℕ → Type 0) (front : List Event) : Type 0 where
@@ -117,7 +110,7 @@ along c es k done (e ∷ rest) is h none unswept at =
     (subst (λ (xs : List Event). IsHistory c xs) (sym (append_assoc first (done ++ e ∷ []) rest)) whole)) in
     let here : LeadsToMoment k front = record { done = done; to_come = e ∷ rest; of_the_cycle = is; is = refl } in
     let there : LeadsToMoment k (front ++ e ∷ []) = record { done = done ++ e ∷ []; to_come = rest; of_the_cycle = is ∙ split; is = longer } in
-    let parts = or_parts (is_close e.step) (list_any (λ (x : Event). is_close x.step) rest) none in
+    let parts = neither (is_close e.step) (list_any (λ (x : Event). is_close x.step) rest) none in
     let m = one_more c front e next in
     let behind = moment_behind c es k front e next here there parts.0 unswept.0 at in
     let left_is : world_behind c (left c front) e ≡ left c (first ++ (done ++ e ∷ [])) = sym m.left ∙ ap (λ (xs : List Event). left c xs) longer in
@@ -126,13 +119,9 @@ along c es k done (e ∷ rest) is h none unswept at =
     let on = marking_goes_on c (left c front).now e.seat e.step at.early m.meets parts.0 in
     record {
       at = end.at;
-      begun = none_more (is_begin e.step) (list_any (λ (x : Event). is_begin x.step) rest) on.begun end.begun;
-      released = none_more (is_release e.step) (list_any (λ (x : Event). is_release x.step) rest) on.released end.released;
+      begun = both_fail (is_begin e.step) (list_any (λ (x : Event). is_begin x.step) rest) on.begun end.begun;
+      released = both_fail (is_release e.step) (list_any (λ (x : Event). is_release x.step) rest) on.released end.released;
     }
-
-pub begin_is : (x : Step) → is_begin x ≡ true → x ≡ step.Begin
-begin_is step.Begin h = refl
-begin_is _ h = cc
 
 -- behind the `begin`
 at_begin : (c : Config) (es : List Event) (k : Marking es) → IsHistory c (through k.begin) → AtMoment c (IsTouched c k) (through k.begin)

@@ -31,19 +31,16 @@ use Rattle.mk_protocol.proofs.OthersMoves.{WorldBehind}
 use Rattle.mk_guard.specs.Guard.{IsMarking}
 use Rattle.mk_guard.proofs.Changes.{headers_kind, is_head}
 use Rattle.mk_invariant.proofs.Joined.{told_to_guard}
+use Rattle.mk_precision.proofs.StepKinds.{neither}
 use Rattle.mk_precision.proofs.AllocationSteps.{Came, IsNew, Stayed}
 use Rattle.mk_precision.proofs.Precise.{HasNoLeaf, Steps, came_behind, same_leaf, scene_of}
 use Rattle.mk_precision.proofs.Worlds.{Told, headers, not_leaf, sized, stands}
-
-or_none : (a b : Bool) → (a || b) ≡ false → a ≡ false
-or_none false b h = refl
-or_none true b h = cc
 
 -- What a header that is scanned shows.
 pub scanned_has_none : (c : Config) (w : World) (n : NeverState) (p : ℕ) → Told c w n → has_no_pointers (header_in w.now.words p) ≡ false → HasNoLeaf c (scene_of w) p
 scanned_has_none c w n p t scanned =
     record {
-      header = or_none (is_leaf_header (header_in w.now.words p)) (is_unmapped_header (header_in w.now.words p)) scanned;
+      header = (neither (is_leaf_header (header_in w.now.words p)) (is_unmapped_header (header_in w.now.words p)) scanned).0;
       allocations = λ a u at. not_leaf c w n t a u (ap (λ q. has_no_pointers (header_in w.now.words q)) at ∙ scanned);
     }
 
@@ -61,8 +58,7 @@ mapped_not_leaf c w n i t u mapped shown =
     let x : Option Header = header_in w.now.words (a.base / 64) in
     let on : is_unmapped_header x ≡ false = ap (λ h. is_unmapped_header (header_of h)) made ∙ made_is_mapped o 0 size some in
     let part = first_page_shows c w.now.words a size (headers c w n t i u) in
-    or_none o.leaf (is_unmapped_header x)
-    (sym (part_has_no_pointers o x part) ∙ ap (λ b. b || is_unmapped_header x) shown ∙ on)
+    (neither o.leaf (is_unmapped_header x) (sym (part_has_no_pointers o x part) ∙ ap (λ b. b || is_unmapped_header x) shown ∙ on)).0
 
 -- Pages that show cells keep it that no leaf is there.
 

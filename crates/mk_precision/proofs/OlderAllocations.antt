@@ -13,7 +13,7 @@ use Rattle.mk_core.specs.declared.events.Step.TheVariants as step
 use Rattle.mk_protocol.proofs.OthersMoves.{WorldBehind}
 use Rattle.mk_precision.proofs.AllocationSteps.{AreOfOne, Came, GoesOn, IsNew, Stayed, allocation_step, came, goes_on, of_one_joined}
 use Rattle.mk_precision.proofs.Marking.{one_more}
-use Rattle.mk_precision.proofs.PhaseSteps.{is_grant}
+use Rattle.mk_precision.proofs.StepKinds.{is_grant}
 use Rattle.mk_precision.proofs.Precise.{came_behind}
 use Rattle.mk_precision.proofs.Stretches.{None_of, along_without}
 

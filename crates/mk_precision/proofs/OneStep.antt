@@ -29,18 +29,10 @@ use Rattle.mk_guard.specs.Guard.{MarkerStands}
 use Rattle.mk_images.proofs.KnownWorlds.{KnownWorld}
 use Rattle.mk_precision.proofs.HandSteps.{hand_behind}
 use Rattle.mk_precision.proofs.MarkSteps.{marked_behind}
-use Rattle.mk_precision.proofs.MarkerSteps.{markers_behind}
+use Rattle.mk_precision.proofs.MarkerSteps.{idle_is_precise, markers_behind}
 use Rattle.mk_precision.proofs.Precise.{IsPrecise, MarkerIsPrecise, Scene, Steps, scene_of}
 
--- A marker that is in the middle of nothing holds and has seen nothing.
-
-idle_precise : (c : Config) (s : Scene) (T : ℕ → Type 0) (x : MarkerState) → IsIdle x → MarkerIsPrecise c s T x
-idle_precise c s T x idle =
-    record {
-      hand = λ v is. absurd (none-some _ (sym idle.hand ∙ is));
-      scan = λ z is. absurd (none-some _ (sym idle.scan ∙ is));
-      seen = λ z is. absurd (none-some _ (sym idle.seen ∙ is));
-    }
+-- What markers are in the middle of stands, whether they attend or not.
 
 idle_stands : (c : Config) (m : Moment) (x : MarkerState) → IsIdle x → MarkerStands c m x
 idle_stands c m x idle =
@@ -90,7 +82,7 @@ precise_begun c w seat T known h =
 
     quiet : (j : ℕ) (s : Scene) → MarkerIsPrecise c s T (marker_of w.now j)
     quiet j s = elim (cases_Bool (is_attending (marker_of w.now j).presence)) [
-      | inr out ↦ idle_precise c s T (marker_of w.now j) (known.now.orderly.idle j out)
+      | inr out ↦ idle_is_precise c s T (marker_of w.now j) (known.now.orderly.idle j out)
       | inl at ↦
           let z = eqb-true (phase_of w.now.words) 0 h.phase in
           elim (known.now.orderly.attends j at) [ inl e ↦ absurd (omega arith) | inr e ↦ absurd (omega arith) ]

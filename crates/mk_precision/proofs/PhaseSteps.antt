@@ -1,7 +1,7 @@
 -- The phase along a cycle: it marks up to the `close`, and stays where it is up to the `release` and the `end`.
 use Rattle.std.proofs.Common.{Bool, arith, false, inl, inr, refl, sym, true, ℕ, ◌+◌, ◌%◌, ◌∙◌, ◌≡◌, ◌≤◌, ◌⊎◌}
 use Rattle.std.specs.Prelude.{◌==◌, ◌||◌}
-use Rattle.std.proofs.lemmas.Bool.{eqb-true}
+use Rattle.std.proofs.lemmas.Bool.{eqb-true, true≢false}
 use Rattle.mk_core.specs.Cycles.{is_begin, is_close, is_end, is_release}
 use Rattle.mk_core.specs.Moments.{Moment}
 use Rattle.mk_core.specs.Words.{phase_of}
@@ -12,6 +12,7 @@ use Rattle.mk_core.specs.declared.events.Step.TheVariants as step
 use Rattle.mk_protocol.proofs.Actors.{Meets}
 use Rattle.mk_protocol.proofs.SameWords.{Behind}
 use Rattle.mk_guard.specs.Guard.{IsMarking}
+use Rattle.mk_precision.proofs.StepKinds.{is_grant}
 use Rattle.mk_guard.proofs.Phases.{either_phase, is_phase_step, over_phase, phase_stays}
 
 none_begins : (x : Step) → is_phase_step x ≡ false → is_begin x ≡ false
@@ -49,45 +50,31 @@ marking_goes_on c m seat x early h other = rest x refl
         let same = phase_stays c m seat x stays in
         record { early = elim early [ inl e ↦ inl (same ∙ e) | inr e ↦ inr (same ∙ e) ]; begun = none_begins x stays; released = none_releases x stays }
 
-abbrev pub is_grant : Step → Bool
-is_grant step.Grant = true
-is_grant _ = false
-
+-- Behind the `close` neither a `begin` nor a grant comes, and the phase waits for the `release`, and then for the `end`.
 pub record Waits (c : Config) (m : Moment) (seat : Seat) (x : Step) (p : ℕ) : Type 0 where
   pub phase : phase_of (Behind c m seat x).words ≡ p
   pub begun : is_begin x ≡ false
   pub granted : is_grant x ≡ false
 
--- Neither a `begin` nor a grant comes at phases 3 and 4.
-waits : (c : Config) (m : Moment) (seat : Seat) (x : Step) (p : ℕ) → 3 ≤ p → phase_of m.words ≡ p → Meets c m seat x → is_phase_step x ≡ false → Waits c m seat x p
-waits c m seat step.Begin p late at h stays = cc
-waits c m seat step.Grant p late at h stays =
+waits : (c : Config) (m : Moment) (seat : Seat) (x : Step) (p : ℕ) → 3 ≤ p → phase_of m.words ≡ p → Meets c m seat x
+    → (p ≡ 3 → is_release x ≡ false) → (p ≡ 4 → is_end x ≡ false) → Waits c m seat x p
+waits c m seat step.Begin p late at h out past = let z = eqb-true (phase_of m.words) 0 h.phase in absurd (omega arith)
+waits c m seat step.Want p late at h out past = let z = eqb-true (phase_of m.words) 1 h.phase in absurd (omega arith)
+waits c m seat step.Close p late at h out past = let z = eqb-true (phase_of m.words) 2 h.phase in absurd (omega arith)
+waits c m seat step.Release p late at h out past = absurd (true≢false (out (sym at ∙ eqb-true (phase_of m.words) 3 h.phase)))
+waits c m seat step.End p late at h out past = absurd (true≢false (past (sym at ∙ eqb-true (phase_of m.words) 4 h.phase)))
+waits c m seat step.Over p late at h out past = let z = over_phase c m seat h in absurd (omega arith)
+waits c m seat step.Grant p late at h out past =
     elim (either_phase (phase_of m.words) 0 1 h.phase) [ inl e ↦ absurd (omega arith) | inr e ↦ absurd (omega arith) ]
-waits c m seat x p late at h stays = rest x refl h stays
+waits c m seat x p late at h out past = rest x refl refl
   where
-    rest : (x : Step) → is_grant x ≡ false → Meets c m seat x → is_phase_step x ≡ false → Waits c m seat x p
-    rest x other h stays = record { phase = phase_stays c m seat x stays ∙ at; begun = none_begins x stays; granted = other }
+    rest : (x : Step) → is_phase_step x ≡ false → is_grant x ≡ false → Waits c m seat x p
+    rest x stays other = record { phase = phase_stays c m seat x stays ∙ at; begun = none_begins x stays; granted = other }
 
-pub stopped_waits : (c : Config) (m : Moment) (seat : Seat) (x : Step) → phase_of m.words ≡ 3 → Meets c m seat x → is_release x ≡ false → Waits c m seat x 3
-stopped_waits c m seat step.Begin at h other = let z = eqb-true (phase_of m.words) 0 h.phase in absurd (omega arith)
-stopped_waits c m seat step.Want at h other = let z = eqb-true (phase_of m.words) 1 h.phase in absurd (omega arith)
-stopped_waits c m seat step.Close at h other = let z = eqb-true (phase_of m.words) 2 h.phase in absurd (omega arith)
-stopped_waits c m seat step.Release at h other = cc
-stopped_waits c m seat step.End at h other = let z = eqb-true (phase_of m.words) 4 h.phase in absurd (omega arith)
-stopped_waits c m seat step.Over at h other = let z = over_phase c m seat h in absurd (omega arith)
-stopped_waits c m seat x at h other = rest x refl h
-  where
-    rest : (x : Step) → is_phase_step x ≡ false → Meets c m seat x → Waits c m seat x 3
-    rest x stays h = waits c m seat x 3 (omega arith) at h stays
+pub stopped_waits : (c : Config) (m : Moment) (seat : Seat) (x : Step) → phase_of m.words ≡ 3 → Meets c m seat x → is_release x ≡ false
+    → Waits c m seat x 3
+stopped_waits c m seat x at h other = waits c m seat x 3 (omega arith) at h (λ e. other) (λ e. absurd (omega arith))
 
-pub releasing_waits : (c : Config) (m : Moment) (seat : Seat) (x : Step) → phase_of m.words ≡ 4 → Meets c m seat x → is_end x ≡ false → Waits c m seat x 4
-releasing_waits c m seat step.Begin at h other = let z = eqb-true (phase_of m.words) 0 h.phase in absurd (omega arith)
-releasing_waits c m seat step.Want at h other = let z = eqb-true (phase_of m.words) 1 h.phase in absurd (omega arith)
-releasing_waits c m seat step.Close at h other = let z = eqb-true (phase_of m.words) 2 h.phase in absurd (omega arith)
-releasing_waits c m seat step.Release at h other = let z = eqb-true (phase_of m.words) 3 h.phase in absurd (omega arith)
-releasing_waits c m seat step.End at h other = cc
-releasing_waits c m seat step.Over at h other = let z = over_phase c m seat h in absurd (omega arith)
-releasing_waits c m seat x at h other = rest x refl h
-  where
-    rest : (x : Step) → is_phase_step x ≡ false → Meets c m seat x → Waits c m seat x 4
-    rest x stays h = waits c m seat x 4 (omega arith) at h stays
+pub releasing_waits : (c : Config) (m : Moment) (seat : Seat) (x : Step) → phase_of m.words ≡ 4 → Meets c m seat x → is_end x ≡ false
+    → Waits c m seat x 4
+releasing_waits c m seat x at h other = waits c m seat x 4 (omega arith) at h (λ e. absurd (omega arith)) (λ e. other)

@@ -54,6 +54,17 @@ scanned_head c w n p k x t known from to some = by (header_in w.now.words p) ref
           | inr free ↦ absurd (some (ap (λ q. header_at w.now.words q) at ∙ free.0))
         ]
 
+    on_run : (o : Option Header) (count : ℕ) → header_in w.now.words p ≡ o → head_page_under o p ≡ p → heads_run o ≡ true → run_count o ≡ count
+        → k < 1 → 64 * p + k * (64 * count) ≤ x → x < 64 * p + k * (64 * count) + 64 * count → head_page w.now.words (x / 64) ≡ p
+    on_run o count is own heads pages lt lo hi =
+        let none : k * (64 * count) ≡ 0 = ap (λ j. j * (64 * count)) (let zero : k ≡ 0 = omega arith in zero) ∙ omega arith in
+        let low : 64 * p ≤ x = omega arith in
+        let high : x < 64 * p + 64 * count = omega arith in
+        elim (cases_eq (x / 64) p) [
+          | inl at ↦ here o is own at
+          | inr ne ↦ later o (x / 64 - p) is heads (omega arith) (omega arith) (omega arith)
+        ]
+
     by : (o : Option Header) → header_in w.now.words p ≡ o → k < cells_under o → 64 * p + k * words_under o ≤ x → x < 64 * p + k * words_under o + words_under o
         → head_page w.now.words (x / 64) ≡ p
     by None is lt lo hi = absurd (omega arith)
@@ -61,24 +72,8 @@ scanned_head c w n p k x t known from to some = by (header_in w.now.words p) ref
     by (Some (Later distance mapped)) is lt lo hi = absurd (omega arith)
     by (Some (Block class)) is lt lo hi = let ends = cell_ends k _ lt in here (Some (Block class)) is refl (omega arith)
     by (Some (LeafBlock class)) is lt lo hi = let ends = cell_ends k _ lt in here (Some (LeafBlock class)) is refl (omega arith)
-    by (Some (Run count mapped)) is lt lo hi =
-        let zero : k ≡ 0 = omega arith in
-        let low : 64 * p ≤ x = omega arith in
-        let none : k * (64 * count) ≡ 0 = ap (λ j. j * (64 * count)) zero ∙ omega arith in
-        let high : x < 64 * p + 64 * count = omega arith in
-        elim (cases_eq (x / 64) p) [
-          | inl at ↦ here (Some (Run count mapped)) is refl at
-          | inr ne ↦ later (Some (Run count mapped)) (x / 64 - p) is refl (omega arith) (omega arith) (omega arith)
-        ]
-    by (Some (LeafRun count)) is lt lo hi =
-        let zero : k ≡ 0 = omega arith in
-        let low : 64 * p ≤ x = omega arith in
-        let none : k * (64 * count) ≡ 0 = ap (λ j. j * (64 * count)) zero ∙ omega arith in
-        let high : x < 64 * p + 64 * count = omega arith in
-        elim (cases_eq (x / 64) p) [
-          | inl at ↦ here (Some (LeafRun count)) is refl at
-          | inr ne ↦ later (Some (LeafRun count)) (x / 64 - p) is refl (omega arith) (omega arith) (omega arith)
-        ]
+    by (Some (Run count mapped)) is lt lo hi = on_run (Some (Run count mapped)) count is refl refl refl lt lo hi
+    by (Some (LeafRun count)) is lt lo hi = on_run (Some (LeafRun count)) count is refl refl refl lt lo hi
 
 -- What points somewhere is on a page with a header.
 free_shows : (pages v : ℕ) (y : Cell) → cell_at pages 0 v ≡ Some y → ⊥

@@ -30,15 +30,12 @@ use Rattle.mk_invariant.proofs.Quarantines.{snapshot_is_the_cycles}
 use Rattle.mk_invariant.specs.Theorems.{OfHistories}
 use Rattle.mk_precision.specs.Precision.{KeepsOnlyTheTouched, ReleasesTheUntouched, through_release}
 use Rattle.mk_precision.proofs.AllocationSteps.{Came, IsNew, Stayed}
-use Rattle.mk_precision.proofs.Marking.{marked_at_close, none_more, one_more, told}
-use Rattle.mk_precision.proofs.PhaseSteps.{is_grant, stopped_waits}
+use Rattle.mk_precision.proofs.Marking.{marked_at_close, one_more, told}
+use Rattle.mk_precision.proofs.StepKinds.{both_fail, close_is, is_grant, neither, release_is}
+use Rattle.mk_precision.proofs.PhaseSteps.{stopped_waits}
 use Rattle.mk_precision.proofs.Precise.{came_behind}
 use Rattle.mk_precision.proofs.Stretches.{None_of, along_without, at_close, at_release, history_through, none_joined}
 use Rattle.mk_precision.proofs.Worlds.{headers, stands}
-
-or_none : (a b : Bool) → (a || b) ≡ false → a ≡ false
-or_none false b h = refl
-or_none true b h = cc
 
 -- All that is marked is of the set.
 abbrev pub IsMarkedOnly : Config → World → (ℕ → Type 0) → Type 0
@@ -50,14 +47,6 @@ record AtStop (c : Config) (T : ℕ → Type 0) (start more : List Event) : Type
   phase : phase_of (left c (start ++ more)).now.words ≡ 3
   marked : IsMarkedOnly c (left c (start ++ more)) T
   begun : None_of is_begin more
-
-close_is : (x : Step) → is_close x ≡ true → x ≡ step.Close
-close_is step.Close h = refl
-close_is _ h = cc
-
-pub release_is : (x : Step) → is_release x ≡ true → x ≡ step.Release
-release_is step.Release h = refl
-release_is _ h = cc
 
 not_granted : (x : Step) → is_grant x ≡ false → x ≡ step.Grant → ⊥
 not_granted x out is = true≢false (sym (ap is_grant is) ∙ out)
@@ -91,7 +80,7 @@ stop_goes_on c T start more e h other at =
       phase = subst (λ (v : World). phase_of v.now.words ≡ 3) left_is waits.phase;
       marked = subst (λ (v : World). IsMarkedOnly c v T) left_is
           (stop_behind c w e.seat e.step T (told c (start ++ more) m.history).known.now at.phase m.meets other at.marked);
-      begun = none_joined is_begin more (e ∷ []) at.begun (none_more (is_begin e.step) false waits.begun refl);
+      begun = none_joined is_begin more (e ∷ []) at.begun (both_fail (is_begin e.step) false waits.begun refl);
     }
 
 -- behind the `close`
@@ -138,9 +127,9 @@ at_the_release c es k h unswept =
       phase = subst (λ (xs : List Event). phase_of (left c xs).now.words ≡ 3) same at.phase;
       marked = subst (λ (xs : List Event). IsMarkedOnly c (left c xs) T) same at.marked;
       begun = none_joined is_begin k.marking.close.at.before (e ∷ more) marked.begun
-          (none_more (is_begin e.step) (list_any (λ (x : Event). is_begin x.step) more) (ap is_begin (close_is e.step k.marking.close.at.of_kind)) at.begun);
+          (both_fail (is_begin e.step) (list_any (λ (x : Event). is_begin x.step) more) (ap is_begin (close_is e.step k.marking.close.at.of_kind)) at.begun);
       released = none_joined is_release k.marking.close.at.before (e ∷ more) marked.released
-          (none_more (is_release e.step) (list_any (λ (x : Event). is_release x.step) more)
+          (both_fail (is_release e.step) (list_any (λ (x : Event). is_release x.step) more)
           (ap is_release (close_is e.step k.marking.close.at.of_kind)) k.release.none_before);
     }
 
@@ -185,7 +174,7 @@ keeps_only_the_touched c es h k unswept i quarantined unreleased =
     let now : (with_released c w.now.words a).released ≡ false =
     ap (λ (x : PlacedAllocation). x.released) (sym (changed_at (with_released c w.now.words) w.allocations i refl))
     ∙ ap (λ (v : World). (placed_at v.allocations i).released) (sym left_is) ∙ unreleased in
-    let u : a.released ≡ false = or_none a.released _ now in
+    let u : a.released ≡ false = (neither a.released _ now).0 in
     let t = told c (before_release k) m.history in
     let taken : has_bit_of c w.now.words.snapshot a ≡ true =
     snapshot_is_the_cycles c (before_release k) m.history (last_begin k) at.begun (ap is_cycling at.phase) i u ∙ quarantined in

@@ -9,7 +9,7 @@ use Rattle.mk_core.specs.declared.config.Config.{Config}
 use Rattle.mk_core.specs.declared.events.Event.{Event}
 use Rattle.mk_core.specs.declared.events.Step.{Step}
 use Rattle.mk_core.proofs.HistoryParts.{earlier_part_is_history}
-use Rattle.mk_precision.proofs.Marking.{none_more, or_parts}
+use Rattle.mk_precision.proofs.StepKinds.{both_fail, neither}
 
 -- none of a kind
 abbrev pub None_of : (Step → Bool) → List Event → Type 0
@@ -18,7 +18,7 @@ None_of kind es = list_any (λ (e : Event). kind e.step) es ≡ false
 pub none_joined : (kind : Step → Bool) (xs ys : List Event) → None_of kind xs → None_of kind ys → None_of kind (xs ++ ys)
 none_joined kind xs ys a b =
     list_any-append (λ (e : Event). kind e.step) xs ys
-    ∙ none_more (list_any (λ (e : Event). kind e.step) xs) (list_any (λ (e : Event). kind e.step) ys) a b
+    ∙ both_fail (list_any (λ (e : Event). kind e.step) xs) (list_any (λ (e : Event). kind e.step) ys) a b
 
 -- One event is passed, up to the next.
 next_part : (es xs ys zs : List Event) (e f : Event) (behind : List Event) → es ≡ xs ++ e ∷ behind → behind ≡ ys ++ f ∷ zs → es ≡ (xs ++ e ∷ ys) ++ f ∷ zs
@@ -51,7 +51,7 @@ pub along_without : (c : Config) (kind : Step → Bool) (P : List Event → Type
 along_without c kind P start done [] keeps h none at = subst P (sym (append-nil done)) at
 along_without c kind P start done (e ∷ rest) keeps h none at =
     let split : done ++ e ∷ rest ≡ (done ++ e ∷ []) ++ rest = sym (append_assoc done (e ∷ []) rest) in
-    let parts = or_parts (kind e.step) (list_any (λ (x : Event). kind x.step) rest) none in
+    let parts = neither (kind e.step) (list_any (λ (x : Event). kind x.step) rest) none in
     let whole : IsHistory c (start ++ ((done ++ e ∷ []) ++ rest)) = subst (λ (xs : List Event). IsHistory c (start ++ xs)) split h in
     let next = history_through c (start ++ (done ++ e ∷ rest)) (start ++ done) rest e h (sym (append_assoc start done (e ∷ rest))) in
     subst P (sym split) (along_without c kind P start (done ++ e ∷ []) rest keeps whole parts.1 (keeps done e next parts.0 at))

@@ -34,6 +34,7 @@ use Rattle.mk_guard.specs.Guard.{IsMarking}
 use Rattle.mk_zeros.proofs.MappedWords.{mapped_stays}
 use Rattle.mk_invariant.specs.Invariant.{Invariant}
 use Rattle.mk_invariant.proofs.Joined.{told_to_images}
+use Rattle.mk_precision.proofs.StepKinds.{neither}
 
 -- all that is known of it
 pub record Told (c : Config) (w : World) (n : NeverState) : Type 0 where
@@ -45,10 +46,6 @@ pub record IsHeld (c : Config) (w : World) (x : ℕ) : Type 0 where
   pub number : ℕ
   pub unreleased : (placed_at w.allocations number).released ≡ false
   pub word : IsWordOf (storage_of c (placed_at w.allocations number)) x
-
-or_false : (a b : Bool) → (a || b) ≡ false → a ≡ false
-or_false false b h = refl
-or_false true b h = cc
 
 not_four : (n : ℕ) → (n ≡ 1) ⊎ (n ≡ 2) → n ≡ 4 → ⊥
 not_four n (inl e) f = absurd (omega arith)
@@ -132,7 +129,7 @@ module _ (c : Config) (w : World) (n : NeverState) (t : Told c w n) where
   not_leaf a u scanned =
       let o : Object = object_placed c (placed_at w.allocations a) in
       let x : Option Header = header_in w.now.words ((placed_at w.allocations a).base / 64) in
-      or_false o.leaf (is_unmapped_header x) (sym (part_has_no_pointers o x (first_part a u)) ∙ scanned)
+      (neither o.leaf (is_unmapped_header x) (sym (part_has_no_pointers o x (first_part a u)) ∙ scanned)).0
 
   -- A word that isn't 0 is held, while a cycle marks.
   pub held : IsMarking w.now.words → (x : ℕ) → slice_index w.now.words.heap x ≢ 0 → IsHeld c w x
