@@ -16,3 +16,4 @@ pub mod Stopped
 pub mod OlderAllocations
 pub mod FreeStorage
 pub mod Freeing
+pub mod EvaluatedPrecision
