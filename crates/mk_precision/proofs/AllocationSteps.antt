@@ -1,6 +1,5 @@
 -- What one event leaves of the allocations: each keeps its place, and a grant adds one.
-use Rattle.std.proofs.Common.{List, [], ap, arith, false, inl, inr, length, map, refl, sym, true, ℕ, ◌+◌, ◌++◌, ◌<◌, ◌∙◌, ◌∷◌, ◌≡◌, ◌≤◌}
-use Rattle.std.specs.Prelude.{Bool, ◌||◌}
+use Rattle.std.proofs.Common.{List, [], ap, arith, false, inl, inr, length, map, refl, sym, ℕ, ◌++◌, ◌<◌, ◌∙◌, ◌∷◌, ◌≡◌}
 use Rattle.std.proofs.lemmas.Bool.{cases_lt, true≢false}
 use Rattle.std.proofs.lemmas.List.{get_or_past, length-append, length-map}
 use Rattle.mk_core.specs.Allocations.{PlacedAllocation, allocations_by, freed_where_it_stands, granted, never_granted, no_longer_fresh, placed_at, with_released}
@@ -14,7 +13,7 @@ use Rattle.mk_core.specs.declared.events.Step.{Step}
 use Rattle.mk_core.specs.declared.events.Step.TheVariants as step
 use Rattle.mk_core.specs.declared.seats.Flight.{Flight}
 use Rattle.mk_geom.specs.Addresses.{address_of}
-use Rattle.mk_core.proofs.ChangedAllocations.{LeavesPlaces, changed_at, earlier_at, freed_leaves, freed_released, fresh_leaves, granted_at, released_leaves}
+use Rattle.mk_core.proofs.ChangedAllocations.{LeavesPlaces, changed_at, earlier_at, freed_leaves, freed_released, fresh_leaves, released_leaves}
 use Rattle.mk_precision.proofs.StepKinds.{neither}
 
 -- An unreleased allocation is one of the list.

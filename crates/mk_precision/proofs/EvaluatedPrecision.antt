@@ -1,5 +1,5 @@
 -- The laws on a small cycle: its third allocation is freed and not touched, so it is released, and its storage free.
-use Rattle.std.proofs.Common.{[], false, refl, true, ◌++◌, ◌∷◌, ◌≡◌}
+use Rattle.std.proofs.Common.{[], refl, true, ◌∷◌, ◌≡◌}
 use Rattle.mk_core.specs.Allocations.{placed_at, storage_of, unreleased_storage}
 use Rattle.mk_core.specs.Bounded.{all_below}
 use Rattle.mk_core.specs.Cells.{pointed_cell}

@@ -1,9 +1,8 @@
 -- Storage of which no other has a word counts as free.
-use Rattle.std.proofs.Common.{Bool, List, ap, arith, false, inl, inr, refl, sym, true, ℕ, ◌%◌, ◌*◌, ◌+◌, ◌/◌, ◌<◌, ◌≤◌, ◌∙◌, ◌≡◌}
+use Rattle.std.proofs.Common.{List, ap, arith, false, inl, inr, true, ℕ, ◌*◌, ◌+◌, ◌≤◌, ◌≡◌}
 use Rattle.std.specs.Prelude.{Contains, Option, ◌==◌}
 use Rattle.std.proofs.lemmas.Bool.{cases_Bool, cases_lt, eqb-true}
-use Rattle.mk_geom.specs.PageUses.{Nothing}
-use Rattle.mk_geom.specs.Storages.{IsRun, Storage, is_cell_taken, is_small, stands_on, use_by, use_of_storages}
+use Rattle.mk_geom.specs.Storages.{IsRun, Storage, is_cell_taken, is_small, stands_on, use_by}
 use Rattle.mk_geom.specs.StorageWords.{IsWordOf}
 use Rattle.mk_geom.proofs.ListSearch.{find_cases, list_any_found}
 use Rattle.mk_geom.proofs.Standing.{stands_parts}

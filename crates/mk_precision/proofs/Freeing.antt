@@ -1,15 +1,14 @@
 -- Behind a cycle's `end` what its `release` released counts as free: no unreleased storage has a word of it.
-use Rattle.std.proofs.Common.{List, [], ap, append-nil, append_assoc, arith, false, refl, subst, sym, true, ℕ, ◌%◌, ◌++◌, ◌≤◌, ◌∙◌, ◌∷◌, ◌≡◌}
+use Rattle.std.proofs.Common.{List, [], ap, append-nil, append_assoc, arith, false, refl, subst, sym, ℕ, ◌%◌, ◌++◌, ◌≤◌, ◌∙◌, ◌∷◌, ◌≡◌}
 use Rattle.std.specs.Prelude.{Contains, not}
-use Rattle.std.proofs.lemmas.Bool.{and_parts, eqb-true, not-true, true≢false}
+use Rattle.std.proofs.lemmas.Bool.{and_parts, not-true, true≢false}
 use Rattle.std.specs.List.{list_any}
 use Rattle.mk_geom.specs.Storages.{IsRun, IsStorage, Storage, is_small}
 use Rattle.mk_geom.specs.StorageWords.{IsWordOf}
 use Rattle.mk_geom.proofs.Standing.{has_words, large_is_run}
 use Rattle.mk_core.specs.Allocations.{PlacedAllocation, placed_at, storage_of, storage_words, unreleased_storage}
-use Rattle.mk_core.specs.Cycles.{Cycle, Releasing, before_begin, before_end, before_release, is_begin, is_end, is_release}
-use Rattle.mk_core.specs.History.{IsHistory, World, left, never_behind, world_behind}
-use Rattle.mk_core.specs.StandingAllocations.{HasStorage}
+use Rattle.mk_core.specs.Cycles.{Cycle, Releasing, before_begin, before_end, before_release, is_end, is_release}
+use Rattle.mk_core.specs.History.{IsHistory, World, left, world_behind}
 use Rattle.mk_core.specs.Words.{phase_of}
 use Rattle.mk_core.specs.declared.config.Config.{Config}
 use Rattle.mk_core.specs.declared.events.Event.{Event}
@@ -18,11 +17,10 @@ use Rattle.mk_core.specs.declared.events.Step.TheVariants as step
 use Rattle.mk_core.proofs.HistoryParts.{earlier_part_is_history}
 use Rattle.mk_core.proofs.StandingAllocations.{standing_has_storage}
 use Rattle.mk_core.proofs.UnreleasedStorage.{storage_is_of}
-use Rattle.mk_protocol.proofs.Actors.{Meets}
 use Rattle.mk_protocol.proofs.OthersMoves.{WorldBehind}
 use Rattle.mk_invariant.specs.Theorems.{OfHistories}
 use Rattle.mk_invariant.proofs.Theorems.{allocations_are_disjoint}
-use Rattle.mk_precision.specs.Precision.{CountsAsFree, FreesTheUntouched, through_end, through_release}
+use Rattle.mk_precision.specs.Precision.{FreesTheUntouched, through_end, through_release}
 use Rattle.mk_precision.proofs.AllocationSteps.{is_there}
 use Rattle.mk_precision.proofs.FreeStorage.{counts_as_free}
 use Rattle.mk_precision.proofs.Marking.{one_more, told}
@@ -159,7 +157,7 @@ frees_the_untouched c es h k unswept i quarantined untouched = counts_as_free ss
         let same = older.same i kept.there in
         let words = same_words c (placed_at xs i) (placed_at zs i) same in
         let z = large_is_run c.pages (storage_of c (placed_at xs i)) (storage i kept.unreleased)
-            (ap (λ n. is_small (record (storage_of c (placed_at xs i)) { words = n })) (sym words) ∙ large) in
+        (ap (λ n. is_small (record (storage_of c (placed_at xs i)) { words = n })) (sym words) ∙ large) in
         record {
           pages = z.pages;
           some = z.some;

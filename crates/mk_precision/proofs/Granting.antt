@@ -1,22 +1,20 @@
 -- The allocation that a grant adds is touched: its caller's register points to it at the moment behind.
-use Rattle.std.proofs.Common.{Bool, List, [], ap, arith, false, length, refl, subst, sym, true, ℕ, ◌%◌, ◌*◌, ◌+◌, ◌++◌, ◌/◌, ◌<◌, ◌≤◌, ◌^◌, ◌∙◌, ◌∷◌, ◌≡◌}
-use Rattle.std.specs.Prelude.{slice_index, slice_index_or, slice_set, nat_lt, ◌&&◌}
+use Rattle.std.proofs.Common.{Bool, ap, arith, false, length, subst, sym, true, ℕ, ◌%◌, ◌*◌, ◌+◌, ◌/◌, ◌<◌, ◌^◌, ◌∙◌, ◌≡◌}
+use Rattle.std.specs.Prelude.{slice_index, slice_index_or, nat_lt, ◌&&◌}
 use Rattle.std.proofs.lemmas.Bool.{and_parts, ltb-true}
 use Rattle.std.proofs.lemmas.List.{get_or-set_same}
 use Rattle.mk_never.specs.declared.values.Value.TheVariants.{Null}
 use Rattle.mk_never.specs.NeverHeap.{NeverState}
-use Rattle.mk_never.specs.declared.operations.Op.{Op}
 use Rattle.mk_geom.specs.Addresses.{address_of}
 use Rattle.mk_geom.specs.StorageWords.{PointsInto}
 use Rattle.mk_geom.proofs.PointedCells.{address_points_into}
 use Rattle.mk_core.specs.Accesses.{granted_base}
-use Rattle.mk_core.specs.Allocations.{PlacedAllocation, granted, placed_at, storage_of, storage_words}
-use Rattle.mk_core.specs.Calls.{at_rest, d_of, g_of, has_operands, has_type, p_of, q_of, r_of}
+use Rattle.mk_core.specs.Allocations.{PlacedAllocation, granted, placed_at, storage_of}
+use Rattle.mk_core.specs.Calls.{at_rest, d_of, g_of, has_type, p_of, q_of, r_of}
 use Rattle.mk_core.specs.History.{World, bases_of}
 use Rattle.mk_core.specs.Image.{image_of}
 use Rattle.mk_core.specs.Moments.{flight_of}
 use Rattle.mk_core.specs.Order.{host_has_turn}
-use Rattle.mk_core.specs.Touched.{PointsIntoAllocation}
 use Rattle.mk_core.specs.declared.config.Config.{Config}
 use Rattle.mk_core.specs.declared.events.Seat.{Seat}
 use Rattle.mk_core.specs.declared.events.Seat.TheVariants.{Caller, Host, Marker}

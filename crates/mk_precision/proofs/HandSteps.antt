@@ -1,6 +1,6 @@
 -- What the turn holder's hand holds is touched: a root's image, or a word of a marked cell that is scanned.
-use Rattle.std.proofs.Common.{Bool, List, ap, arith, false, inl, inr, refl, subst, sym, true, ℕ, ◌%◌, ◌*◌, ◌+◌, ◌/◌, ◌<◌, ◌≤◌, ◌∙◌, ◌≡◌, ◌≢◌, ◌⊎◌}
-use Rattle.std.specs.Prelude.{None, Option, Some, if◌then◌else◌, nat_lt, option_and_then, slice_index, slice_index_or, ◌&&◌, ◌==◌, ◌||◌}
+use Rattle.std.proofs.Common.{Bool, ap, arith, false, inl, inr, refl, subst, sym, true, ℕ, ◌%◌, ◌*◌, ◌+◌, ◌/◌, ◌≤◌, ◌∙◌, ◌≡◌, ◌≢◌, ◌⊎◌}
+use Rattle.std.specs.Prelude.{None, Option, Some, if◌then◌else◌, nat_lt, option_and_then, slice_index, slice_index_or, ◌&&◌, ◌==◌}
 use Rattle.std.proofs.lemmas.Bool.{and_parts, eqb-true, ltb-true, or_cases}
 use Rattle.std.proofs.lemmas.Option.{same_Some}
 use Rattle.mk_never.specs.declared.operations.Op.{Op}
@@ -10,8 +10,7 @@ use Rattle.mk_geom.specs.Addresses.{address_of}
 use Rattle.mk_geom.specs.PageUses.{or_else}
 use Rattle.mk_geom.specs.declared.addresses.Cell.{Cell}
 use Rattle.mk_core.specs.Accesses.{found}
-use Rattle.mk_core.specs.Allocations.{PlacedAllocation, cell_of_allocation, placed_at, storage_of}
-use Rattle.mk_core.specs.Calls.{d_of}
+use Rattle.mk_core.specs.Allocations.{PlacedAllocation, cell_of_allocation, placed_at}
 use Rattle.mk_core.specs.Cells.{has_no_pointers, header_in, is_marked, pointed_cell}
 use Rattle.mk_core.specs.Cycles.{is_unmarked}
 use Rattle.mk_core.specs.Effects.{hand_given, hand_of_cell, is_in_stop, is_mapped_cell}
@@ -42,8 +41,8 @@ use Rattle.mk_protocol.proofs.Views.{view_of}
 use Rattle.mk_images.specs.Images.{is_put, shown}
 use Rattle.mk_images.proofs.HeldGates.{held_idle}
 use Rattle.mk_precision.proofs.Granting.{points_behind}
-use Rattle.mk_precision.proofs.Precise.{IsClosedIn, IsPrecise, PointsOnlyInto, Steps}
-use Rattle.mk_precision.proofs.Worlds.{IsHeld, Told, headers, held, not_leaf, stands}
+use Rattle.mk_precision.proofs.Precise.{IsPrecise, PointsOnlyInto, Steps}
+use Rattle.mk_precision.proofs.Worlds.{Told, headers, held, not_leaf, stands}
 
 -- any other step leaves the hand, or drops it
 
@@ -146,18 +145,18 @@ module _ (c : Config) (w : World) (n : NeverState) (T : ℕ → Type 0) (precise
       by (Some cell) at is =
           let k = cell_hand w.now.words stop w.now.seats.holding.placing cell (slice_index w.now.words.heap x) h is out in
           λ b points.
-              let low : 65536 ≤ h.value = points.1.0 in
-              let value = k.holds in
-              let some : slice_index w.now.words.heap x ≢ 0 = λ z. absurd (omega arith) in
-              let o = held c w n s.before s.early x some in
-              let a : PlacedAllocation = placed_at w.allocations o.number in
-              let same : cell_of_allocation c a ≡ cell =
-              same_Some _ _ (sym (word_points c w.now.words a s.before.known.limits (stands c w n s.before o.number o.unreleased)
-              (headers c w n s.before o.number o.unreleased) x o.word) ∙ at) in
-              let touched = precise.marked o.number o.unreleased (subst (λ (y : Cell). is_marked w.now.words y ≡ true) (sym same) k.marked) in
-              let leaf = not_leaf c w n s.before o.number o.unreleased
-                  (ap (λ (y : Cell). has_no_pointers (header_in w.now.words y.page)) same ∙ k.scanned) in
-              s.here.words o.number x touched (o.unreleased, leaf, o.word) b (subst (λ v. PointsIntoAllocation c w v b) value points)
+          let low : 65536 ≤ h.value = points.1.0 in
+          let value = k.holds in
+          let some : slice_index w.now.words.heap x ≢ 0 = λ z. absurd (omega arith) in
+          let o = held c w n s.before s.early x some in
+          let a : PlacedAllocation = placed_at w.allocations o.number in
+          let same : cell_of_allocation c a ≡ cell =
+          same_Some _ _ (sym (word_points c w.now.words a s.before.known.limits (stands c w n s.before o.number o.unreleased)
+          (headers c w n s.before o.number o.unreleased) x o.word) ∙ at) in
+          let touched = precise.marked o.number o.unreleased (subst (λ (y : Cell). is_marked w.now.words y ≡ true) (sym same) k.marked) in
+          let leaf = not_leaf c w n s.before o.number o.unreleased
+          (ap (λ (y : Cell). has_no_pointers (header_in w.now.words y.page)) same ∙ k.scanned) in
+          s.here.words o.number x touched (o.unreleased, leaf, o.word) b (subst (λ v. PointsIntoAllocation c w v b) value points)
 
   root_hand : (value : ℕ) (h : Hand) → PointsOnlyInto c w.allocations T value → Some (record { value = value; source = Root }) ≡ Some h → PointsOnlyInto c w.allocations T h.value
   root_hand value h only is =

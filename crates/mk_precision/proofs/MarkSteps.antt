@@ -1,24 +1,23 @@
 -- What a step marks is touched: what the holder's hand or a marker's points into, or a cell without an allocation.
-use Rattle.std.proofs.Common.{Bool, List, ap, arith, false, inl, inr, refl, subst, sym, true, ℕ, ◌+◌, ◌/◌, ◌<◌, ◌^◌, ◌∙◌, ◌≡◌, ◌≢◌, ◌⊎◌}
-use Rattle.std.specs.Prelude.{None, Option, Some, bit_or, if◌then◌else◌, is_some, not, slice_index, slice_set, ◌&&◌, ◌==◌, ◌||◌}
-use Rattle.std.proofs.lemmas.Bool.{and_parts, cases_Bool, eqb-true, true≢false}
+use Rattle.std.proofs.Common.{Bool, List, ap, arith, false, inl, inr, refl, subst, sym, true, ℕ, ◌/◌, ◌^◌, ◌∙◌, ◌≡◌, ◌≢◌}
+use Rattle.std.specs.Prelude.{None, Option, Some, if◌then◌else◌, is_some, not, slice_index, ◌&&◌, ◌==◌, ◌||◌}
+use Rattle.std.proofs.lemmas.Bool.{and_parts, cases_Bool, eqb-true}
 use Rattle.mk_never.specs.NeverHeap.{NeverState}
 use Rattle.mk_geom.specs.Addresses.{cell_at, page_at_address}
 use Rattle.mk_geom.specs.declared.addresses.Cell.{Cell}
 use Rattle.mk_geom.specs.declared.pages.Place.{Place}
 use Rattle.mk_core.specs.Accesses.{seen_bit, seen_page}
 use Rattle.mk_core.specs.Allocations.{PlacedAllocation, cell_of_allocation, placed_at}
-use Rattle.mk_core.specs.Bits.{bit_for, has_bit}
+use Rattle.mk_core.specs.Bits.{has_bit}
 use Rattle.mk_core.specs.Bounded.{is_some_and}
-use Rattle.mk_core.specs.Cells.{header_in, is_marked, pointed_cell}
-use Rattle.mk_core.specs.Cycles.{is_unmarked, sweeps}
+use Rattle.mk_core.specs.Cells.{is_marked, pointed_cell}
+use Rattle.mk_core.specs.Cycles.{is_unmarked}
 use Rattle.mk_core.specs.History.{World}
 use Rattle.mk_core.specs.MarkerConditions.{cell_seen}
 use Rattle.mk_core.specs.Moments.{Moment, flight_of, marker_of}
 use Rattle.mk_core.specs.NewPlaces.{object_made}
-use Rattle.mk_core.specs.ObjectHeaders.{ShowsPart}
 use Rattle.mk_core.specs.StandingAllocations.{object_placed}
-use Rattle.mk_core.specs.StopConditions.{is_attending, is_bit_of, marks_by_hand, marks_place}
+use Rattle.mk_core.specs.StopConditions.{is_bit_of, marks_by_hand, marks_place}
 use Rattle.mk_core.specs.TurnConditions.{place_now}
 use Rattle.mk_core.specs.Words.{Words, header_at, phase_of}
 use Rattle.mk_core.specs.declared.config.Config.{Config}
@@ -34,13 +33,12 @@ use Rattle.mk_core.proofs.ObjectHeaders.{part_not_free}
 use Rattle.mk_core.proofs.ServingSteps.{place_marked}
 use Rattle.mk_core.proofs.StandingAllocations.{first_page_shows}
 use Rattle.mk_core.proofs.WordBits.{bit_of_cell, bit_of_power, more_bits}
-use Rattle.mk_protocol.proofs.Actors.{Meets}
 use Rattle.mk_protocol.proofs.OthersMoves.{WorldBehind}
 use Rattle.mk_protocol.proofs.SameWords.{Behind}
 use Rattle.mk_layout.proofs.Claims.{same_cell}
-use Rattle.mk_guard.specs.Guard.{GoesOn, IsMarking, MarkerStands}
+use Rattle.mk_guard.specs.Guard.{MarkerStands}
 use Rattle.mk_guard.proofs.Changes.{Table, reg_table, tally_table}
-use Rattle.mk_precision.proofs.AllocationSteps.{AreOfOne, Came, IsNew, Stayed}
+use Rattle.mk_precision.proofs.AllocationSteps.{Came, IsNew, Stayed}
 use Rattle.mk_precision.proofs.Granting.{new_is_touched}
 use Rattle.mk_precision.proofs.Precise.{IsPrecise, Steps, came_behind}
 use Rattle.mk_precision.proofs.Worlds.{Told, comes_back, headers, sized}
@@ -159,8 +157,8 @@ module _ (c : Config) (w : World) (n : NeverState) (T : ℕ → Type 0) (precise
           | inr unplaced ↦
               let hand : Option Hand = w.now.seats.holding.hand in
               let h = hand_marks w.now.words c.pages hand p v
-                  (left_holds (marks_by_hand c.pages w.now.words hand p v) (marks_place w.now.words o place p v) s.meets.holder unplaced)
-                  (left_fails (is_some_and (λ (y : Hand). is_unmarked y.source) hand) (marks_place w.now.words o place p v) s.unswept unplaced) in
+              (left_holds (marks_by_hand c.pages w.now.words hand p v) (marks_place w.now.words o place p v) s.meets.holder unplaced)
+              (left_fails (is_some_and (λ (y : Hand). is_unmarked y.source) hand) (marks_place w.now.words o place p v) s.unswept unplaced) in
               let at : pointed_cell c.pages w.now.words.pages h.holds.value ≡ Some cell =
               h.cell cell.index new.1 ∙ ap (λ (q : ℕ). Some (record { page = q; index = cell.index })) (sym new.0) in
               precise.hand h.holds h.there h.unswept b (u, comes_back c w n s.before s.early b h.holds.value u at)

@@ -1,7 +1,7 @@
 -- What a marker holds is touched, and what it scans has no leaf, behind each step.
-use Rattle.std.proofs.Common.{Bool, List, ap, arith, false, inl, inr, refl, subst, sym, true, ℕ, ◌*◌, ◌+◌, ◌/◌, ◌<◌, ◌≤◌, ◌∙◌, ◌≡◌, ◌≢◌, ◌⊎◌}
+use Rattle.std.proofs.Common.{Bool, ap, arith, false, inl, inr, refl, subst, sym, true, ℕ, ◌*◌, ◌+◌, ◌<◌, ◌≤◌, ◌∙◌, ◌≡◌, ◌≢◌}
 use Rattle.std.specs.Prelude.{None, Option, Some, if◌then◌else◌, is_none, nat_lt, slice_index, ◌&&◌, ◌==◌}
-use Rattle.std.proofs.lemmas.Bool.{and_parts, cases_Bool, eqb-true, ltb-true}
+use Rattle.std.proofs.lemmas.Bool.{and_parts, eqb-true, ltb-true}
 use Rattle.std.proofs.lemmas.Option.{none-some, same_Some}
 use Rattle.mk_never.specs.NeverHeap.{NeverState}
 use Rattle.mk_geom.specs.Addresses.{cell_at, is_heap_address, page_at_address}
@@ -10,13 +10,12 @@ use Rattle.mk_geom.specs.declared.addresses.Cell.{Cell}
 use Rattle.mk_core.specs.Accesses.{found, next_word}
 use Rattle.mk_core.specs.Allocations.{PlacedAllocation, cell_of_allocation, placed_at, storage_of}
 use Rattle.mk_core.specs.Bits.{has_bit}
-use Rattle.mk_core.specs.Cells.{cell_words, cells_under, first_word, has_no_pointers, header_in, is_marked, words_under}
+use Rattle.mk_core.specs.Cells.{cells_under, has_no_pointers, header_in, is_marked, words_under}
 use Rattle.mk_core.specs.Effects.{behind_mlook, hand_behind_look, marker_behind, open_hand, scan_begun, scan_claimed, scan_onward}
 use Rattle.mk_core.specs.History.{World}
 use Rattle.mk_core.specs.MarkerConditions.{has_next_word, has_seen_cell}
 use Rattle.mk_core.specs.Moments.{marker_of}
 use Rattle.mk_core.specs.StopConditions.{is_attending}
-use Rattle.mk_core.specs.Touched.{PointsIntoAllocation}
 use Rattle.mk_core.specs.Words.{header_at}
 use Rattle.mk_core.specs.declared.config.Config.{Config}
 use Rattle.mk_core.specs.declared.events.Seat.{Seat}
@@ -26,13 +25,12 @@ use Rattle.mk_core.specs.declared.events.Step.TheVariants as step
 use Rattle.mk_core.specs.declared.events.Word.{Word}
 use Rattle.mk_core.specs.declared.events.Word.TheVariants as word
 use Rattle.mk_core.specs.declared.seats.Marker.{Marker as MarkerState}
-use Rattle.mk_core.specs.declared.seats.Presence.{Presence}
 use Rattle.mk_core.specs.declared.seats.Scan.{Scan}
 use Rattle.mk_core.specs.declared.seats.SeenHeader.{SeenHeader}
 use Rattle.mk_protocol.specs.Protocol.{IsIdle}
 use Rattle.mk_protocol.proofs.Markers.{marker_set}
 use Rattle.mk_protocol.proofs.OthersMoves.{WorldBehind}
-use Rattle.mk_guard.specs.Guard.{EndsItsCell, GoesOn, MarkerStands, ScanStands, cell_scanned}
+use Rattle.mk_guard.specs.Guard.{EndsItsCell, MarkerStands, ScanStands, cell_scanned}
 use Rattle.mk_precision.proofs.Granting.{points_behind}
 use Rattle.mk_precision.proofs.NoLeaves.{no_leaf_behind, scanned_has_none}
 use Rattle.mk_precision.proofs.Precise.{HasNoLeaf, IsPrecise, MarkerIsPrecise, PointsOnlyInto, Scene, Steps, scene_of}

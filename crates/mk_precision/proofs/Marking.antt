@@ -1,10 +1,9 @@
 -- Along the marking of a cycle without a sweeping mark, all that is marked or held is touched.
-use Rattle.std.proofs.Common.{Bool, List, [], ap, append-nil, append_assoc, false, refl, subst, sym, true, ℕ, ◌++◌, ◌∙◌, ◌∷◌, ◌≡◌, inl, arith}
-use Rattle.std.specs.Prelude.{◌||◌}
+use Rattle.std.proofs.Common.{List, [], ap, append-nil, append_assoc, false, refl, subst, sym, ℕ, ◌++◌, ◌∙◌, ◌∷◌, ◌≡◌, inl, arith}
 use Rattle.std.proofs.lemmas.Bool.{eqb-true}
 use Rattle.std.specs.List.{list_any}
 use Rattle.mk_core.specs.Cycles.{Marking, NoneSweepsFrom, before_close, is_begin, is_close, is_release, sweeps, through}
-use Rattle.mk_core.specs.History.{AreEnabledFrom, IsHistory, World, first_world, left, left_from, never_behind, world_behind}
+use Rattle.mk_core.specs.History.{AreEnabledFrom, IsHistory, World, first_world, left, never_behind, world_behind}
 use Rattle.mk_core.specs.Moments.{flight_of}
 use Rattle.mk_core.specs.Touched.{IsTouched, LeadsToMoment, by_global, by_register, by_word}
 use Rattle.mk_core.specs.Words.{phase_of}
@@ -115,7 +114,7 @@ along c es k done (e ∷ rest) is h none unswept at =
     let behind = moment_behind c es k front e next here there parts.0 unswept.0 at in
     let left_is : world_behind c (left c front) e ≡ left c (first ++ (done ++ e ∷ [])) = sym m.left ∙ ap (λ (xs : List Event). left c xs) longer in
     let end = along c es k (done ++ e ∷ []) rest (is ∙ split) whole parts.1 (subst (λ (v : World). NoneSweepsFrom c v rest) left_is unswept.1)
-        (subst (λ (xs : List Event). AtMoment c (IsTouched c k) xs) longer behind) in
+    (subst (λ (xs : List Event). AtMoment c (IsTouched c k) xs) longer behind) in
     let on = marking_goes_on c (left c front).now e.seat e.step at.early m.meets parts.0 in
     record {
       at = end.at;

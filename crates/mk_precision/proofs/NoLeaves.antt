@@ -1,5 +1,5 @@
 -- Pages where no leaf begins, and that they stay so while they show cells.
-use Rattle.std.proofs.Common.{Bool, List, [], ap, arith, false, inl, inr, length, refl, subst, sym, true, ℕ, ◌*◌, ◌+◌, ◌++◌, ◌-◌, ◌/◌, ◌<◌, ◌≤◌, ◌∙◌, ◌∷◌, ◌≡◌, ◌≢◌, ◌⊎◌}
+use Rattle.std.proofs.Common.{ap, arith, false, inl, inr, length, refl, subst, sym, true, ℕ, ◌+◌, ◌-◌, ◌/◌, ◌∙◌, ◌≡◌, ◌≢◌}
 use Rattle.std.specs.Prelude.{Option, None, Some, slice_index_or, slice_set, ◌||◌}
 use Rattle.std.proofs.lemmas.Bool.{cases_eq, eqb-true, ltb-true}
 use Rattle.std.proofs.lemmas.List.{get_or-set_other, get_or-set_same}
@@ -34,7 +34,7 @@ use Rattle.mk_invariant.proofs.Joined.{told_to_guard}
 use Rattle.mk_precision.proofs.StepKinds.{neither}
 use Rattle.mk_precision.proofs.AllocationSteps.{Came, IsNew, Stayed}
 use Rattle.mk_precision.proofs.Precise.{HasNoLeaf, Steps, came_behind, same_leaf, scene_of}
-use Rattle.mk_precision.proofs.Worlds.{Told, headers, not_leaf, sized, stands}
+use Rattle.mk_precision.proofs.Worlds.{Told, headers, not_leaf, sized}
 
 -- What a header that is scanned shows.
 pub scanned_has_none : (c : Config) (w : World) (n : NeverState) (p : ℕ) → Told c w n → has_no_pointers (header_in w.now.words p) ≡ false → HasNoLeaf c (scene_of w) p

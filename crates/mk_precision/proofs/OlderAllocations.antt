@@ -1,5 +1,5 @@
 -- Allocations behind events that grant none: what is unreleased was so before, and each keeps its place.
-use Rattle.std.proofs.Common.{List, [], ap, append-nil, append_assoc, false, refl, subst, sym, true, ℕ, ◌++◌, ◌<◌, ◌∙◌, ◌∷◌, ◌≡◌, length}
+use Rattle.std.proofs.Common.{List, [], ap, append-nil, append_assoc, false, refl, subst, sym, ℕ, ◌++◌, ◌<◌, ◌∙◌, ◌∷◌, ◌≡◌, length}
 use Rattle.std.proofs.lemmas.Bool.{true≢false}
 use Rattle.mk_core.specs.Allocations.{PlacedAllocation, placed_at}
 use Rattle.mk_core.specs.Cycles.{is_release}
@@ -9,9 +9,8 @@ use Rattle.mk_core.specs.declared.config.Config.{Config}
 use Rattle.mk_core.specs.declared.events.Event.{Event}
 use Rattle.mk_core.specs.declared.events.Seat.{Seat}
 use Rattle.mk_core.specs.declared.events.Step.{Step}
-use Rattle.mk_core.specs.declared.events.Step.TheVariants as step
 use Rattle.mk_protocol.proofs.OthersMoves.{WorldBehind}
-use Rattle.mk_precision.proofs.AllocationSteps.{AreOfOne, Came, GoesOn, IsNew, Stayed, allocation_step, came, goes_on, of_one_joined}
+use Rattle.mk_precision.proofs.AllocationSteps.{AreOfOne, Came, GoesOn, IsNew, Stayed, allocation_step, goes_on, of_one_joined}
 use Rattle.mk_precision.proofs.Marking.{one_more}
 use Rattle.mk_precision.proofs.StepKinds.{is_grant}
 use Rattle.mk_precision.proofs.Precise.{came_behind}

@@ -1,6 +1,6 @@
 -- One step of a cycle, whatever it is: behind `begin` nothing is marked or held, and each step keeps what is so touched.
-use Rattle.std.proofs.Common.{List, arith, ap, false, inl, inr, refl, subst, sym, true, ℕ, ◌<◌, ◌∙◌, ◌≡◌}
-use Rattle.std.specs.Prelude.{None, Option, Some, slice_index, ◌&&◌, ◌==◌}
+use Rattle.std.proofs.Common.{arith, inl, inr, sym, true, ℕ, ◌∙◌, ◌≡◌}
+use Rattle.std.specs.Prelude.{slice_index, ◌&&◌, ◌==◌}
 use Rattle.std.proofs.lemmas.Bool.{and_parts, cases_Bool, cases_lt, eqb-true, true≢false}
 use Rattle.std.proofs.lemmas.List.{get_or_past}
 use Rattle.std.proofs.lemmas.Option.{none-some}
@@ -8,7 +8,6 @@ use Rattle.mk_never.specs.NeverHeap.{NeverState}
 use Rattle.mk_geom.specs.declared.addresses.Cell.{Cell}
 use Rattle.mk_core.specs.Allocations.{cell_of_allocation, placed_at}
 use Rattle.mk_core.specs.Bounded.{all_below}
-use Rattle.mk_core.specs.Cells.{is_marked}
 use Rattle.mk_core.specs.History.{World}
 use Rattle.mk_core.specs.Moments.{Moment, marker_of}
 use Rattle.mk_core.specs.StopConditions.{has_clean_page, is_attending}
@@ -23,7 +22,6 @@ use Rattle.mk_core.proofs.AllBelow.{all_below-at}
 use Rattle.mk_core.proofs.WordBits.{no_bit}
 use Rattle.mk_protocol.specs.Protocol.{IsIdle}
 use Rattle.mk_protocol.proofs.Actors.{Meets}
-use Rattle.mk_protocol.proofs.Known.{Known}
 use Rattle.mk_protocol.proofs.OthersMoves.{WorldBehind}
 use Rattle.mk_guard.specs.Guard.{MarkerStands}
 use Rattle.mk_images.proofs.KnownWorlds.{KnownWorld}
@@ -75,7 +73,7 @@ precise_begun c w seat T known h =
       | inl lt ↦
           let clean = all_below-at c.pages p (has_clean_page w.now.words) own lt in
           let a = and_parts ((slice_index w.now.words.marks p == 0) && (slice_index w.now.words.blacks p == 0))
-              (slice_index w.now.words.freed p == slice_index w.now.words.snapshot p) clean in
+          (slice_index w.now.words.freed p == slice_index w.now.words.snapshot p) clean in
           eqb-true (slice_index w.now.words.marks p) 0 (and_parts (slice_index w.now.words.marks p == 0) (slice_index w.now.words.blacks p == 0) a.0).0
       | inr past ↦ get_or_past w.now.words.marks p 0 (omega (arith, known.lengths.marks))
     ]

@@ -1,6 +1,5 @@
 -- The phase along a cycle: it marks up to the `close`, and stays where it is up to the `release` and the `end`.
-use Rattle.std.proofs.Common.{Bool, arith, false, inl, inr, refl, sym, true, ℕ, ◌+◌, ◌%◌, ◌∙◌, ◌≡◌, ◌≤◌, ◌⊎◌}
-use Rattle.std.specs.Prelude.{◌==◌, ◌||◌}
+use Rattle.std.proofs.Common.{arith, false, inl, inr, refl, sym, ℕ, ◌∙◌, ◌≡◌, ◌≤◌, ◌⊎◌}
 use Rattle.std.proofs.lemmas.Bool.{eqb-true, true≢false}
 use Rattle.mk_core.specs.Cycles.{is_begin, is_close, is_end, is_release}
 use Rattle.mk_core.specs.Moments.{Moment}

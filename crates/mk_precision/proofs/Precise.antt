@@ -1,24 +1,23 @@
 -- What stands while a cycle without a sweeping mark marks: all that is marked, and all that a hand holds, is touched.
-use Rattle.std.proofs.Common.{List, ap, arith, false, sym, true, ℕ, ◌+◌, ◌/◌, ◌<◌, ◌≤◌, ◌∙◌, ◌≡◌, ◌≢◌}
-use Rattle.std.specs.Prelude.{Option, Some, slice_index, slice_index_or}
+use Rattle.std.proofs.Common.{List, ap, arith, false, true, ℕ, ◌+◌, ◌/◌, ◌<◌, ◌≤◌, ◌≡◌, ◌≢◌}
+use Rattle.std.specs.Prelude.{Some, slice_index, slice_index_or}
 use Rattle.mk_never.specs.declared.values.Value.TheVariants.{Null}
 use Rattle.mk_never.specs.NeverHeap.{NeverState}
 use Rattle.mk_geom.specs.Addresses.{heap_word_at}
 use Rattle.mk_geom.specs.Headers.{header_of}
 use Rattle.mk_geom.specs.StorageWords.{IsWordOf, PointsInto}
 use Rattle.mk_core.specs.Allocations.{PlacedAllocation, cell_of_allocation, placed_at, storage_of, storage_words}
-use Rattle.mk_core.specs.Cells.{cells_under, has_no_pointers, header_in, is_leaf_header, is_marked}
+use Rattle.mk_core.specs.Cells.{cells_under, has_no_pointers, is_leaf_header, is_marked}
 use Rattle.mk_core.specs.Cycles.{is_unmarked, sweeps}
 use Rattle.mk_core.specs.History.{World, bases_of}
 use Rattle.mk_core.specs.Image.{image_of}
 use Rattle.mk_core.specs.Moments.{flight_of, marker_of}
 use Rattle.mk_core.specs.NewPlaces.{object_of}
 use Rattle.mk_core.specs.ObjectHeaders.{words_made}
-use Rattle.mk_core.specs.Touched.{IsWordOfAllocation, PointsIntoAllocation}
+use Rattle.mk_core.specs.Touched.{IsWordOfAllocation}
 use Rattle.mk_core.specs.declared.config.Config.{Config}
 use Rattle.mk_core.specs.declared.events.Seat.{Seat}
 use Rattle.mk_core.specs.declared.events.Step.{Step}
-use Rattle.mk_core.specs.declared.events.Step.TheVariants as step
 use Rattle.mk_core.specs.declared.seats.Hand.{Hand}
 use Rattle.mk_core.specs.declared.seats.Marker.{Marker}
 use Rattle.mk_core.specs.declared.seats.Scan.{Scan}
@@ -29,7 +28,7 @@ use Rattle.mk_layout.specs.Scene.{shows_on}
 use Rattle.mk_protocol.proofs.Actors.{Meets}
 use Rattle.mk_protocol.proofs.OthersMoves.{WorldBehind}
 use Rattle.mk_guard.specs.Guard.{IsMarking}
-use Rattle.mk_precision.proofs.AllocationSteps.{AreOfOne, Came, IsNew, Stayed, allocation_step, came}
+use Rattle.mk_precision.proofs.AllocationSteps.{AreOfOne, Came, allocation_step, came}
 use Rattle.mk_precision.proofs.Worlds.{Told}
 
 -- The value points into no unreleased allocation but the set's.

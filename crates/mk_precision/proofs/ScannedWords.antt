@@ -1,12 +1,11 @@
 -- A scanned word that isn't 0 is one of the unreleased allocation of the cell.
-use Rattle.std.proofs.Common.{Bool, List, ap, arith, false, inl, inr, refl, subst, sym, true, ℕ, ◌*◌, ◌+◌, ◌-◌, ◌/◌, ◌<◌, ◌≤◌, ◌∙◌, ◌≡◌, ◌≢◌}
+use Rattle.std.proofs.Common.{Bool, ap, arith, false, inl, inr, refl, subst, sym, true, ℕ, ◌*◌, ◌+◌, ◌-◌, ◌/◌, ◌<◌, ◌≤◌, ◌∙◌, ◌≡◌, ◌≢◌}
 use Rattle.std.specs.Prelude.{None, Option, Some, if◌then◌else◌}
 use Rattle.std.proofs.lemmas.Option.{none-some}
 use Rattle.std.proofs.lemmas.Bool.{cases_eq, cases_lt}
 use Rattle.std.proofs.lemmas.Nat.{mul-le}
 use Rattle.mk_never.specs.NeverHeap.{NeverState}
 use Rattle.mk_geom.specs.Addresses.{address_of, cell_at, head_page_under, is_heap_address, page_at_address}
-use Rattle.mk_geom.specs.Headers.{header_of}
 use Rattle.mk_geom.specs.StorageWords.{IsWordOf}
 use Rattle.mk_geom.specs.declared.addresses.Cell.{Cell}
 use Rattle.mk_geom.specs.declared.headers.Header.{Header}
@@ -21,7 +20,6 @@ use Rattle.mk_core.proofs.PointedAllocations.{word_points}
 use Rattle.mk_core.proofs.PointedPages.{pointed_head}
 use Rattle.mk_core.proofs.StandingAllocations.{cells_begin}
 use Rattle.mk_layout.specs.Scene.{run_count}
-use Rattle.mk_layout.specs.WholeRuns.{HasLaterPage}
 use Rattle.mk_precision.proofs.Worlds.{Told, headers, stands}
 
 -- A number lies in one of the pieces of a length.

@@ -1,14 +1,14 @@
 -- From a cycle's `close` to its `release` what is marked stays touched, and the `release` releases the rest of the snapshot.
 use Rattle.std.proofs.Common.{Bool, List, [], ap, append-nil, append_assoc, arith, false, inl, inr, refl, subst, sym, true, ℕ, ◌++◌, ◌∙◌, ◌∷◌, ◌≡◌}
-use Rattle.std.specs.Prelude.{map, not, slice_index, ◌&&◌, ◌||◌}
+use Rattle.std.specs.Prelude.{not, slice_index, ◌&&◌}
 use Rattle.std.proofs.lemmas.Bool.{cases_Bool, eqb-true, true≢false}
 use Rattle.std.specs.List.{list_any}
 use Rattle.mk_geom.specs.declared.addresses.Cell.{Cell}
 use Rattle.mk_core.specs.Allocations.{PlacedAllocation, cell_of_allocation, placed_at, with_released}
 use Rattle.mk_core.specs.Bits.{has_bit}
 use Rattle.mk_core.specs.Cells.{is_left_unmarked, is_marked}
-use Rattle.mk_core.specs.Cycles.{At, IsInSnapshot, Marking, NoneSweeps, Releasing, before_close, before_release, is_begin, is_close, is_quarantined, is_release, through}
-use Rattle.mk_core.specs.History.{IsHistory, World, left, never_behind, world_behind}
+use Rattle.mk_core.specs.Cycles.{At, NoneSweeps, Releasing, before_close, before_release, is_begin, is_close, is_release, through}
+use Rattle.mk_core.specs.History.{IsHistory, World, left, world_behind}
 use Rattle.mk_core.specs.Touched.{IsTouched}
 use Rattle.mk_core.specs.Words.{phase_of}
 use Rattle.mk_core.specs.declared.config.Config.{Config}

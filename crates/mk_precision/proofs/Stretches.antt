@@ -1,9 +1,8 @@
 -- The parts of a list around the events of a cycle, and what stands along one.
-use Rattle.std.proofs.Common.{Bool, List, [], ap, append-nil, append_assoc, false, refl, subst, sym, true, ◌++◌, ◌∙◌, ◌∷◌, ◌≡◌}
-use Rattle.std.specs.Prelude.{◌||◌}
+use Rattle.std.proofs.Common.{Bool, List, [], ap, append-nil, append_assoc, false, subst, sym, ◌++◌, ◌∙◌, ◌∷◌, ◌≡◌}
 use Rattle.std.specs.List.{list_any}
 use Rattle.std.proofs.lemmas.List.Folds.{list_any-append}
-use Rattle.mk_core.specs.Cycles.{Cycle, Marking, Releasing, before_close, before_end, before_release, through}
+use Rattle.mk_core.specs.Cycles.{Cycle, Marking, Releasing, before_close, before_end, before_release}
 use Rattle.mk_core.specs.History.{IsHistory}
 use Rattle.mk_core.specs.declared.config.Config.{Config}
 use Rattle.mk_core.specs.declared.events.Event.{Event}

@@ -1,12 +1,11 @@
 -- What is known of a world of a history, and what values and words in it point into.
-use Rattle.std.proofs.Common.{Bool, ap, arith, false, inl, inr, refl, subst, sym, true, ℕ, ◌+◌, ◌-◌, ◌/◌, ◌<◌, ◌≤◌, ◌∙◌, ◌≡◌, ◌≢◌, ◌⊎◌, ◌*◌}
-use Rattle.std.specs.Prelude.{Option, Some, nat_le, nat_lt, slice_index, ◌&&◌, ◌||◌}
-use Rattle.std.proofs.lemmas.Bool.{and_parts, eqb-true, leb-true, ltb-true, true≢false}
+use Rattle.std.proofs.Common.{ap, arith, false, inl, inr, subst, sym, true, ℕ, ◌-◌, ◌/◌, ◌<◌, ◌∙◌, ◌≡◌, ◌≢◌, ◌⊎◌, ◌*◌}
+use Rattle.std.specs.Prelude.{Option, Some, nat_le, nat_lt, slice_index}
+use Rattle.std.proofs.lemmas.Bool.{and_parts, eqb-true, leb-true, ltb-true}
 use Rattle.mk_never.specs.NeverHeap.{NeverState}
 use Rattle.mk_geom.specs.Addresses.{head_page_under, page_at_address}
 use Rattle.mk_geom.specs.Storages.{IsStorage, stands_on}
 use Rattle.mk_geom.specs.StorageWords.{IsWordOf, PointsInto}
-use Rattle.mk_geom.specs.declared.addresses.Cell.{Cell}
 use Rattle.mk_geom.specs.declared.headers.Header.{Header}
 use Rattle.mk_geom.specs.declared.headers.Header.TheVariants.{Block, Free, Later, LeafBlock, LeafRun, Run}
 use Rattle.mk_geom.proofs.Standing.{stands_at_first, stands_from}

@@ -1,5 +1,5 @@
 -- Precision: a cycle without a sweeping mark releases what it doesn't reach by pointers.
-use Rattle.std.specs.Prelude.{◌≡◌, ◌≢◌, ℕ, ◌+◌, ◌*◌, Bool, true, false, List, [], ◌∷◌, ◌++◌, Contains}
+use Rattle.std.specs.Prelude.{◌≡◌, ℕ, ◌+◌, ◌*◌, true, false, List, [], ◌∷◌, ◌++◌, Contains}
 use Rattle.mk_geom.specs.PageUses.{Nothing}
 use Rattle.mk_geom.specs.Storages.{Storage, is_small, is_cell_taken, stands_on, use_of_storages}
 use Rattle.mk_geom.specs.StorageWords.{IsWordOf}
