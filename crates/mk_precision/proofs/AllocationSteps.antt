@@ -36,7 +36,8 @@ pub data AllocationStep (xs : List PlacedAllocation) (x : Step) : List PlacedAll
   Changes : (g : PlacedAllocation → PlacedAllocation) → ChangesOne x g → AllocationStep xs x (map g xs)
   Grants : (a : PlacedAllocation) → x ≡ step.Grant → AllocationStep xs x (xs ++ a ∷ [])
 
-pub allocation_step : (c : Config) (m : Moment) (f : Flight) (x : Step) (xs : List PlacedAllocation) → AllocationStep xs x (allocations_by c m f x xs)
+pub allocation_step : (c : Config) (m : Moment) (f : Flight) (x : Step) (xs : List PlacedAllocation)
+    → AllocationStep xs x (allocations_by c m f x xs)
 allocation_step c m f step.Grant xs = Grants (granted c m f) refl
 allocation_step c m f (step.Quar p v) xs =
     Changes (freed_where_it_stands m.words (cell_freed c.pages m.words f p v)) (record {
@@ -70,7 +71,8 @@ pub data Came (xs ys : List PlacedAllocation) (x : Step) (i : ℕ) : Type 0 wher
   Stayed : (placed_at xs i).released ≡ false → AreOfOne (placed_at xs i) (placed_at ys i) → Came xs ys x i
   IsNew : x ≡ step.Grant → i ≡ length xs → Came xs ys x i
 
-pub came : (xs ys : List PlacedAllocation) (x : Step) (i : ℕ) → AllocationStep xs x ys → (placed_at ys i).released ≡ false → Came xs ys x i
+pub came : (xs ys : List PlacedAllocation) (x : Step) (i : ℕ) → AllocationStep xs x ys
+    → (placed_at ys i).released ≡ false → Came xs ys x i
 came xs _ x i Leaves u = Stayed u (record { base = refl; ty = refl })
 came xs _ x i (Changes g ch) u =
     let at = changed_at g xs i ch.places.none in
@@ -82,7 +84,8 @@ came xs _ x i (Changes g ch) u =
 came xs _ x i (Grants a grant) u = elim (cases_lt i (length xs)) [
   | inl lt ↦
       let at = earlier_at xs a i lt in
-      Stayed (ap (λ (b : PlacedAllocation). b.released) (sym at) ∙ u) (of_one_same (placed_at xs i) (placed_at (xs ++ a ∷ []) i) at)
+      Stayed (ap (λ (b : PlacedAllocation). b.released) (sym at) ∙ u)
+      (of_one_same (placed_at xs i) (placed_at (xs ++ a ∷ []) i) at)
   | inr past ↦
       let lt = is_there (xs ++ a ∷ []) i u in
       let count = length-append xs (a ∷ []) in
@@ -95,7 +98,8 @@ pub record GoesOn (xs ys : List PlacedAllocation) (x : Step) (i : ℕ) : Type 0 
   pub same : AreOfOne (placed_at xs i) (placed_at ys i)
   pub stays : is_release x ≡ false → (placed_at xs i).released ≡ false → (placed_at ys i).released ≡ false
 
-pub goes_on : (xs ys : List PlacedAllocation) (x : Step) (i : ℕ) → AllocationStep xs x ys → i < length xs → GoesOn xs ys x i
+pub goes_on : (xs ys : List PlacedAllocation) (x : Step) (i : ℕ) → AllocationStep xs x ys → i < length xs
+    → GoesOn xs ys x i
 goes_on xs _ x i Leaves lt = record { there = lt; same = record { base = refl; ty = refl }; stays = λ other u. u }
 goes_on xs _ x i (Changes g ch) lt =
     let at = changed_at g xs i ch.places.none in

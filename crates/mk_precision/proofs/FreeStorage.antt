@@ -21,7 +21,8 @@ module _ (ss : List Storage) (s : Storage) (some : 1 ≤ s.words) (run : is_smal
       apart t inside s.first (omega arith, omega arith) (omega arith, omega arith)
 
   -- a run's pages have no other's word
-  none_stands : (page : ℕ) (t : Storage) → is_small s ≡ false → stands_on page s ≡ true → Contains ss t → stands_on page t ≡ true → ⊥
+  none_stands : (page : ℕ) (t : Storage) → is_small s ≡ false → stands_on page s ≡ true → Contains ss t
+      → stands_on page t ≡ true → ⊥
   none_stands page t large own inside stands =
       let r = run large in
       let words = r.words in

@@ -37,22 +37,26 @@ record WhileReleasing (c : Config) (start more : List Event) : Type 0 where
   phase : phase_of (left c (start ++ more)).now.words ≡ 4
   older : AreOlder (left c start).allocations (left c (start ++ more)).allocations
 
-releasing_goes_on : (c : Config) (start more : List Event) (e : Event) → IsHistory c ((start ++ more) ++ e ∷ []) → is_end e.step ≡ false → WhileReleasing c start more
+releasing_goes_on : (c : Config) (start more : List Event) (e : Event) → IsHistory c ((start ++ more) ++ e ∷ [])
+    → is_end e.step ≡ false → WhileReleasing c start more
     → WhileReleasing c start (more ++ e ∷ [])
 releasing_goes_on c start more e h other at =
     let m = one_more c (start ++ more) e h in
     let w : World = left c (start ++ more) in
     let waits = releasing_waits c w.now e.seat e.step at.phase m.meets other in
-    let left_is : world_behind c w e ≡ left c (start ++ (more ++ e ∷ [])) = sym m.left ∙ ap (λ (xs : List Event). left c xs) (append_assoc start more (e ∷ [])) in
+    let left_is : world_behind c w e ≡ left c (start ++ (more ++ e ∷ [])) =
+    sym m.left ∙ ap (λ (xs : List Event). left c xs) (append_assoc start more (e ∷ [])) in
     record {
       phase = subst (λ (v : World). phase_of v.now.words ≡ 4) left_is waits.phase;
       older = subst (λ (v : World). AreOlder (left c start).allocations v.allocations) left_is
-          (older_joined (left c start).allocations w.allocations (WorldBehind c w e.seat e.step).allocations at.older (older_behind c w e.seat e.step waits.granted));
+          (older_joined (left c start).allocations w.allocations (WorldBehind c w e.seat e.step).allocations at.older
+          (older_behind c w e.seat e.step waits.granted));
     }
 
 -- what the `release`, and what comes up to the `end`, leave of the allocations before
 record Released (c : Config) {es : List Event} (k : Cycle es) : Type 0 where
-  release : AreOlder (left c (before_release k.releasing)).allocations (left c (through_release k.releasing)).allocations
+  release : AreOlder (left c (before_release k.releasing)).allocations
+      (left c (through_release k.releasing)).allocations
   end : AreOlder (left c (through_release k.releasing)).allocations (left c (through_end k)).allocations
 
 released : (c : Config) (es : List Event) (k : Cycle es) → IsHistory c es → AtRelease c k.releasing → Released c k
@@ -65,33 +69,41 @@ released c es k h at =
     let is = release_is e.step k.releasing.release.at.of_kind in
     let releasing = history_through c es front k.releasing.release.at.behind e h (at_release k.releasing) in
     let m = one_more c front e releasing in
-    let left_is : WorldBehind c w e.seat step.Release ≡ left c start = ap (λ (x : Step). WorldBehind c w e.seat x) (sym is) ∙ sym m.left in
+    let left_is : WorldBehind c w e.seat step.Release ≡ left c start =
+    ap (λ (x : Step). WorldBehind c w e.seat x) (sym is) ∙ sym m.left in
     let three = at.phase in
-    let four : phase_of (left c start).now.words ≡ 4 = subst (λ (v : World). phase_of v.now.words ≡ 4) left_is (omega arith) in
+    let four : phase_of (left c start).now.words ≡ 4 =
+    subst (λ (v : World). phase_of v.now.words ≡ 4) left_is (omega arith) in
     let same : start ++ more ≡ before_end k = append_assoc front (e ∷ []) more in
     let ending = history_through c es (before_end k) k.end.at.behind k.end.at.event h (at_end k) in
     let whole : IsHistory c (start ++ more) =
-    subst (λ (xs : List Event). IsHistory c xs) (sym same) (earlier_part_is_history c (before_end k) (k.end.at.event ∷ []) ending) in
+    subst (λ (xs : List Event). IsHistory c xs) (sym same)
+    (earlier_part_is_history c (before_end k) (k.end.at.event ∷ []) ending) in
     let first : WhileReleasing c start [] =
     record {
       phase = subst (λ (xs : List Event). phase_of (left c xs).now.words ≡ 4) (sym (append-nil start)) four;
-      older = subst (λ (xs : List Event). AreOlder (left c start).allocations (left c xs).allocations) (sym (append-nil start)) (older_same (left c start).allocations);
+      older = subst (λ (xs : List Event). AreOlder (left c start).allocations (left c xs).allocations)
+          (sym (append-nil start)) (older_same (left c start).allocations);
     } in
     let along : WhileReleasing c start more =
-    along_without c is_end (λ (xs : List Event). WhileReleasing c start xs) start [] more (λ xs d g other. releasing_goes_on c start xs d g other) whole k.end.none_before first in
+    along_without c is_end (λ (xs : List Event). WhileReleasing c start xs) start [] more
+    (λ xs d g other. releasing_goes_on c start xs d g other) whole k.end.none_before first in
     let last = one_more c (before_end k) k.end.at.event ending in
     let v : World = left c (before_end k) in
     record {
-      release = subst (λ (y : World). AreOlder w.allocations y.allocations) left_is (older_behind c w e.seat step.Release refl);
+      release = subst (λ (y : World). AreOlder w.allocations y.allocations) left_is
+          (older_behind c w e.seat step.Release refl);
       end = older_joined (left c start).allocations v.allocations (left c (through_end k)).allocations
           (subst (λ (xs : List Event). AreOlder (left c start).allocations (left c xs).allocations) same along.older)
           (subst (λ (y : World). AreOlder v.allocations y.allocations) (sym last.left)
-          (older_behind c v k.end.at.event.seat k.end.at.event.step (ap is_grant (end_is k.end.at.event.step k.end.at.of_kind))));
+          (older_behind c v k.end.at.event.seat k.end.at.event.step
+          (ap is_grant (end_is k.end.at.event.step k.end.at.of_kind))));
     }
 
 -- What is in the snapshot is unreleased up to the `release`.
 kept_to_release : (c : Config) (es : List Event) (k : Releasing es) (i : ℕ) → IsHistory c es → AtRelease c k
-    → (placed_at (left c (before_begin k.marking)).allocations i).released ≡ false → IsKept (left c (before_release k)) i
+    → (placed_at (left c (before_begin k.marking)).allocations i).released ≡ false
+    → IsKept (left c (before_release k)) i
 kept_to_release c es k i h at u =
     let b = last_begin k in
     let e : Event = k.release.at.event in
@@ -99,11 +111,13 @@ kept_to_release c es k i h at u =
     let whole = earlier_part_is_history c (before_release k) (e ∷ []) releasing in
     subst (λ (xs : List Event). IsKept (left c xs) i) (sym b.is)
     (kept_along c b.before (b.event ∷ b.behind) i (subst (λ (xs : List Event). IsHistory c xs) b.is whole)
-    (both_fail (is_release b.event.step) (list_any (λ (x : Event). is_release x.step) b.behind) (ap is_release (begin_is b.event.step b.of_kind)) at.released)
+    (both_fail (is_release b.event.step) (list_any (λ (x : Event). is_release x.step) b.behind)
+    (ap is_release (begin_is b.event.step b.of_kind)) at.released)
     (record { there = is_there (left c b.before).allocations i u; unreleased = u }))
 
 pub frees_the_untouched : OfHistories FreesTheUntouched
-frees_the_untouched c es h k unswept i quarantined untouched = counts_as_free ss (storage_of c (placed_at zs i)) some run others apart
+frees_the_untouched c es h k unswept i quarantined untouched =
+    counts_as_free ss (storage_of c (placed_at zs i)) some run others apart
   where
     r : Releasing es
     r = k.releasing
@@ -141,7 +155,9 @@ frees_the_untouched c es h k unswept i quarantined untouched = counts_as_free ss
 
     -- an allocation that was unreleased before the `release` has its storage still
     storage : (j : ℕ) → (placed_at xs j).released ≡ false → IsStorage c.pages (storage_of c (placed_at xs j))
-    storage j u = standing_has_storage c (placed_at xs j) h.within_limits (stands c (left c (before_release r)) _ (told c (before_release r) before) j u)
+    storage j u =
+        standing_has_storage c (placed_at xs j) h.within_limits
+        (stands c (left c (before_release r)) _ (told c (before_release r) before) j u)
 
     size : (j : ℕ) → (placed_at xs j).released ≡ false → 1 ≤ storage_words c (placed_at zs j)
     size j u =
@@ -177,7 +193,8 @@ frees_the_untouched c es h k unswept i quarantined untouched = counts_as_free ss
         let j : ℕ = o.number in
         let u = older.was j o.unreleased in
         let mine = same_word c (placed_at xs i) (placed_at zs i) n (older.same i kept.there) own in
-        let other = same_word c (placed_at xs j) (placed_at zs j) n (older.same j (is_there xs j u)) (subst (λ (y : Storage). IsWordOf y n) o.storage its) in
+        let other = same_word c (placed_at xs j) (placed_at zs j) n (older.same j (is_there xs j u))
+        (subst (λ (y : Storage). IsWordOf y n) o.storage its) in
         let same = allocations_are_disjoint c (before_release r) before i j n kept.unreleased u mine other in
         let gone = releases_the_untouched c es h r unswept i quarantined untouched in
         true≢false (sym gone ∙ ap (λ l. (placed_at ys l).released) same ∙ done.end.was j o.unreleased)

@@ -35,8 +35,10 @@ use Rattle.mk_precision.proofs.Worlds.{sized, stands}
 given : (f : Flight) (d r x : ℕ) → f.stage ≡ stage.Give → shown f r x ≡ x
 given f d r x at = ap (λ s. shown (record f { stage = s }) r x) at
 
-granted_points : (c : Config) (w : World) (n : NeverState) (k : ℕ) (after : NeverState) (T : ℕ → Type 0) → Steps c w n (Caller k) step.Grant after T
-    → (placed_at (WorldBehind c w (Caller k) step.Grant).allocations (length w.allocations)).released ≡ false → T (length w.allocations)
+granted_points : (c : Config) (w : World) (n : NeverState) (k : ℕ) (after : NeverState) (T : ℕ → Type 0)
+    → Steps c w n (Caller k) step.Grant after T
+    → (placed_at (WorldBehind c w (Caller k) step.Grant).allocations (length w.allocations)).released ≡ false
+    → T (length w.allocations)
 granted_points c w n k after T s u =
     s.there.registers (8 * k + d) i (u, subst (λ v. PointsInto v (storage_of c a)) (sym image) into)
   where
@@ -58,9 +60,13 @@ granted_points c w n k after T s u =
     d_small : d < 8
     d_small =
         let has = s.before.known.now.operands k in
-        let e = and_parts (nat_lt (q_of f.op) 8 && nat_lt (p_of f.op) 8 && nat_lt (r_of f.op) 8 && nat_lt d 8 && nat_lt (g_of f.op) 64) (has_type c f.op) has in
-        let g = and_parts (nat_lt (q_of f.op) 8 && nat_lt (p_of f.op) 8 && nat_lt (r_of f.op) 8 && nat_lt d 8) (nat_lt (g_of f.op) 64) e.0 in
-        ltb-true d 8 (and_parts (nat_lt (q_of f.op) 8 && nat_lt (p_of f.op) 8 && nat_lt (r_of f.op) 8) (nat_lt d 8) g.0).1
+        let e =
+        and_parts (nat_lt (q_of f.op) 8 && nat_lt (p_of f.op) 8 && nat_lt (r_of f.op) 8 && nat_lt d 8 && nat_lt
+        (g_of f.op) 64) (has_type c f.op) has in
+        let g = and_parts (nat_lt (q_of f.op) 8 && nat_lt (p_of f.op) 8 && nat_lt (r_of f.op) 8 && nat_lt d 8)
+        (nat_lt (g_of f.op) 64) e.0 in
+        ltb-true d 8 (and_parts (nat_lt (q_of f.op) 8 && nat_lt (p_of f.op) 8 && nat_lt (r_of f.op) 8)
+        (nat_lt d 8) g.0).1
 
     there : k < c.callers
     there = ltb-true k c.callers s.meets.seat
@@ -85,7 +91,9 @@ granted_points c w n k after T s u =
         omega arith
 
     flight : flight_among v.now.seats.flights k ≡ record f { stage = stage.Give }
-    flight = get_or-set_same w.now.seats.flights k (record f { stage = stage.Give }) at_rest (let count = s.before.known.now.orderly.flights in omega (arith, there))
+    flight =
+        get_or-set_same w.now.seats.flights k (record f { stage = stage.Give }) at_rest
+        (let count = s.before.known.now.orderly.flights in omega (arith, there))
 
     image : image_of (bases_of v.allocations) (slice_index_or after.registers (8 * k + d) Null) ≡ address_of base
     image =
@@ -93,19 +101,24 @@ granted_points c w n k after T s u =
         let stage : (flight_among v.now.seats.flights ((8 * k + d) / 8)).stage ≡ stage.Give =
         ap (λ j. (flight_among v.now.seats.flights j).stage) own ∙ ap (λ (x : Flight). x.stage) flight in
         sym (s.behind.all.mirrors.images.registers (8 * k + d))
-        ∙ given (flight_among v.now.seats.flights ((8 * k + d) / 8)) d ((8 * k + d) % 8) (slice_index v.now.words.registers (8 * k + d)) stage
+        ∙ given (flight_among v.now.seats.flights ((8 * k + d) / 8)) d ((8 * k + d) % 8)
+        (slice_index v.now.words.registers (8 * k + d)) stage
         ∙ word ∙ fits
 
     into : PointsInto (address_of base) (storage_of c a)
     into =
         let some = (words_within (object_placed c a) (sized c v after s.behind i u)).0 in
         let at : a.base ≡ base = ap (λ (x : PlacedAllocation). x.base) is in
-        subst (λ y. PointsInto (address_of y) (storage_of c a)) at ((address_points_into a.base (storage_of c a)).1 (omega arith, omega arith))
+        subst (λ y. PointsInto (address_of y) (storage_of c a)) at
+        ((address_points_into a.base (storage_of c a)).1 (omega arith, omega arith))
 
-pub new_is_touched : (c : Config) (w : World) (n : NeverState) (seat : Seat) (x : Step) (after : NeverState) (T : ℕ → Type 0) (i : ℕ) → Steps c w n seat x after T
-    → x ≡ step.Grant → i ≡ length w.allocations → (placed_at (WorldBehind c w seat x).allocations i).released ≡ false → T i
+pub new_is_touched : (c : Config) (w : World) (n : NeverState) (seat : Seat) (x : Step) (after : NeverState)
+    (T : ℕ → Type 0) (i : ℕ) → Steps c w n seat x after T
+    → x ≡ step.Grant → i ≡ length w.allocations → (placed_at (WorldBehind c w seat x).allocations i).released ≡ false
+    → T i
 new_is_touched c w n (Caller k) step.Grant after T i s is at u =
-    subst T (sym at) (granted_points c w n k after T s (subst (λ j. (placed_at (WorldBehind c w (Caller k) step.Grant).allocations j).released ≡ false) at u))
+    subst T (sym at) (granted_points c w n k after T s
+    (subst (λ j. (placed_at (WorldBehind c w (Caller k) step.Grant).allocations j).released ≡ false) at u))
 new_is_touched c w n (Marker k) step.Grant after T i s is at u = let kind = s.meets.kind in cc
 new_is_touched c w n Host step.Grant after T i s is at u = absurd (no_host (host_has_turn c w.now) s.meets.order)
   where
@@ -115,11 +128,13 @@ new_is_touched c w n Host step.Grant after T i s is at u = absurd (no_host (host
 new_is_touched c w n seat _ after T i s is at u = cc
 
 -- What pointed into members alone still does behind a step.
-pub points_behind : (c : Config) (w : World) (n : NeverState) (seat : Seat) (x : Step) (after : NeverState) (T : ℕ → Type 0) (v : ℕ) → Steps c w n seat x after T
+pub points_behind : (c : Config) (w : World) (n : NeverState) (seat : Seat) (x : Step) (after : NeverState)
+    (T : ℕ → Type 0) (v : ℕ) → Steps c w n seat x after T
     → PointsOnlyInto c w.allocations T v → PointsOnlyInto c (WorldBehind c w seat x).allocations T v
 points_behind c w n seat x after T v s only b points = by (came_behind c w seat x b points.0)
   where
     by : Came w.allocations (WorldBehind c w seat x).allocations x b → T b
     by (Stayed was same) =
-        only b (was, points_before c (placed_at w.allocations b) (placed_at (WorldBehind c w seat x).allocations b) v same points.1)
+        only b (was, points_before c (placed_at w.allocations b)
+        (placed_at (WorldBehind c w seat x).allocations b) v same points.1)
     by (IsNew grant at) = new_is_touched c w n seat x after T b s grant at points.0

@@ -50,7 +50,8 @@ is_of_marks (step.Mark p v) = true
 is_of_marks step.Mmark = true
 is_of_marks _ = false
 
-pub marks_same : (c : Config) (m : Moment) (seat : Seat) (x : Step) → is_of_marks x ≡ false → (Behind c m seat x).words.marks ≡ m.words.marks
+pub marks_same : (c : Config) (m : Moment) (seat : Seat) (x : Step) → is_of_marks x ≡ false
+    → (Behind c m seat x).words.marks ≡ m.words.marks
 marks_same c m seat step.Reg out = ap (λ (t : Table). t.marks) (reg_table c m seat)
 marks_same c m seat (step.Tally n v) out = ap (λ (t : Table). t.marks) (tally_table m.words n v)
 marks_same c m seat (step.Clear p) out = cc
@@ -59,31 +60,37 @@ marks_same c m seat step.Mmark out = cc
 marks_same c m seat _ out = refl
 
 -- A cell of an unreleased allocation has a header on its page.
-has_header : (c : Config) (w : World) (n : NeverState) (b : ℕ) → Told c w n → (placed_at w.allocations b).released ≡ false
+has_header : (c : Config) (w : World) (n : NeverState) (b : ℕ) → Told c w n
+    → (placed_at w.allocations b).released ≡ false
     → header_at w.now.words ((placed_at w.allocations b).base / 64) ≢ 0
 has_header c w n b t u =
     let a : PlacedAllocation = placed_at w.allocations b in
-    part_not_free (object_placed c a) 0 (header_at w.now.words (a.base / 64)) (first_page_shows c w.now.words a (sized c w n t b u) (headers c w n t b u))
+    part_not_free (object_placed c a) 0 (header_at w.now.words (a.base / 64))
+    (first_page_shows c w.now.words a (sized c w n t b u) (headers c w n t b u))
 
 -- `mark` by the hand
 
-hand_cell : (cell : Option Cell) (page value k : ℕ) → is_bit_of cell page value ≡ true → has_bit value k ≡ true → cell ≡ Some (record { page = page; index = k })
+hand_cell : (cell : Option Cell) (page value k : ℕ) → is_bit_of cell page value ≡ true → has_bit value k ≡ true
+    → cell ≡ Some (record { page = page; index = k })
 hand_cell None page value k h bit = cc
 hand_cell (Some x) page value k h bit =
     let parts = and_parts (page == x.page) (value == 2 ^ x.index) h in
     let at : page ≡ x.page = eqb-true page x.page parts.0 in
     let one : value ≡ 2 ^ x.index = eqb-true value (2 ^ x.index) parts.1 in
     let same : k ≡ x.index = bit_of_power x.index k (subst (λ y. has_bit y k ≡ true) one bit) in
-    ap (λ (p : ℕ). Some (record { page = p; index = x.index })) (sym at) ∙ ap (λ (i : ℕ). Some (record { page = page; index = i })) (sym same)
+    ap (λ (p : ℕ). Some (record { page = p; index = x.index })) (sym at)
+    ∙ ap (λ (i : ℕ). Some (record { page = page; index = i })) (sym same)
 
 -- A hand that marks, and doesn't sweep
 record MarksWith (w : Words) (pages : ℕ) (hand : Option Hand) (page value : ℕ) : Type 0 where
   holds : Hand
   there : hand ≡ Some holds
   unswept : is_unmarked holds.source ≡ false
-  cell : (k : ℕ) → has_bit value k ≡ true → pointed_cell pages w.pages holds.value ≡ Some (record { page = page; index = k })
+  cell : (k : ℕ) → has_bit value k ≡ true
+      → pointed_cell pages w.pages holds.value ≡ Some (record { page = page; index = k })
 
-hand_marks : (w : Words) (pages : ℕ) (hand : Option Hand) (page value : ℕ) → marks_by_hand pages w hand page value ≡ true
+hand_marks : (w : Words) (pages : ℕ) (hand : Option Hand) (page value : ℕ)
+    → marks_by_hand pages w hand page value ≡ true
     → is_some_and (λ (h : Hand). is_unmarked h.source) hand ≡ false → MarksWith w pages hand page value
 hand_marks w pages None page value h unswept = cc
 hand_marks w pages (Some x) page value h unswept =
@@ -99,7 +106,8 @@ left_fails true false h none = cc
 left_fails false b h none = refl
 
 -- a place that is marked has no header yet
-place_is_free : (w : Words) (o : Object) (place : Option Place) (page value : ℕ) → marks_place w o place page value ≡ true → header_at w page ≡ 0
+place_is_free : (w : Words) (o : Object) (place : Option Place) (page value : ℕ)
+    → marks_place w o place page value ≡ true → header_at w page ≡ 0
 place_is_free w o None page value h = cc
 place_is_free w o (Some x) page value h = (place_marked w o x page value h).free
 
@@ -107,21 +115,27 @@ place_is_free w o (Some x) page value h = (place_marked w o x page value h).free
 record MarksSeen (c : Config) (w : Words) (x : MarkerState) (k : ℕ) : Type 0 where
   value : ℕ
   there : x.hand ≡ Some value
-  cell : pointed_cell c.pages w.pages value ≡ Some (record { page = seen_page (cell_seen c x.seen x.hand); index = k })
+  cell : pointed_cell c.pages w.pages value
+      ≡ Some (record { page = seen_page (cell_seen c x.seen x.hand); index = k })
 
-seen_marks : (c : Config) (m : Moment) (x : MarkerState) (k : ℕ) → MarkerStands c m x → has_bit (seen_bit (cell_seen c x.seen x.hand)) k ≡ true
+seen_marks : (c : Config) (m : Moment) (x : MarkerState) (k : ℕ) → MarkerStands c m x
+    → has_bit (seen_bit (cell_seen c x.seen x.hand)) k ≡ true
     → is_some (cell_seen c x.seen x.hand) ≡ true → MarksSeen c m.words x k
 unfolding pointed_cell
 seen_marks c m x k stand bit own = by x.seen x.hand refl refl own bit
   where
-    by : (seen : Option SeenHeader) (hand : Option ℕ) → x.seen ≡ seen → x.hand ≡ hand → is_some (cell_seen c seen hand) ≡ true
+    by : (seen : Option SeenHeader) (hand : Option ℕ) → x.seen ≡ seen → x.hand ≡ hand
+        → is_some (cell_seen c seen hand) ≡ true
         → has_bit (seen_bit (cell_seen c seen hand)) k ≡ true → MarksSeen c m.words x k
     by None hand es eh own bit = cc
     by (Some q) None es eh own bit = cc
-    by (Some q) (Some value) es eh own bit = at (q.page == page_at_address value) refl (cell_at c.pages q.header value) refl own bit
+    by (Some q) (Some value) es eh own bit =
+        at (q.page == page_at_address value) refl (cell_at c.pages q.header value) refl own bit
       where
-        at : (b : Bool) → (q.page == page_at_address value) ≡ b → (y : Option Cell) → cell_at c.pages q.header value ≡ y
-            → is_some (if b then y else None) ≡ true → has_bit (seen_bit (if b then y else None)) k ≡ true → MarksSeen c m.words x k
+        at : (b : Bool) → (q.page == page_at_address value) ≡ b → (y : Option Cell)
+            → cell_at c.pages q.header value ≡ y
+            → is_some (if b then y else None) ≡ true → has_bit (seen_bit (if b then y else None)) k ≡ true
+            → MarksSeen c m.words x k
         at false e y is own bit = cc
         at true e None is own bit = cc
         at true e (Some y) is own bit =
@@ -134,9 +148,12 @@ seen_marks c m x k stand bit own = by x.seen x.hand refl refl own bit
             record {
               value = value;
               there = eh;
-              cell = ap (λ p. cell_at c.pages (header_at m.words p) value) (sym (eqb-true q.page (page_at_address value) e)) ∙ now
+              cell =
+                  ap (λ p. cell_at c.pages (header_at m.words p) value)
+                  (sym (eqb-true q.page (page_at_address value) e)) ∙ now
                   ∙ ap (λ (p : ℕ). Some (record { page = p; index = y.index })) (sym page)
-                  ∙ ap (λ (i : ℕ). Some (record { page = seen_page (cell_seen c x.seen x.hand); index = i })) (sym same);
+                  ∙ ap (λ (i : ℕ). Some (record { page = seen_page (cell_seen c x.seen x.hand); index = i }))
+                  (sym same);
             }
 
 module _ (c : Config) (w : World) (n : NeverState) (T : ℕ → Type 0) (precise : IsPrecise c w T) where
@@ -144,21 +161,26 @@ module _ (c : Config) (w : World) (n : NeverState) (T : ℕ → Type 0) (precise
   abbrev MarksTouched : Seat → Step → Type 0
   MarksTouched seat x =
       (b : ℕ) → (placed_at w.allocations b).released ≡ false
-      → has_bit (slice_index (WorldBehind c w seat x).now.words.marks (cell_of_allocation c (placed_at w.allocations b)).page)
+      → has_bit (slice_index (WorldBehind c w seat x).now.words.marks
+      (cell_of_allocation c (placed_at w.allocations b)).page)
       (cell_of_allocation c (placed_at w.allocations b)).index ≡ true → T b
 
-  mark_step : (seat : Seat) (p v : ℕ) (after : NeverState) → Steps c w n seat (step.Mark p v) after T → MarksTouched seat (step.Mark p v)
+  mark_step : (seat : Seat) (p v : ℕ) (after : NeverState) → Steps c w n seat (step.Mark p v) after T
+      → MarksTouched seat (step.Mark p v)
   mark_step seat p v after s b u bit =
       elim (more_bits w.now.words.marks p v cell.page cell.index bit) [
         | inl old ↦ precise.marked b u old
         | inr new ↦ elim (cases_Bool (marks_place w.now.words o place p v)) [
           | inl placed ↦
-              absurd (has_header c w n b s.before u (ap (λ q. header_at w.now.words q) new.0 ∙ place_is_free w.now.words o place p v placed))
+              absurd (has_header c w n b s.before u (ap (λ q. header_at w.now.words q) new.0
+              ∙ place_is_free w.now.words o place p v placed))
           | inr unplaced ↦
               let hand : Option Hand = w.now.seats.holding.hand in
               let h = hand_marks w.now.words c.pages hand p v
-              (left_holds (marks_by_hand c.pages w.now.words hand p v) (marks_place w.now.words o place p v) s.meets.holder unplaced)
-              (left_fails (is_some_and (λ (y : Hand). is_unmarked y.source) hand) (marks_place w.now.words o place p v) s.unswept unplaced) in
+              (left_holds (marks_by_hand c.pages w.now.words hand p v)
+              (marks_place w.now.words o place p v) s.meets.holder unplaced)
+              (left_fails (is_some_and (λ (y : Hand). is_unmarked y.source) hand)
+              (marks_place w.now.words o place p v) s.unswept unplaced) in
               let at : pointed_cell c.pages w.now.words.pages h.holds.value ≡ Some cell =
               h.cell cell.index new.1 ∙ ap (λ (q : ℕ). Some (record { page = q; index = cell.index })) (sym new.0) in
               precise.hand h.holds h.there h.unswept b (u, comes_back c w n s.before s.early b h.holds.value u at)
@@ -174,7 +196,8 @@ module _ (c : Config) (w : World) (n : NeverState) (T : ℕ → Type 0) (precise
       place : Option Place
       place = place_now c w.now (flight_of w.now seat)
 
-  mmark_step : (j : ℕ) (after : NeverState) → MarkerStands c w.now (marker_of w.now j) → Steps c w n (Marker j) step.Mmark after T
+  mmark_step : (j : ℕ) (after : NeverState) → MarkerStands c w.now (marker_of w.now j)
+      → Steps c w n (Marker j) step.Mmark after T
       → MarksTouched (Marker j) step.Mmark
   mmark_step j after stand s b u bit =
       elim (more_bits w.now.words.marks (seen_page y) (seen_bit y) cell.page cell.index bit) [
@@ -192,7 +215,8 @@ module _ (c : Config) (w : World) (n : NeverState) (T : ℕ → Type 0) (precise
       y : Option Cell
       y = cell_seen c (marker_of w.now j).seen (marker_of w.now j).hand
 
-  marks_touched : (seat : Seat) (x : Step) (after : NeverState) → ((j : ℕ) → MarkerStands c w.now (marker_of w.now j)) → Steps c w n seat x after T
+  marks_touched : (seat : Seat) (x : Step) (after : NeverState) → ((j : ℕ) → MarkerStands c w.now (marker_of w.now j))
+      → Steps c w n seat x after T
       → MarksTouched seat x
   marks_touched seat (step.Mark p v) after stand s b u bit = mark_step seat p v after s b u bit
   marks_touched (Marker j) step.Mmark after stand s b u bit = mmark_step j after (stand j) s b u bit
@@ -205,12 +229,15 @@ module _ (c : Config) (w : World) (n : NeverState) (T : ℕ → Type 0) (precise
     where
       rest : (x : Step) → is_of_marks x ≡ false → MarksTouched seat x
       rest x out b u bit = precise.marked b u
-          (subst (λ (ys : List ℕ). has_bit (slice_index ys (cell_of_allocation c (placed_at w.allocations b)).page) (cell_of_allocation c (placed_at w.allocations b)).index ≡ true)
+          (subst (λ (ys : List ℕ). has_bit (slice_index ys (cell_of_allocation c (placed_at w.allocations b)).page)
+          (cell_of_allocation c (placed_at w.allocations b)).index ≡ true)
           (marks_same c w.now seat x out) bit)
 
-  pub marked_behind : (seat : Seat) (x : Step) (after : NeverState) → ((j : ℕ) → MarkerStands c w.now (marker_of w.now j)) → Steps c w n seat x after T
+  pub marked_behind : (seat : Seat) (x : Step) (after : NeverState)
+      → ((j : ℕ) → MarkerStands c w.now (marker_of w.now j)) → Steps c w n seat x after T
       → (b : ℕ) → (placed_at (WorldBehind c w seat x).allocations b).released ≡ false
-      → is_marked (WorldBehind c w seat x).now.words (cell_of_allocation c (placed_at (WorldBehind c w seat x).allocations b)) ≡ true → T b
+      → is_marked (WorldBehind c w seat x).now.words
+      (cell_of_allocation c (placed_at (WorldBehind c w seat x).allocations b)) ≡ true → T b
   marked_behind seat x after stand s b u marked = by (came_behind c w seat x b u)
     where
       a : PlacedAllocation

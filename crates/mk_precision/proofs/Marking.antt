@@ -61,8 +61,10 @@ closed_at c es k front at =
     }
 
 -- one event of the marking
-moment_behind : (c : Config) (es : List Event) (k : Marking es) (front : List Event) (e : Event) → IsHistory c (front ++ e ∷ []) → LeadsToMoment k front
-    → LeadsToMoment k (front ++ e ∷ []) → is_close e.step ≡ false → sweeps c (left c front).now (flight_of (left c front).now e.seat) e.step ≡ false
+moment_behind : (c : Config) (es : List Event) (k : Marking es) (front : List Event) (e : Event)
+    → IsHistory c (front ++ e ∷ []) → LeadsToMoment k front
+    → LeadsToMoment k (front ++ e ∷ []) → is_close e.step ≡ false
+    → sweeps c (left c front).now (flight_of (left c front).now e.seat) e.step ≡ false
     → AtMoment c (IsTouched c k) front → AtMoment c (IsTouched c k) (front ++ e ∷ [])
 moment_behind c es k front e h here there other unswept at =
     let m = one_more c front e h in
@@ -75,14 +77,16 @@ moment_behind c es k front e h here there other unswept at =
       early = at.early;
       unswept = unswept;
       here = closed_at c es k front here;
-      there = subst (λ (v : World). IsClosedIn c v (never_behind c (front ++ e ∷ [])) (IsTouched c k)) m.left (closed_at c es k (front ++ e ∷ []) there);
+      there = subst (λ (v : World). IsClosedIn c v (never_behind c (front ++ e ∷ [])) (IsTouched c k)) m.left
+          (closed_at c es k (front ++ e ∷ []) there);
     } in
     let on = marking_goes_on c w.now e.seat e.step at.early m.meets other in
     record {
       history = h;
       early = subst (λ (v : World). IsMarking v.now.words) (sym m.left) on.early;
       precise = subst (λ (v : World). IsPrecise c v (IsTouched c k)) (sym m.left)
-          (precise_behind c w (never_behind c front) e.seat e.step (never_behind c (front ++ e ∷ [])) (IsTouched c k) s at.precise);
+          (precise_behind c w (never_behind c front) e.seat e.step (never_behind c (front ++ e ∷ []))
+          (IsTouched c k) s at.precise);
     }
 
 -- what stands at the end of the marking, and that no `begin` and no `release` came since
@@ -91,8 +95,10 @@ pub record Marked (c : Config) {es : List Event} (k : Marking es) (rest : List E
   pub begun : list_any (λ (e : Event). is_begin e.step) rest ≡ false
   pub released : list_any (λ (e : Event). is_release e.step) rest ≡ false
 
-along : (c : Config) (es : List Event) (k : Marking es) (done rest : List Event) → k.close.at.before ≡ done ++ rest → IsHistory c (through k.begin ++ (done ++ rest))
-    → list_any (λ (e : Event). is_close e.step) rest ≡ false → NoneSweepsFrom c (left c (through k.begin ++ done)) rest
+along : (c : Config) (es : List Event) (k : Marking es) (done rest : List Event) → k.close.at.before ≡ done ++ rest
+    → IsHistory c (through k.begin ++ (done ++ rest))
+    → list_any (λ (e : Event). is_close e.step) rest ≡ false
+    → NoneSweepsFrom c (left c (through k.begin ++ done)) rest
     → AtMoment c (IsTouched c k) (through k.begin ++ done) → Marked c k rest
 unfolding NoneSweepsFrom
 along c es k done [] is h none unswept at =
@@ -102,28 +108,34 @@ along c es k done (e ∷ rest) is h none unswept at =
     let front : List Event = first ++ done in
     let split : done ++ e ∷ rest ≡ (done ++ e ∷ []) ++ rest = sym (append_assoc done (e ∷ []) rest) in
     let longer : front ++ e ∷ [] ≡ first ++ (done ++ e ∷ []) = append_assoc first done (e ∷ []) in
-    let whole : IsHistory c (first ++ ((done ++ e ∷ []) ++ rest)) = subst (λ (xs : List Event). IsHistory c (first ++ xs)) split h in
+    let whole : IsHistory c (first ++ ((done ++ e ∷ []) ++ rest)) =
+    subst (λ (xs : List Event). IsHistory c (first ++ xs)) split h in
     let next : IsHistory c (front ++ e ∷ []) =
     subst (λ (xs : List Event). IsHistory c xs) (sym longer)
     (earlier_part_is_history c (first ++ (done ++ e ∷ [])) rest
     (subst (λ (xs : List Event). IsHistory c xs) (sym (append_assoc first (done ++ e ∷ []) rest)) whole)) in
     let here : LeadsToMoment k front = record { done = done; to_come = e ∷ rest; of_the_cycle = is; is = refl } in
-    let there : LeadsToMoment k (front ++ e ∷ []) = record { done = done ++ e ∷ []; to_come = rest; of_the_cycle = is ∙ split; is = longer } in
+    let there : LeadsToMoment k (front ++ e ∷ []) =
+    record { done = done ++ e ∷ []; to_come = rest; of_the_cycle = is ∙ split; is = longer } in
     let parts = neither (is_close e.step) (list_any (λ (x : Event). is_close x.step) rest) none in
     let m = one_more c front e next in
     let behind = moment_behind c es k front e next here there parts.0 unswept.0 at in
-    let left_is : world_behind c (left c front) e ≡ left c (first ++ (done ++ e ∷ [])) = sym m.left ∙ ap (λ (xs : List Event). left c xs) longer in
-    let end = along c es k (done ++ e ∷ []) rest (is ∙ split) whole parts.1 (subst (λ (v : World). NoneSweepsFrom c v rest) left_is unswept.1)
+    let left_is : world_behind c (left c front) e ≡ left c (first ++ (done ++ e ∷ [])) =
+    sym m.left ∙ ap (λ (xs : List Event). left c xs) longer in
+    let end = along c es k (done ++ e ∷ []) rest (is ∙ split) whole parts.1
+    (subst (λ (v : World). NoneSweepsFrom c v rest) left_is unswept.1)
     (subst (λ (xs : List Event). AtMoment c (IsTouched c k) xs) longer behind) in
     let on = marking_goes_on c (left c front).now e.seat e.step at.early m.meets parts.0 in
     record {
       at = end.at;
       begun = both_fail (is_begin e.step) (list_any (λ (x : Event). is_begin x.step) rest) on.begun end.begun;
-      released = both_fail (is_release e.step) (list_any (λ (x : Event). is_release x.step) rest) on.released end.released;
+      released = both_fail (is_release e.step)
+          (list_any (λ (x : Event). is_release x.step) rest) on.released end.released;
     }
 
 -- behind the `begin`
-at_begin : (c : Config) (es : List Event) (k : Marking es) → IsHistory c (through k.begin) → AtMoment c (IsTouched c k) (through k.begin)
+at_begin : (c : Config) (es : List Event) (k : Marking es) → IsHistory c (through k.begin)
+    → AtMoment c (IsTouched c k) (through k.begin)
 at_begin c es k h =
     let e : Event = k.begin.event in
     let m = one_more c k.begin.before e h in
@@ -131,16 +143,19 @@ at_begin c es k h =
     let is = begin_is e.step k.begin.of_kind in
     let meets : Meets c w.now e.seat step.Begin = subst (λ (x : Step). Meets c w.now e.seat x) is m.meets in
     let zero = eqb-true (phase_of w.now.words) 0 meets.phase in
-    let left_is : WorldBehind c w e.seat step.Begin ≡ left c (through k.begin) = ap (λ (x : Step). WorldBehind c w e.seat x) (sym is) ∙ sym m.left in
+    let left_is : WorldBehind c w e.seat step.Begin ≡ left c (through k.begin) =
+    ap (λ (x : Step). WorldBehind c w e.seat x) (sym is) ∙ sym m.left in
     record {
       history = h;
       early = subst (λ (v : World). IsMarking v.now.words) left_is (inl (omega arith));
       precise = subst (λ (v : World). IsPrecise c v (IsTouched c k)) left_is
-          (precise_begun c w e.seat (IsTouched c k) (known_world c k.begin.before m.history.within_limits m.history.enabled) meets);
+          (precise_begun c w e.seat (IsTouched c k)
+          (known_world c k.begin.before m.history.within_limits m.history.enabled) meets);
     }
 
 -- At the `close` all that is marked is touched.
-pub marked_at_close : (c : Config) (es : List Event) (k : Marking es) → IsHistory c (before_close k) → NoneSweepsFrom c (left c (through k.begin)) k.close.at.before
+pub marked_at_close : (c : Config) (es : List Event) (k : Marking es) → IsHistory c (before_close k)
+    → NoneSweepsFrom c (left c (through k.begin)) k.close.at.before
     → Marked c k k.close.at.before
 marked_at_close c es k h unswept =
     let first : List Event = through k.begin in

@@ -37,7 +37,8 @@ use Rattle.mk_precision.proofs.Precise.{HasNoLeaf, Steps, came_behind, same_leaf
 use Rattle.mk_precision.proofs.Worlds.{Told, headers, not_leaf, sized}
 
 -- What a header that is scanned shows.
-pub scanned_has_none : (c : Config) (w : World) (n : NeverState) (p : ℕ) → Told c w n → has_no_pointers (header_in w.now.words p) ≡ false → HasNoLeaf c (scene_of w) p
+pub scanned_has_none : (c : Config) (w : World) (n : NeverState) (p : ℕ) → Told c w n
+    → has_no_pointers (header_in w.now.words p) ≡ false → HasNoLeaf c (scene_of w) p
 scanned_has_none c w n p t scanned =
     record {
       header = (neither (is_leaf_header (header_in w.now.words p)) (is_unmapped_header (header_in w.now.words p)) scanned).0;
@@ -45,8 +46,10 @@ scanned_has_none c w n p t scanned =
     }
 
 -- A mapped allocation whose page shows no leaf isn't one.
-mapped_not_leaf : (c : Config) (w : World) (n : NeverState) (i : ℕ) → Told c w n → (placed_at w.allocations i).released ≡ false → is_mapped c (placed_at w.allocations i) ≡ true
-    → is_leaf_header (header_in w.now.words ((placed_at w.allocations i).base / 64)) ≡ false → (storage_of c (placed_at w.allocations i)).leaf ≡ false
+mapped_not_leaf : (c : Config) (w : World) (n : NeverState) (i : ℕ) → Told c w n
+    → (placed_at w.allocations i).released ≡ false → is_mapped c (placed_at w.allocations i) ≡ true
+    → is_leaf_header (header_in w.now.words ((placed_at w.allocations i).base / 64)) ≡ false
+    → (storage_of c (placed_at w.allocations i)).leaf ≡ false
 mapped_not_leaf c w n i t u mapped shown =
     let a : PlacedAllocation = placed_at w.allocations i in
     let o : Object = object_placed c a in
@@ -54,11 +57,14 @@ mapped_not_leaf c w n i t u mapped shown =
     let some = pages_some o size in
     let here : a.base / 64 + 0 ≡ a.base / 64 = omega arith in
     let made : header_at w.now.words (a.base / 64) ≡ header_made o 0 =
-    ap (λ p. header_at w.now.words p) (sym here) ∙ ((told_to_guard c w n t.known t.all).mapped i mapped).headers 0 some in
+    ap (λ p. header_at w.now.words p) (sym here)
+    ∙ ((told_to_guard c w n t.known t.all).mapped i mapped).headers 0 some in
     let x : Option Header = header_in w.now.words (a.base / 64) in
-    let on : is_unmapped_header x ≡ false = ap (λ h. is_unmapped_header (header_of h)) made ∙ made_is_mapped o 0 size some in
+    let on : is_unmapped_header x ≡ false =
+    ap (λ h. is_unmapped_header (header_of h)) made ∙ made_is_mapped o 0 size some in
     let part = first_page_shows c w.now.words a size (headers c w n t i u) in
-    (neither o.leaf (is_unmapped_header x) (sym (part_has_no_pointers o x part) ∙ ap (λ b. b || is_unmapped_header x) shown ∙ on)).0
+    (neither o.leaf (is_unmapped_header x) (sym (part_has_no_pointers o x part)
+    ∙ ap (λ b. b || is_unmapped_header x) shown ∙ on)).0
 
 -- Pages that show cells keep it that no leaf is there.
 
@@ -72,7 +78,8 @@ unmapped_no_leaf (Some (LeafBlock class)) h = cc
 unmapped_no_leaf (Some (LeafRun count)) h = cc
 
 -- a header that a `head` stores while the cycle marks
-stored_no_leaf : (c : Config) (w : World) (n : NeverState) (seat : Seat) (p v : ℕ) → Told c w n → IsMarking w.now.words → Meets c w.now seat (step.Head p v)
+stored_no_leaf : (c : Config) (w : World) (n : NeverState) (seat : Seat) (p v : ℕ) → Told c w n
+    → IsMarking w.now.words → Meets c w.now seat (step.Head p v)
     → cells_under (header_in w.now.words p) ≢ 0 → is_leaf_header (header_of v) ≡ false
 stored_no_leaf c w n seat p v t early h cells = by (head_step c w.now (flight_of w.now seat) p v h.holder)
   where
@@ -83,7 +90,8 @@ stored_no_leaf c w n seat p v t early h cells = by (head_step c w.now (flight_of
     by (ItCarves four k) =
         let from = k.next.from in
         let here : k.place.page + (p - k.place.page) ≡ p = omega arith in
-        elim (((told_to_guard c w n t.known t.all).place early seat k.place k.there).headers (p - k.place.page) k.next.near) [
+        elim (((told_to_guard c w n t.known t.all).place early seat k.place k.there).headers
+        (p - k.place.page) k.next.near) [
           | inl free ↦ absurd (cells (ap (λ y. cells_under (header_of y)) (ap (λ q. header_at w.now.words q) (sym here) ∙ free)))
           | inr made ↦ absurd (k.next.not_yet (ap (λ q. header_at w.now.words q) (sym here) ∙ made))
         ]
@@ -101,36 +109,46 @@ stored_no_leaf c w n seat p v t early h cells = by (head_step c w.now (flight_of
         elim early [ inl e ↦ absurd (omega arith) | inr e ↦ absurd (omega arith) ]
 
 module _ (c : Config) (w : World) (n : NeverState) (seat : Seat) (x : Step) (after : NeverState) (T : ℕ → Type 0) (s : Steps c w n seat x after T) where
-  header_behind : (p : ℕ) → cells_under (header_in w.now.words p) ≢ 0 → is_leaf_header (header_in w.now.words p) ≡ false
+  header_behind : (p : ℕ) → cells_under (header_in w.now.words p) ≢ 0
+      → is_leaf_header (header_in w.now.words p) ≡ false
       → is_leaf_header (header_in (WorldBehind c w seat x).now.words p) ≡ false
   header_behind p cells none = by x refl s.meets
     where
-      by : (y : Step) → x ≡ y → Meets c w.now seat y → is_leaf_header (header_in (WorldBehind c w seat y).now.words p) ≡ false
+      by : (y : Step) → x ≡ y → Meets c w.now seat y
+          → is_leaf_header (header_in (WorldBehind c w seat y).now.words p) ≡ false
       by (step.Head q v) is h = elim (cases_eq p q) [
         | inl e ↦
             let lt = ltb-true q c.pages h.range in
             let at : header_at (WorldBehind c w seat (step.Head q v)).now.words p ≡ v =
-            ap (λ i. (slice_index_or (slice_set w.now.words.pages q (record { header = v; used = used_at w.now.words q })) i free_page).header) e
-            ∙ ap (λ (y : Page). y.header) (get_or-set_same w.now.words.pages q (record { header = v; used = used_at w.now.words q }) free_page
+            ap (λ i. (slice_index_or
+            (slice_set w.now.words.pages q
+            (record { header = v; used = used_at w.now.words q })) i free_page).header) e
+            ∙ ap (λ (y : Page). y.header)
+            (get_or-set_same w.now.words.pages q (record { header = v; used = used_at w.now.words q }) free_page
             (omega (arith, lt, s.before.known.lengths.pages))) in
             ap (λ y. is_leaf_header (header_of y)) at
-            ∙ stored_no_leaf c w n seat q v s.before s.early h (subst (λ i. cells_under (header_in w.now.words i) ≢ 0) e cells)
+            ∙ stored_no_leaf c w n seat q v s.before s.early h
+            (subst (λ i. cells_under (header_in w.now.words i) ≢ 0) e cells)
         | inr ne ↦
             ap (λ (y : Page). is_leaf_header (header_of y.header))
-            (get_or-set_other w.now.words.pages q p (record { header = v; used = used_at w.now.words q }) free_page ne) ∙ none
+            (get_or-set_other w.now.words.pages q p
+            (record { header = v; used = used_at w.now.words q }) free_page ne) ∙ none
       ]
       by y is h = rest y refl
         where
-          rest : (y : Step) → is_head y ≡ false → is_leaf_header (header_in (WorldBehind c w seat y).now.words p) ≡ false
+          rest : (y : Step) → is_head y ≡ false
+              → is_leaf_header (header_in (WorldBehind c w seat y).now.words p) ≡ false
           rest y out = ap (λ z. is_leaf_header (header_of z)) (headers_kind c w.now seat y out p) ∙ none
 
-  pub no_leaf_behind : (p : ℕ) → cells_under (header_in w.now.words p) ≢ 0 → HasNoLeaf c (scene_of w) p → HasNoLeaf c (scene_of (WorldBehind c w seat x)) p
+  pub no_leaf_behind : (p : ℕ) → cells_under (header_in w.now.words p) ≢ 0 → HasNoLeaf c (scene_of w) p
+      → HasNoLeaf c (scene_of (WorldBehind c w seat x)) p
   no_leaf_behind p cells none = record { header = header_behind p cells none.header; allocations = λ a u at. by a u at (came_behind c w seat x a u) }
     where
       v : World
       v = WorldBehind c w seat x
 
-      by : (a : ℕ) → (placed_at v.allocations a).released ≡ false → (placed_at v.allocations a).base / 64 ≡ p → Came w.allocations v.allocations x a
+      by : (a : ℕ) → (placed_at v.allocations a).released ≡ false → (placed_at v.allocations a).base / 64 ≡ p
+          → Came w.allocations v.allocations x a
           → (storage_of c (placed_at v.allocations a)).leaf ≡ false
       by a u at (Stayed was same) =
           same_leaf c (placed_at w.allocations a) (placed_at v.allocations a) same
@@ -139,8 +157,11 @@ module _ (c : Config) (w : World) (n : NeverState) (seat : Seat) (x : Step) (aft
           mapped_not_leaf c v after a s.behind u (new_is_mapped a grant is)
           (ap (λ q. is_leaf_header (header_in v.now.words q)) at ∙ header_behind p cells none.header)
         where
-          new_is_mapped : (a : ℕ) → x ≡ step.Grant → a ≡ length w.allocations → is_mapped c (placed_at v.allocations a) ≡ true
+          new_is_mapped : (a : ℕ) → x ≡ step.Grant → a ≡ length w.allocations
+              → is_mapped c (placed_at v.allocations a) ≡ true
           new_is_mapped a grant is =
               ap (λ (i : ℕ). is_mapped c (placed_at v.allocations i)) is
-              ∙ ap (λ (y : Step). is_mapped c (placed_at (WorldBehind c w seat y).allocations (length w.allocations))) grant
-              ∙ ap (λ (y : PlacedAllocation). is_mapped c y) (granted_at w.allocations (granted c w.now (flight_of w.now seat)))
+              ∙ ap (λ (y : Step). is_mapped c
+              (placed_at (WorldBehind c w seat y).allocations (length w.allocations))) grant
+              ∙ ap (λ (y : PlacedAllocation). is_mapped c y)
+              (granted_at w.allocations (granted c w.now (flight_of w.now seat)))

@@ -29,14 +29,18 @@ older_joined xs ys zs a b =
     record {
       was = λ j u. a.was j (b.was j u);
       there = λ i lt. b.there i (a.there i lt);
-      same = λ i lt. of_one_joined (placed_at xs i) (placed_at ys i) (placed_at zs i) (a.same i lt) (b.same i (a.there i lt));
+      same = λ i lt. of_one_joined (placed_at xs i) (placed_at ys i) (placed_at zs i) (a.same i lt)
+          (b.same i (a.there i lt));
     }
 
-goes_on_behind : (c : Config) (w : World) (seat : Seat) (x : Step) (i : ℕ) → i < length w.allocations → GoesOn w.allocations (WorldBehind c w seat x).allocations x i
+goes_on_behind : (c : Config) (w : World) (seat : Seat) (x : Step) (i : ℕ) → i < length w.allocations
+    → GoesOn w.allocations (WorldBehind c w seat x).allocations x i
 goes_on_behind c w seat x i lt =
-    goes_on w.allocations (WorldBehind c w seat x).allocations x i (allocation_step c w.now (flight_of w.now seat) x w.allocations) lt
+    goes_on w.allocations (WorldBehind c w seat x).allocations x i
+    (allocation_step c w.now (flight_of w.now seat) x w.allocations) lt
 
-pub older_behind : (c : Config) (w : World) (seat : Seat) (x : Step) → is_grant x ≡ false → AreOlder w.allocations (WorldBehind c w seat x).allocations
+pub older_behind : (c : Config) (w : World) (seat : Seat) (x : Step) → is_grant x ≡ false
+    → AreOlder w.allocations (WorldBehind c w seat x).allocations
 older_behind c w seat x other =
     record {
       was = λ j u. by j (came_behind c w seat x j u);
@@ -44,7 +48,8 @@ older_behind c w seat x other =
       same = λ i lt. (goes_on_behind c w seat x i lt).same;
     }
   where
-    by : (j : ℕ) → Came w.allocations (WorldBehind c w seat x).allocations x j → (placed_at w.allocations j).released ≡ false
+    by : (j : ℕ) → Came w.allocations (WorldBehind c w seat x).allocations x j
+        → (placed_at w.allocations j).released ≡ false
     by j (Stayed was same) = was
     by j (IsNew grant at) = absurd (true≢false (sym (ap is_grant grant) ∙ other))
 
@@ -54,17 +59,22 @@ pub record IsKept (w : World) (i : ℕ) : Type 0 where
   pub unreleased : (placed_at w.allocations i).released ≡ false
 
 -- It stays so behind events that aren't a `release`.
-pub kept_along : (c : Config) (start rest : List Event) (i : ℕ) → IsHistory c (start ++ rest) → None_of is_release rest → IsKept (left c start) i
+pub kept_along : (c : Config) (start rest : List Event) (i : ℕ) → IsHistory c (start ++ rest)
+    → None_of is_release rest → IsKept (left c start) i
     → IsKept (left c (start ++ rest)) i
 kept_along c start rest i h none kept =
     along_without c is_release (λ (more : List Event). IsKept (left c (start ++ more)) i) start [] rest
-    (λ more e g other at. next more e g other at) h none (subst (λ (xs : List Event). IsKept (left c xs) i) (sym (append-nil start)) kept)
+    (λ more e g other at. next more e g other at) h none
+    (subst (λ (xs : List Event). IsKept (left c xs) i) (sym (append-nil start)) kept)
   where
-    next : (more : List Event) (e : Event) → IsHistory c ((start ++ more) ++ e ∷ []) → is_release e.step ≡ false → IsKept (left c (start ++ more)) i
+    next : (more : List Event) (e : Event) → IsHistory c ((start ++ more) ++ e ∷ []) → is_release e.step ≡ false
+        → IsKept (left c (start ++ more)) i
         → IsKept (left c (start ++ (more ++ e ∷ []))) i
     next more e g other at =
         let w : World = left c (start ++ more) in
         let m = one_more c (start ++ more) e g in
         let on = goes_on_behind c w e.seat e.step i at.there in
-        let left_is : world_behind c w e ≡ left c (start ++ (more ++ e ∷ [])) = sym m.left ∙ ap (λ (xs : List Event). left c xs) (append_assoc start more (e ∷ [])) in
-        subst (λ (v : World). IsKept v i) left_is (record { there = on.there; unreleased = on.stays other at.unreleased })
+        let left_is : world_behind c w e ≡ left c (start ++ (more ++ e ∷ [])) =
+        sym m.left ∙ ap (λ (xs : List Event). left c xs) (append_assoc start more (e ∷ [])) in
+        subst (λ (v : World). IsKept v i) left_is
+        (record { there = on.there; unreleased = on.stays other at.unreleased })

@@ -36,14 +36,16 @@ idle_stands : (c : Config) (m : Moment) (x : MarkerState) → IsIdle x → Marke
 idle_stands c m x idle =
     record { scan = λ z is. absurd (none-some _ (sym idle.scan ∙ is)); seen = λ z is. absurd (none-some _ (sym idle.seen ∙ is)) }
 
-markers_stand : (c : Config) (w : World) (n : NeverState) (seat : Seat) (x : Step) (after : NeverState) (T : ℕ → Type 0) → Steps c w n seat x after T
+markers_stand : (c : Config) (w : World) (n : NeverState) (seat : Seat) (x : Step) (after : NeverState)
+    (T : ℕ → Type 0) → Steps c w n seat x after T
     → (j : ℕ) → MarkerStands c w.now (marker_of w.now j)
 markers_stand c w n seat x after T s j = elim (cases_Bool (is_attending (marker_of w.now j).presence)) [
   | inl at ↦ (s.before.all.marks.guarded s.early).markers j at
   | inr out ↦ idle_stands c w.now (marker_of w.now j) (s.before.known.now.orderly.idle j out)
 ]
 
-pub precise_behind : (c : Config) (w : World) (n : NeverState) (seat : Seat) (x : Step) (after : NeverState) (T : ℕ → Type 0) → Steps c w n seat x after T
+pub precise_behind : (c : Config) (w : World) (n : NeverState) (seat : Seat) (x : Step) (after : NeverState)
+    (T : ℕ → Type 0) → Steps c w n seat x after T
     → IsPrecise c w T → IsPrecise c (WorldBehind c w seat x) T
 precise_behind c w n seat x after T s precise =
     let stand = markers_stand c w n seat x after T s in
@@ -54,13 +56,15 @@ precise_behind c w n seat x after T s precise =
     }
 
 -- behind `begin`
-pub precise_begun : (c : Config) (w : World) (seat : Seat) (T : ℕ → Type 0) → KnownWorld c w → Meets c w.now seat step.Begin
+pub precise_begun : (c : Config) (w : World) (seat : Seat) (T : ℕ → Type 0) → KnownWorld c w
+    → Meets c w.now seat step.Begin
     → IsPrecise c (WorldBehind c w seat step.Begin) T
 precise_begun c w seat T known h =
     record {
       marked = λ b u is.
           let cell : Cell = cell_of_allocation c (placed_at (WorldBehind c w seat step.Begin).allocations b) in
-          absurd (true≢false (sym is ∙ no_bit (slice_index w.now.words.marks cell.page) cell.index (unmarked cell.page)));
+          absurd (true≢false (sym is
+          ∙ no_bit (slice_index w.now.words.marks cell.page) cell.index (unmarked cell.page)));
       hand = λ k is. absurd (none-some _ is);
       markers = λ j. by seat h j;
     }
@@ -74,7 +78,8 @@ precise_begun c w seat T known h =
           let clean = all_below-at c.pages p (has_clean_page w.now.words) own lt in
           let a = and_parts ((slice_index w.now.words.marks p == 0) && (slice_index w.now.words.blacks p == 0))
           (slice_index w.now.words.freed p == slice_index w.now.words.snapshot p) clean in
-          eqb-true (slice_index w.now.words.marks p) 0 (and_parts (slice_index w.now.words.marks p == 0) (slice_index w.now.words.blacks p == 0) a.0).0
+          eqb-true (slice_index w.now.words.marks p) 0
+          (and_parts (slice_index w.now.words.marks p == 0) (slice_index w.now.words.blacks p == 0) a.0).0
       | inr past ↦ get_or_past w.now.words.marks p 0 (omega (arith, known.lengths.marks))
     ]
 
@@ -87,7 +92,8 @@ precise_begun c w seat T known h =
     ]
 
     by : (seat : Seat) → Meets c w.now seat step.Begin → (j : ℕ)
-        → MarkerIsPrecise c (scene_of (WorldBehind c w seat step.Begin)) T (marker_of (WorldBehind c w seat step.Begin).now j)
+        → MarkerIsPrecise c (scene_of (WorldBehind c w seat step.Begin)) T
+        (marker_of (WorldBehind c w seat step.Begin).now j)
     by (Caller k) on j = quiet j (scene_of (WorldBehind c w (Caller k) step.Begin))
     by Host on j = quiet j (scene_of (WorldBehind c w Host step.Begin))
     by (Marker k) on j = let kind = on.kind in cc

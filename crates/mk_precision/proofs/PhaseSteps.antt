@@ -34,14 +34,20 @@ not_at n p (inr e) at (inl z) = absurd (omega arith)
 not_at n p (inr e) at (inr le) = absurd (omega arith)
 
 -- While it marks, what isn't a `close` leaves it marking.
-pub marking_goes_on : (c : Config) (m : Moment) (seat : Seat) (x : Step) → IsMarking m.words → Meets c m seat x → is_close x ≡ false → GoesOnMarking c m seat x
-marking_goes_on c m seat step.Begin early h other = absurd (not_at (phase_of m.words) 0 early (eqb-true (phase_of m.words) 0 h.phase) (inl refl))
-marking_goes_on c m seat step.Want early h other = let one = eqb-true (phase_of m.words) 1 h.phase in record { early = inr (omega arith); begun = refl; released = refl }
+pub marking_goes_on : (c : Config) (m : Moment) (seat : Seat) (x : Step) → IsMarking m.words → Meets c m seat x
+    → is_close x ≡ false → GoesOnMarking c m seat x
+marking_goes_on c m seat step.Begin early h other =
+    absurd (not_at (phase_of m.words) 0 early (eqb-true (phase_of m.words) 0 h.phase) (inl refl))
+marking_goes_on c m seat step.Want early h other =
+    let one =
+    eqb-true (phase_of m.words) 1 h.phase in record { early = inr (omega arith); begun = refl; released = refl }
 marking_goes_on c m seat step.Close early h other = cc
 marking_goes_on c m seat step.Release early h other =
     absurd (not_at (phase_of m.words) 3 early (eqb-true (phase_of m.words) 3 h.phase) (inr (omega arith)))
-marking_goes_on c m seat step.End early h other = absurd (not_at (phase_of m.words) 4 early (eqb-true (phase_of m.words) 4 h.phase) (inr (omega arith)))
-marking_goes_on c m seat step.Over early h other = absurd (not_at (phase_of m.words) 0 early (over_phase c m seat h) (inl refl))
+marking_goes_on c m seat step.End early h other =
+    absurd (not_at (phase_of m.words) 4 early (eqb-true (phase_of m.words) 4 h.phase) (inr (omega arith)))
+marking_goes_on c m seat step.Over early h other =
+    absurd (not_at (phase_of m.words) 0 early (over_phase c m seat h) (inl refl))
 marking_goes_on c m seat x early h other = rest x refl
   where
     rest : (x : Step) → is_phase_step x ≡ false → GoesOnMarking c m seat x
@@ -60,8 +66,10 @@ waits : (c : Config) (m : Moment) (seat : Seat) (x : Step) (p : ℕ) → 3 ≤ p
 waits c m seat step.Begin p late at h out past = let z = eqb-true (phase_of m.words) 0 h.phase in absurd (omega arith)
 waits c m seat step.Want p late at h out past = let z = eqb-true (phase_of m.words) 1 h.phase in absurd (omega arith)
 waits c m seat step.Close p late at h out past = let z = eqb-true (phase_of m.words) 2 h.phase in absurd (omega arith)
-waits c m seat step.Release p late at h out past = absurd (true≢false (out (sym at ∙ eqb-true (phase_of m.words) 3 h.phase)))
-waits c m seat step.End p late at h out past = absurd (true≢false (past (sym at ∙ eqb-true (phase_of m.words) 4 h.phase)))
+waits c m seat step.Release p late at h out past =
+    absurd (true≢false (out (sym at ∙ eqb-true (phase_of m.words) 3 h.phase)))
+waits c m seat step.End p late at h out past =
+    absurd (true≢false (past (sym at ∙ eqb-true (phase_of m.words) 4 h.phase)))
 waits c m seat step.Over p late at h out past = let z = over_phase c m seat h in absurd (omega arith)
 waits c m seat step.Grant p late at h out past =
     elim (either_phase (phase_of m.words) 0 1 h.phase) [ inl e ↦ absurd (omega arith) | inr e ↦ absurd (omega arith) ]
@@ -70,10 +78,12 @@ waits c m seat x p late at h out past = rest x refl refl
     rest : (x : Step) → is_phase_step x ≡ false → is_grant x ≡ false → Waits c m seat x p
     rest x stays other = record { phase = phase_stays c m seat x stays ∙ at; begun = none_begins x stays; granted = other }
 
-pub stopped_waits : (c : Config) (m : Moment) (seat : Seat) (x : Step) → phase_of m.words ≡ 3 → Meets c m seat x → is_release x ≡ false
+pub stopped_waits : (c : Config) (m : Moment) (seat : Seat) (x : Step) → phase_of m.words ≡ 3 → Meets c m seat x
+    → is_release x ≡ false
     → Waits c m seat x 3
 stopped_waits c m seat x at h other = waits c m seat x 3 (omega arith) at h (λ e. other) (λ e. absurd (omega arith))
 
-pub releasing_waits : (c : Config) (m : Moment) (seat : Seat) (x : Step) → phase_of m.words ≡ 4 → Meets c m seat x → is_end x ≡ false
+pub releasing_waits : (c : Config) (m : Moment) (seat : Seat) (x : Step) → phase_of m.words ≡ 4 → Meets c m seat x
+    → is_end x ≡ false
     → Waits c m seat x 4
 releasing_waits c m seat x at h other = waits c m seat x 4 (omega arith) at h (λ e. absurd (omega arith)) (λ e. other)

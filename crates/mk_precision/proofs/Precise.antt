@@ -33,13 +33,16 @@ use Rattle.mk_precision.proofs.Worlds.{Told}
 
 -- The value points into no unreleased allocation but the set's.
 abbrev pub PointsOnlyInto : Config → List PlacedAllocation → (ℕ → Type 0) → ℕ → Type 0
-PointsOnlyInto c xs T v = (b : ℕ) → ((placed_at xs b).released ≡ false) × PointsInto v (storage_of c (placed_at xs b)) → T b
+PointsOnlyInto c xs T v =
+    (b : ℕ) → ((placed_at xs b).released ≡ false) × PointsInto v (storage_of c (placed_at xs b)) → T b
 
 -- In one world the set has what roots point into, and what a word of a member does.
 pub record IsClosedIn (c : Config) (w : World) (n : NeverState) (T : ℕ → Type 0) : Type 0 where
-  pub registers : (i : ℕ) → PointsOnlyInto c w.allocations T (image_of (bases_of w.allocations) (slice_index_or n.registers i Null))
+  pub registers : (i : ℕ)
+      → PointsOnlyInto c w.allocations T (image_of (bases_of w.allocations) (slice_index_or n.registers i Null))
   pub globals : (g : ℕ) → PointsOnlyInto c w.allocations T (slice_index w.now.words.globals g)
-  pub words : (a x : ℕ) → T a → IsWordOfAllocation c w x a → PointsOnlyInto c w.allocations T (slice_index w.now.words.heap x)
+  pub words : (a x : ℕ) → T a → IsWordOfAllocation c w x a
+      → PointsOnlyInto c w.allocations T (slice_index w.now.words.heap x)
 
 -- what is read of a world
 pub record Scene : Type 0 where
@@ -59,17 +62,20 @@ pub record HasNoLeaf (c : Config) (s : Scene) (p : ℕ) : Type 0 where
 pub record MarkerIsPrecise (c : Config) (s : Scene) (T : ℕ → Type 0) (x : Marker) : Type 0 where
   pub hand : (v : ℕ) → x.hand ≡ Some v → PointsOnlyInto c s.allocations T v
   pub scan : (z : Scan) → x.scan ≡ Some z → z.next < z.end → HasNoLeaf c s z.page
-  pub seen : (z : SeenHeader) → x.seen ≡ Some z → cells_under (header_of z.header) ≢ 0 → has_no_pointers (header_of z.header) ≡ false
+  pub seen : (z : SeenHeader) → x.seen ≡ Some z → cells_under (header_of z.header) ≢ 0
+      → has_no_pointers (header_of z.header) ≡ false
       → HasNoLeaf c s z.page
 
 pub record IsPrecise (c : Config) (w : World) (T : ℕ → Type 0) : Type 0 where
   pub marked : (b : ℕ) → (placed_at w.allocations b).released ≡ false
       → is_marked w.now.words (cell_of_allocation c (placed_at w.allocations b)) ≡ true → T b
-  pub hand : (h : Hand) → w.now.seats.holding.hand ≡ Some h → is_unmarked h.source ≡ false → PointsOnlyInto c w.allocations T h.value
+  pub hand : (h : Hand) → w.now.seats.holding.hand ≡ Some h → is_unmarked h.source ≡ false
+      → PointsOnlyInto c w.allocations T h.value
   pub markers : (j : ℕ) → MarkerIsPrecise c (scene_of w) T (marker_of w.now j)
 
 -- one step while the cycle marks, which isn't a sweeping mark, between two worlds in which the set is closed
-pub record Steps (c : Config) (w : World) (n : NeverState) (seat : Seat) (x : Step) (after : NeverState) (T : ℕ → Type 0) : Type 0 where
+pub record Steps (c : Config) (w : World) (n : NeverState) (seat : Seat) (x : Step) (after : NeverState)
+    (T : ℕ → Type 0) : Type 0 where
   pub before : Told c w n
   pub behind : Told c (WorldBehind c w seat x) after
   pub meets : Meets c w.now seat x
@@ -85,7 +91,8 @@ same_words c a b e = ap (λ t. words_made (object_of (kinds_of c.types t))) e.ty
 pub same_leaf : (c : Config) (a b : PlacedAllocation) → AreOfOne a b → (storage_of c b).leaf ≡ (storage_of c a).leaf
 same_leaf c a b e = ap (λ t. (object_of (kinds_of c.types t)).leaf) e.ty
 
-pub same_word : (c : Config) (a b : PlacedAllocation) (x : ℕ) → AreOfOne a b → IsWordOf (storage_of c b) x → IsWordOf (storage_of c a) x
+pub same_word : (c : Config) (a b : PlacedAllocation) (x : ℕ) → AreOfOne a b → IsWordOf (storage_of c b) x
+    → IsWordOf (storage_of c a) x
 same_word c a b x e word =
     let words = same_words c a b e in
     let base = e.base in
@@ -93,10 +100,14 @@ same_word c a b x e word =
     let to : x < b.base + storage_words c b = word.1 in
     (omega arith, omega arith)
 
-pub points_before : (c : Config) (a b : PlacedAllocation) (v : ℕ) → AreOfOne a b → PointsInto v (storage_of c b) → PointsInto v (storage_of c a)
+pub points_before : (c : Config) (a b : PlacedAllocation) (v : ℕ) → AreOfOne a b → PointsInto v (storage_of c b)
+    → PointsInto v (storage_of c a)
 points_before c a b v e into = (into.0, same_word c a b (heap_word_at v) e into.1)
 
 -- An unreleased allocation behind a step came with it, or was there before.
-pub came_behind : (c : Config) (w : World) (seat : Seat) (x : Step) (i : ℕ) → (placed_at (WorldBehind c w seat x).allocations i).released ≡ false
+pub came_behind : (c : Config) (w : World) (seat : Seat) (x : Step) (i : ℕ)
+    → (placed_at (WorldBehind c w seat x).allocations i).released ≡ false
     → Came w.allocations (WorldBehind c w seat x).allocations x i
-came_behind c w seat x i u = came w.allocations (WorldBehind c w seat x).allocations x i (allocation_step c w.now (flight_of w.now seat) x w.allocations) u
+came_behind c w seat x i u =
+    came w.allocations (WorldBehind c w seat x).allocations x i
+    (allocation_step c w.now (flight_of w.now seat) x w.allocations) u

@@ -40,7 +40,8 @@ use Rattle.mk_precision.proofs.Worlds.{headers, stands}
 -- All that is marked is of the set.
 abbrev pub IsMarkedOnly : Config → World → (ℕ → Type 0) → Type 0
 IsMarkedOnly c w T =
-    (b : ℕ) → (placed_at w.allocations b).released ≡ false → is_marked w.now.words (cell_of_allocation c (placed_at w.allocations b)) ≡ true → T b
+    (b : ℕ) → (placed_at w.allocations b).released ≡ false → is_marked w.now.words
+    (cell_of_allocation c (placed_at w.allocations b)) ≡ true → T b
 
 -- what stands so many events behind the `close`
 record AtStop (c : Config) (T : ℕ → Type 0) (start more : List Event) : Type 0 where
@@ -52,7 +53,8 @@ not_granted : (x : Step) → is_grant x ≡ false → x ≡ step.Grant → ⊥
 not_granted x out is = true≢false (sym (ap is_grant is) ∙ out)
 
 -- one event that isn't the `release`
-stop_behind : (c : Config) (w : World) (seat : Seat) (x : Step) (T : ℕ → Type 0) → Known c w.now → phase_of w.now.words ≡ 3 → Meets c w.now seat x
+stop_behind : (c : Config) (w : World) (seat : Seat) (x : Step) (T : ℕ → Type 0) → Known c w.now
+    → phase_of w.now.words ≡ 3 → Meets c w.now seat x
     → is_release x ≡ false → IsMarkedOnly c w T → IsMarkedOnly c (WorldBehind c w seat x) T
 stop_behind c w seat x T known three h other marked b u is = by (came_behind c w seat x b u)
   where
@@ -66,25 +68,31 @@ stop_behind c w seat x T known three h other marked b u is = by (came_behind c w
     by (IsNew grant at) = absurd (not_granted x (stopped_waits c w.now seat x three h other).granted grant)
     by (Stayed was same) =
         let still = (leaves_closed c w.now seat x known three h).marks in
-        let here : is_marked w.now.words cell ≡ true = subst (λ (ys : List ℕ). has_bit (slice_index ys cell.page) cell.index ≡ true) still is in
-        marked b was (subst (λ (y : Cell). is_marked w.now.words y ≡ true) (same_cell c (placed_at w.allocations b) a same.base same.ty) here)
+        let here : is_marked w.now.words cell ≡ true =
+        subst (λ (ys : List ℕ). has_bit (slice_index ys cell.page) cell.index ≡ true) still is in
+        marked b was (subst (λ (y : Cell). is_marked w.now.words y ≡ true)
+        (same_cell c (placed_at w.allocations b) a same.base same.ty) here)
 
-stop_goes_on : (c : Config) (T : ℕ → Type 0) (start more : List Event) (e : Event) → IsHistory c ((start ++ more) ++ e ∷ []) → is_release e.step ≡ false
+stop_goes_on : (c : Config) (T : ℕ → Type 0) (start more : List Event) (e : Event)
+    → IsHistory c ((start ++ more) ++ e ∷ []) → is_release e.step ≡ false
     → AtStop c T start more → AtStop c T start (more ++ e ∷ [])
 stop_goes_on c T start more e h other at =
     let m = one_more c (start ++ more) e h in
     let w : World = left c (start ++ more) in
     let waits = stopped_waits c w.now e.seat e.step at.phase m.meets other in
-    let left_is : world_behind c w e ≡ left c (start ++ (more ++ e ∷ [])) = sym m.left ∙ ap (λ (xs : List Event). left c xs) (append_assoc start more (e ∷ [])) in
+    let left_is : world_behind c w e ≡ left c (start ++ (more ++ e ∷ [])) =
+    sym m.left ∙ ap (λ (xs : List Event). left c xs) (append_assoc start more (e ∷ [])) in
     record {
       phase = subst (λ (v : World). phase_of v.now.words ≡ 3) left_is waits.phase;
       marked = subst (λ (v : World). IsMarkedOnly c v T) left_is
-          (stop_behind c w e.seat e.step T (told c (start ++ more) m.history).known.now at.phase m.meets other at.marked);
+          (stop_behind c w e.seat e.step T
+          (told c (start ++ more) m.history).known.now at.phase m.meets other at.marked);
       begun = none_joined is_begin more (e ∷ []) at.begun (both_fail (is_begin e.step) false waits.begun refl);
     }
 
 -- behind the `close`
-stop_begins : (c : Config) (T : ℕ → Type 0) (front : List Event) (e : Event) → IsHistory c (front ++ e ∷ []) → is_close e.step ≡ true
+stop_begins : (c : Config) (T : ℕ → Type 0) (front : List Event) (e : Event) → IsHistory c (front ++ e ∷ [])
+    → is_close e.step ≡ true
     → IsMarkedOnly c (left c front) T → AtStop c T (front ++ e ∷ []) []
 stop_begins c T front e h kind marked =
     let m = one_more c front e h in
@@ -93,7 +101,8 @@ stop_begins c T front e h kind marked =
     let meets : Meets c w.now e.seat step.Close = subst (λ (x : Step). Meets c w.now e.seat x) is m.meets in
     let two = eqb-true (phase_of w.now.words) 2 meets.phase in
     let left_is : WorldBehind c w e.seat step.Close ≡ left c ((front ++ e ∷ []) ++ []) =
-    ap (λ (x : Step). WorldBehind c w e.seat x) (sym is) ∙ sym m.left ∙ ap (λ (xs : List Event). left c xs) (sym (append-nil (front ++ e ∷ []))) in
+    ap (λ (x : Step). WorldBehind c w e.seat x) (sym is) ∙ sym m.left
+    ∙ ap (λ (xs : List Event). left c xs) (sym (append-nil (front ++ e ∷ []))) in
     record {
       phase = subst (λ (v : World). phase_of v.now.words ≡ 3) left_is (omega arith);
       marked = subst (λ (v : World). IsMarkedOnly c v T) left_is marked;
@@ -107,7 +116,8 @@ pub record AtRelease (c : Config) {es : List Event} (k : Releasing es) : Type 0 
   pub begun : None_of is_begin (k.marking.close.at.before ++ k.marking.close.at.event ∷ k.release.at.before)
   pub released : None_of is_release (k.marking.close.at.before ++ k.marking.close.at.event ∷ k.release.at.before)
 
-pub at_the_release : (c : Config) (es : List Event) (k : Releasing es) → IsHistory c es → NoneSweeps c k.marking → AtRelease c k
+pub at_the_release : (c : Config) (es : List Event) (k : Releasing es) → IsHistory c es → NoneSweeps c k.marking
+    → AtRelease c k
 at_the_release c es k h unswept =
     let e : Event = k.marking.close.at.event in
     let front : List Event = before_close k.marking in
@@ -118,7 +128,8 @@ at_the_release c es k h unswept =
     let same : (front ++ e ∷ []) ++ more ≡ before_release k = append_assoc front (e ∷ []) more in
     let releasing = history_through c es (before_release k) k.release.at.behind k.release.at.event h (at_release k) in
     let whole : IsHistory c ((front ++ e ∷ []) ++ more) =
-    subst (λ (xs : List Event). IsHistory c xs) (sym same) (earlier_part_is_history c (before_release k) (k.release.at.event ∷ []) releasing) in
+    subst (λ (xs : List Event). IsHistory c xs) (sym same)
+    (earlier_part_is_history c (before_release k) (k.release.at.event ∷ []) releasing) in
     let at : AtStop c T (front ++ e ∷ []) more =
     along_without c is_release (λ (xs : List Event). AtStop c T (front ++ e ∷ []) xs) (front ++ e ∷ []) [] more
     (λ xs d g other. stop_goes_on c T (front ++ e ∷ []) xs d g other) whole k.release.none_before
@@ -127,7 +138,8 @@ at_the_release c es k h unswept =
       phase = subst (λ (xs : List Event). phase_of (left c xs).now.words ≡ 3) same at.phase;
       marked = subst (λ (xs : List Event). IsMarkedOnly c (left c xs) T) same at.marked;
       begun = none_joined is_begin k.marking.close.at.before (e ∷ more) marked.begun
-          (both_fail (is_begin e.step) (list_any (λ (x : Event). is_begin x.step) more) (ap is_begin (close_is e.step k.marking.close.at.of_kind)) at.begun);
+          (both_fail (is_begin e.step) (list_any (λ (x : Event). is_begin x.step) more)
+          (ap is_begin (close_is e.step k.marking.close.at.of_kind)) at.begun);
       released = none_joined is_release k.marking.close.at.before (e ∷ more) marked.released
           (both_fail (is_release e.step) (list_any (λ (x : Event). is_release x.step) more)
           (ap is_release (close_is e.step k.marking.close.at.of_kind)) k.release.none_before);
@@ -148,13 +160,15 @@ last_begin {es} k =
     }
 
 -- An allocation of the snapshot that a `release` leaves unreleased is marked.
-kept_is_marked : (c : Config) (w : World) (i : ℕ) → has_bit_of c w.now.words.snapshot (placed_at w.allocations i) ≡ true
+kept_is_marked : (c : Config) (w : World) (i : ℕ)
+    → has_bit_of c w.now.words.snapshot (placed_at w.allocations i) ≡ true
     → is_left_unmarked w.now.words (cell_of_allocation c (placed_at w.allocations i)) ≡ false
     → is_marked w.now.words (cell_of_allocation c (placed_at w.allocations i)) ≡ true
 kept_is_marked c w i taken kept =
     let cell : Cell = cell_of_allocation c (placed_at w.allocations i) in
     not_both (has_bit (slice_index w.now.words.snapshot cell.page) cell.index) (is_marked w.now.words cell)
-    (sym (has_bit_without (slice_index w.now.words.snapshot cell.page) (slice_index w.now.words.marks cell.page) cell.index) ∙ kept) taken
+    (sym (has_bit_without (slice_index w.now.words.snapshot cell.page)
+    (slice_index w.now.words.marks cell.page) cell.index) ∙ kept) taken
   where
     not_both : (a b : Bool) → (a && not b) ≡ false → a ≡ true → b ≡ true
     not_both true true h e = refl
@@ -170,20 +184,24 @@ keeps_only_the_touched c es h k unswept i quarantined unreleased =
     let m = one_more c (before_release k) e releasing in
     let at = at_the_release c es k h unswept in
     let is = release_is e.step k.release.at.of_kind in
-    let left_is : left c (through_release k) ≡ WorldBehind c w e.seat step.Release = m.left ∙ ap (λ (x : Step). WorldBehind c w e.seat x) is in
+    let left_is : left c (through_release k) ≡ WorldBehind c w e.seat step.Release =
+    m.left ∙ ap (λ (x : Step). WorldBehind c w e.seat x) is in
     let now : (with_released c w.now.words a).released ≡ false =
     ap (λ (x : PlacedAllocation). x.released) (sym (changed_at (with_released c w.now.words) w.allocations i refl))
     ∙ ap (λ (v : World). (placed_at v.allocations i).released) (sym left_is) ∙ unreleased in
     let u : a.released ≡ false = (neither a.released _ now).0 in
     let t = told c (before_release k) m.history in
     let taken : has_bit_of c w.now.words.snapshot a ≡ true =
-    snapshot_is_the_cycles c (before_release k) m.history (last_begin k) at.begun (ap is_cycling at.phase) i u ∙ quarantined in
-    let kept = sym (released_where_left c w.now.words a h.within_limits (stands c w _ t i u) (headers c w _ t i u)) ∙ now in
+    snapshot_is_the_cycles c (before_release k) m.history (last_begin k) at.begun (ap is_cycling at.phase) i u
+    ∙ quarantined in
+    let kept = sym (released_where_left c w.now.words a h.within_limits (stands c w _ t i u) (headers c w _ t i u))
+    ∙ now in
     at.marked i u (kept_is_marked c w i taken kept)
 
 -- What isn't touched is released.
 pub releases_the_untouched : OfHistories ReleasesTheUntouched
-releases_the_untouched c es h k unswept i quarantined untouched = elim (cases_Bool (placed_at (left c (through_release k)).allocations i).released) [
+releases_the_untouched c es h k unswept i quarantined untouched = elim
+    (cases_Bool (placed_at (left c (through_release k)).allocations i).released) [
   | inl released ↦ released
   | inr unreleased ↦ absurd (untouched (keeps_only_the_touched c es h k unswept i quarantined unreleased))
 ]

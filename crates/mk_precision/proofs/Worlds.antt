@@ -51,7 +51,8 @@ not_four n (inl e) f = absurd (omega arith)
 not_four n (inr e) f = absurd (omega arith)
 
 -- a run's head shows the pages of its object
-part_count : (o : Object) (x : Option Header) (d : ℕ) → ShowsPart o 0 x → d < run_count x → (is_small_object o ≡ false) × (d < pages_made o)
+part_count : (o : Object) (x : Option Header) (d : ℕ) → ShowsPart o 0 x → d < run_count x
+    → (is_small_object o ≡ false) × (d < pages_made o)
 part_count o x d (OfBlock first small leaf) lt = absurd (omega arith)
 part_count o x d (OfLeafBlock first small leaf) lt = absurd (omega arith)
 part_count o x d (OfRun mapped first large leaf) lt = (large, lt)
@@ -65,26 +66,33 @@ module _ (c : Config) (w : World) (n : NeverState) (t : Told c w n) where
   pub stands : (b : ℕ) → (placed_at w.allocations b).released ≡ false → StandsOnHeap c (placed_at w.allocations b)
   stands b u = (others.laid_out b u).stands
 
-  pub headers : (b : ℕ) → (placed_at w.allocations b).released ≡ false → HasItsHeaders c w.now.words (placed_at w.allocations b)
+  pub headers : (b : ℕ) → (placed_at w.allocations b).released ≡ false
+      → HasItsHeaders c w.now.words (placed_at w.allocations b)
   headers b u = (others.laid_out b u).headers
 
-  pub sized : (b : ℕ) → (placed_at w.allocations b).released ≡ false → IsSized (object_placed c (placed_at w.allocations b))
+  pub sized : (b : ℕ) → (placed_at w.allocations b).released ≡ false
+      → IsSized (object_placed c (placed_at w.allocations b))
   sized b u = typed_size c (placed_at w.allocations b) t.known.limits (stands b u).typed
 
   -- What points into an allocation's storage points into its cell,
-  pub hits : (b v : ℕ) → (placed_at w.allocations b).released ≡ false → PointsInto v (storage_of c (placed_at w.allocations b))
+  pub hits : (b v : ℕ) → (placed_at w.allocations b).released ≡ false
+      → PointsInto v (storage_of c (placed_at w.allocations b))
       → pointed_cell c.pages w.now.words.pages v ≡ Some (cell_of_allocation c (placed_at w.allocations b))
-  hits b v u into = pointers_hit c w.now.words (placed_at w.allocations b) t.known.limits (stands b u) (headers b u) v into
+  hits b v u into =
+      pointers_hit c w.now.words (placed_at w.allocations b) t.known.limits (stands b u) (headers b u) v into
 
   first_part : (b : ℕ) → (placed_at w.allocations b).released ≡ false
-      → ShowsPart (object_placed c (placed_at w.allocations b)) 0 (header_in w.now.words ((placed_at w.allocations b).base / 64))
+      → ShowsPart (object_placed c (placed_at w.allocations b)) 0
+      (header_in w.now.words ((placed_at w.allocations b).base / 64))
   first_part b u = first_page_shows c w.now.words (placed_at w.allocations b) (sized b u) (headers b u)
 
   -- and back.
   pub comes_back : IsMarking w.now.words → (b v : ℕ) → (placed_at w.allocations b).released ≡ false
       → pointed_cell c.pages w.now.words.pages v ≡ Some (cell_of_allocation c (placed_at w.allocations b))
       → PointsInto v (storage_of c (placed_at w.allocations b))
-  comes_back early b v u is = pointers_come_back c w.now.words a t.known.limits (stands b u) (headers b u) v (by to.header to.shown to.lies.head) is
+  comes_back early b v u is =
+      pointers_come_back c w.now.words a t.known.limits (stands b u) (headers b u) v
+      (by to.header to.shown to.lies.head) is
     where
       a : PlacedAllocation
       a = placed_at w.allocations b
@@ -98,7 +106,8 @@ module _ (c : Config) (w : World) (n : NeverState) (t : Told c w n) where
       on_first : a.base / 64 ≡ page_at_address v → stands_on (page_at_address v) (storage_of c a) ≡ true
       on_first at = stands_at_first c.pages (storage_of c a) (page_at_address v) storage at
 
-      by : (h : Header) → header_in w.now.words (page_at_address v) ≡ Some h → a.base / 64 ≡ head_page_under (Some h) (page_at_address v)
+      by : (h : Header) → header_in w.now.words (page_at_address v) ≡ Some h
+          → a.base / 64 ≡ head_page_under (Some h) (page_at_address v)
           → stands_on (page_at_address v) (storage_of c a) ≡ true
       by Free shown head = on_first head
       by (Block class) shown head = on_first head
@@ -113,10 +122,12 @@ module _ (c : Config) (w : World) (n : NeverState) (t : Told c w n) where
             | inl lt ↦
                 let counted : distance < run_count (header_in w.now.words (a.base / 64)) =
                 subst (λ p. distance < run_count (header_in w.now.words p)) (sym head) lt in
-                let part = part_count (object_placed c a) (header_in w.now.words (a.base / 64)) distance (first_part b u) counted in
+                let part = part_count (object_placed c a) (header_in w.now.words (a.base / 64)) distance
+                (first_part b u) counted in
                 let large = part.0 in
                 let near = part.1 in
-                let words : storage_words c a ≡ 64 * pages_made (object_placed c a) = large_words (object_placed c a) large in
+                let words : storage_words c a ≡ 64 * pages_made (object_placed c a) =
+                large_words (object_placed c a) large in
                 let first = (run_begins (object_placed c a) a.base large (stands b u).begins).1 in
                 stands_from (page_at_address v) (storage_of c a) (omega arith) (omega arith)
           ]
@@ -147,6 +158,7 @@ module _ (c : Config) (w : World) (n : NeverState) (t : Told c w n) where
           let parts = and_parts (nat_le run.page (x / 64)) (nat_lt (x / 64 - run.page) run.count) inside in
           let from = leb-true run.page (x / 64) parts.0 in
           let to = ltb-true (x / 64 - run.page) run.count parts.1 in
-          let words : storage_words c a ≡ 64 * pages_made (object_placed c a) = large_words (object_placed c a) f.large in
+          let words : storage_words c a ≡ 64 * pages_made (object_placed c a) =
+          large_words (object_placed c a) f.large in
           let first = (run_begins (object_placed c a) a.base f.large (stands f.number f.unreleased).begins).1 in
           record { number = f.number; unreleased = f.unreleased; word = (omega arith, omega arith) }

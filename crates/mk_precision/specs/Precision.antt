@@ -41,4 +41,5 @@ abbrev pub FreesTheUntouched : Config → List Event → Type 0
 FreesTheUntouched c es =
     (k : Cycle es) → NoneSweeps c k.releasing.marking → (i : ℕ) → IsInSnapshot c k.releasing.marking i
     → (IsTouched c k.releasing.marking i → ⊥)
-    → CountsAsFree (unreleased_storage c (left c (through_end k)).allocations) (storage_of c (placed_at (left c (through_end k)).allocations i))
+    → CountsAsFree (unreleased_storage c (left c (through_end k)).allocations)
+    (storage_of c (placed_at (left c (through_end k)).allocations i))
