@@ -1,5 +1,5 @@
 -- What one event leaves of the allocations: each keeps its place, and a grant adds one.
-use Rattle.std.proofs.Common.{List, [], ap, arith, false, inl, inr, length, map, refl, sym, ℕ, ◌++◌, ◌<◌, ◌∙◌, ◌∷◌, ◌≡◌}
+use Rattle.std.proofs.Common.{List, Option, [], ap, arith, false, inl, inr, length, map, refl, sym, ℕ, ◌++◌, ◌<◌, ◌∙◌, ◌∷◌, ◌≡◌}
 use Rattle.std.proofs.lemmas.Bool.{cases_lt, true≢false}
 use Rattle.std.proofs.lemmas.List.{get_or_past, length-append, length-map}
 use Rattle.mk_core.specs.Allocations.{PlacedAllocation, allocations_by, freed_where_it_stands, granted, never_granted, no_longer_fresh, placed_at, with_released}
@@ -13,6 +13,7 @@ use Rattle.mk_core.specs.declared.events.Step.{Step}
 use Rattle.mk_core.specs.declared.events.Step.TheVariants as step
 use Rattle.mk_core.specs.declared.seats.Flight.{Flight}
 use Rattle.mk_geom.specs.Addresses.{address_of}
+use Rattle.mk_geom.specs.declared.addresses.Cell.{Cell}
 use Rattle.mk_core.proofs.ChangedAllocations.{LeavesPlaces, changed_at, earlier_at, freed_leaves, freed_released, fresh_leaves, released_leaves}
 use Rattle.mk_precision.proofs.StepKinds.{neither}
 
@@ -50,7 +51,9 @@ allocation_step c m f step.Begin xs =
 allocation_step c m f step.Release xs =
     Changes (with_released c m.words) (record {
       places = released_leaves c m.words;
-      was = λ a u. (neither a.released (is_some_and (is_left_unmarked m.words) (pointed_cell c.pages m.words.pages (address_of a.base))) u).0;
+      was = λ a u.
+          let cell : Option Cell = pointed_cell c.pages m.words.pages (address_of a.base) in
+          (neither a.released (is_some_and (is_left_unmarked m.words) cell) u).0;
       stays = λ other a u. absurd (true≢false other);
     })
 allocation_step c m f _ xs = Leaves
@@ -61,7 +64,8 @@ pub record AreOfOne (a b : PlacedAllocation) : Type 0 where
   pub ty : b.ty ≡ a.ty
 
 pub of_one_same : (a b : PlacedAllocation) → b ≡ a → AreOfOne a b
-of_one_same a b e = record { base = ap (λ (y : PlacedAllocation). y.base) e; ty = ap (λ (y : PlacedAllocation). y.ty) e }
+of_one_same a b e =
+    record { base = ap (λ (y : PlacedAllocation). y.base) e; ty = ap (λ (y : PlacedAllocation). y.ty) e }
 
 pub of_one_joined : (a b d : PlacedAllocation) → AreOfOne a b → AreOfOne b d → AreOfOne a d
 of_one_joined a b d x y = record { base = y.base ∙ x.base; ty = y.ty ∙ x.ty }

@@ -23,7 +23,8 @@ releasing = record {
     at = record {
       before = [];
       event = record { seat = seat.Host; step = step.Release };
-      behind = by_host (step.Used 0 3 ∷ step.Quar 0 0 ∷ step.Tally tally.Held 4 ∷ step.End ∷ step.Open 0 ∷ step.Give ∷ []);
+      behind = by_host
+          (step.Used 0 3 ∷ step.Quar 0 0 ∷ step.Tally tally.Held 4 ∷ step.End ∷ step.Open 0 ∷ step.Give ∷ []);
       is = refl;
       of_kind = refl;
     };
@@ -51,10 +52,13 @@ unfolding any_sweeps left_from all_below pointed_cell begun_in_stop three_object
 marking_has_none = none_sweeps small (left small (through marking.begin)) marking.close.at.before refl
 
 third_is_released : (placed_at (left small (through_release releasing)).allocations 2).released ≡ true
-third_is_released = releases_the_untouched small stopped_cycle stopped_is_history releasing marking_has_none 2 third_is_in_snapshot third_is_untouched
+third_is_released =
+    releases_the_untouched small stopped_cycle stopped_is_history releasing marking_has_none 2 third_is_in_snapshot
+    third_is_untouched
 
 third_counts_as_free :
     CountsAsFree (unreleased_storage small (left small (through_end cycle)).allocations)
     (storage_of small (placed_at (left small (through_end cycle)).allocations 2))
 third_counts_as_free =
-    frees_the_untouched small stopped_cycle stopped_is_history cycle marking_has_none 2 third_is_in_snapshot third_is_untouched
+    frees_the_untouched small stopped_cycle stopped_is_history cycle marking_has_none 2 third_is_in_snapshot
+    third_is_untouched

@@ -8,7 +8,8 @@ use Rattle.mk_geom.proofs.ListSearch.{find_cases, list_any_found}
 use Rattle.mk_geom.proofs.Standing.{stands_parts}
 use Rattle.mk_precision.specs.Precision.{CountsAsFree}
 
-module _ (ss : List Storage) (s : Storage) (some : 1 ≤ s.words) (run : is_small s ≡ false → IsRun s) (others : (t : Storage) → Contains ss t → 1 ≤ t.words)
+module _ (ss : List Storage) (s : Storage) (some : 1 ≤ s.words) (run : is_small s ≡ false → IsRun s)
+    (others : (t : Storage) → Contains ss t → 1 ≤ t.words)
     (apart : (t : Storage) → Contains ss t → (n : ℕ) → IsWordOf s n → IsWordOf t n → ⊥) where
   -- none begins at its first word
   none_begins : (page words k : ℕ) → s.first ≡ 64 * page + k * words → is_cell_taken ss page words k ≡ true → ⊥

@@ -1,7 +1,7 @@
 -- The allocation that a grant adds is touched: its caller's register points to it at the moment behind.
 use Rattle.std.proofs.Common.{Bool, ap, arith, false, length, subst, sym, true, ℕ, ◌%◌, ◌*◌, ◌+◌, ◌/◌, ◌<◌, ◌^◌, ◌∙◌, ◌≡◌}
-use Rattle.std.specs.Prelude.{slice_index, slice_index_or, nat_lt, ◌&&◌}
-use Rattle.std.proofs.lemmas.Bool.{and_parts, ltb-true}
+use Rattle.std.specs.Prelude.{slice_index, slice_index_or, ◌&&◌}
+use Rattle.std.proofs.lemmas.Bool.{ltb-true}
 use Rattle.std.proofs.lemmas.List.{get_or-set_same}
 use Rattle.mk_never.specs.declared.values.Value.TheVariants.{Null}
 use Rattle.mk_never.specs.NeverHeap.{NeverState}
@@ -10,7 +10,7 @@ use Rattle.mk_geom.specs.StorageWords.{PointsInto}
 use Rattle.mk_geom.proofs.PointedCells.{address_points_into}
 use Rattle.mk_core.specs.Accesses.{granted_base}
 use Rattle.mk_core.specs.Allocations.{PlacedAllocation, granted, placed_at, storage_of}
-use Rattle.mk_core.specs.Calls.{at_rest, d_of, g_of, has_type, p_of, q_of, r_of}
+use Rattle.mk_core.specs.Calls.{at_rest, d_of}
 use Rattle.mk_core.specs.History.{World, bases_of}
 use Rattle.mk_core.specs.Image.{image_of}
 use Rattle.mk_core.specs.Moments.{flight_of}
@@ -23,6 +23,7 @@ use Rattle.mk_core.specs.declared.events.Step.TheVariants as step
 use Rattle.mk_core.specs.declared.seats.Flight.{Flight}
 use Rattle.mk_core.specs.declared.seats.Stage.TheVariants as stage
 use Rattle.mk_core.proofs.ChangedAllocations.{granted_at}
+use Rattle.mk_core.proofs.RegisterAccesses.{register_is_small}
 use Rattle.mk_core.proofs.Sizes.{words_within}
 use Rattle.mk_core.specs.StandingAllocations.{object_placed}
 use Rattle.mk_protocol.proofs.OthersMoves.{WorldBehind}
@@ -58,15 +59,7 @@ granted_points c w n k after T s u =
     d = d_of f.op
 
     d_small : d < 8
-    d_small =
-        let has = s.before.known.now.operands k in
-        let e =
-        and_parts (nat_lt (q_of f.op) 8 && nat_lt (p_of f.op) 8 && nat_lt (r_of f.op) 8 && nat_lt d 8 && nat_lt
-        (g_of f.op) 64) (has_type c f.op) has in
-        let g = and_parts (nat_lt (q_of f.op) 8 && nat_lt (p_of f.op) 8 && nat_lt (r_of f.op) 8 && nat_lt d 8)
-        (nat_lt (g_of f.op) 64) e.0 in
-        ltb-true d 8 (and_parts (nat_lt (q_of f.op) 8 && nat_lt (p_of f.op) 8 && nat_lt (r_of f.op) 8)
-        (nat_lt d 8) g.0).1
+    d_small = register_is_small c f stage.Put (s.before.known.now.operands k)
 
     there : k < c.callers
     there = ltb-true k c.callers s.meets.seat
@@ -135,6 +128,9 @@ points_behind c w n seat x after T v s only b points = by (came_behind c w seat 
   where
     by : Came w.allocations (WorldBehind c w seat x).allocations x b → T b
     by (Stayed was same) =
-        only b (was, points_before c (placed_at w.allocations b)
-        (placed_at (WorldBehind c w seat x).allocations b) v same points.1)
+        only b (
+          was,
+          points_before c (placed_at w.allocations b)
+              (placed_at (WorldBehind c w seat x).allocations b) v same points.1,
+        )
     by (IsNew grant at) = new_is_touched c w n seat x after T b s grant at points.0

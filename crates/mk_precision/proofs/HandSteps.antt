@@ -127,7 +127,9 @@ cell_hand w stop placing cell value h is out =
   where
     by : (a b d : Bool) → has_no_pointers (header_in w cell.page) ≡ a → is_marked w cell ≡ b
         → (if a then None
-        else if b then Some (record { value = value; source = Marked }) else if d then Some (record { value = value; source = Unmarked }) else None) ≡ Some h
+        else if b
+        then Some (record { value = value; source = Marked })
+        else if d then Some (record { value = value; source = Unmarked }) else None) ≡ Some h
         → IsOfMarked w cell value h
     by true b d ea eb is = cc
     by false true d ea eb is =

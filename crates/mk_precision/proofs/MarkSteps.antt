@@ -94,7 +94,12 @@ hand_marks : (w : Words) (pages : ℕ) (hand : Option Hand) (page value : ℕ)
     → is_some_and (λ (h : Hand). is_unmarked h.source) hand ≡ false → MarksWith w pages hand page value
 hand_marks w pages None page value h unswept = cc
 hand_marks w pages (Some x) page value h unswept =
-    record { holds = x; there = refl; unswept = unswept; cell = λ k bit. hand_cell (pointed_cell pages w.pages x.value) page value k h bit }
+    record {
+      holds = x;
+      there = refl;
+      unswept = unswept;
+      cell = λ k bit. hand_cell (pointed_cell pages w.pages x.value) page value k h bit;
+    }
 
 left_holds : (a b : Bool) → (a || b) ≡ true → b ≡ false → a ≡ true
 left_holds true b h none = refl
@@ -150,7 +155,8 @@ seen_marks c m x k stand bit own = by x.seen x.hand refl refl own bit
               there = eh;
               cell =
                   ap (λ p. cell_at c.pages (header_at m.words p) value)
-                  (sym (eqb-true q.page (page_at_address value) e)) ∙ now
+                  (sym (eqb-true q.page (page_at_address value) e))
+                  ∙ now
                   ∙ ap (λ (p : ℕ). Some (record { page = p; index = y.index })) (sym page)
                   ∙ ap (λ (i : ℕ). Some (record { page = seen_page (cell_seen c x.seen x.hand); index = i }))
                   (sym same);
@@ -172,8 +178,8 @@ module _ (c : Config) (w : World) (n : NeverState) (T : ℕ → Type 0) (precise
         | inl old ↦ precise.marked b u old
         | inr new ↦ elim (cases_Bool (marks_place w.now.words o place p v)) [
           | inl placed ↦
-              absurd (has_header c w n b s.before u (ap (λ q. header_at w.now.words q) new.0
-              ∙ place_is_free w.now.words o place p v placed))
+              absurd (has_header c w n b s.before u
+              (ap (λ q. header_at w.now.words q) new.0 ∙ place_is_free w.now.words o place p v placed))
           | inr unplaced ↦
               let hand : Option Hand = w.now.seats.holding.hand in
               let h = hand_marks w.now.words c.pages hand p v

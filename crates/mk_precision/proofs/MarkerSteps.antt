@@ -1,5 +1,5 @@
 -- What a marker holds is touched, and what it scans has no leaf, behind each step.
-use Rattle.std.proofs.Common.{Bool, ap, arith, false, inl, inr, refl, subst, sym, true, ℕ, ◌*◌, ◌+◌, ◌<◌, ◌≤◌, ◌∙◌, ◌≡◌, ◌≢◌}
+use Rattle.std.proofs.Common.{Bool, ap, arith, false, inl, inr, refl, subst, sym, true, ℕ, ◌+◌, ◌<◌, ◌≤◌, ◌∙◌, ◌≡◌, ◌≢◌}
 use Rattle.std.specs.Prelude.{None, Option, Some, if◌then◌else◌, is_none, nat_lt, slice_index, ◌&&◌, ◌==◌}
 use Rattle.std.proofs.lemmas.Bool.{and_parts, eqb-true, ltb-true}
 use Rattle.std.proofs.lemmas.Option.{none-some, same_Some}
@@ -10,7 +10,7 @@ use Rattle.mk_geom.specs.declared.addresses.Cell.{Cell}
 use Rattle.mk_core.specs.Accesses.{found, next_word}
 use Rattle.mk_core.specs.Allocations.{PlacedAllocation, cell_of_allocation, placed_at, storage_of}
 use Rattle.mk_core.specs.Bits.{has_bit}
-use Rattle.mk_core.specs.Cells.{cells_under, has_no_pointers, header_in, is_marked, words_under}
+use Rattle.mk_core.specs.Cells.{cell_words, cells_under, first_word, has_no_pointers, header_in, is_marked, words_under}
 use Rattle.mk_core.specs.Effects.{behind_mlook, hand_behind_look, marker_behind, open_hand, scan_begun, scan_claimed, scan_onward}
 use Rattle.mk_core.specs.History.{World}
 use Rattle.mk_core.specs.MarkerConditions.{has_next_word, has_seen_cell}
@@ -101,11 +101,12 @@ looks c w n T y _ f t is m = unseen_precise c w T y m
 claim_precise : (c : Config) (w : World) (T : ℕ → Type 0) (y : MarkerState) (p k marks : ℕ)
     → has_seen_cell y.seen p k ≡ true → MarkerIsPrecise c (scene_of w) T y
     → MarkerIsPrecise c (scene_of w) T (record y { scan = scan_claimed p k marks y.seen })
-claim_precise c w T y p k marks own m = record { hand = m.hand; scan = λ s is lt. by y.seen own m.seen s is lt; seen = m.seen }
+claim_precise c w T y p k marks own m =
+    record { hand = m.hand; scan = λ s is lt. by y.seen own m.seen s is lt; seen = m.seen }
   where
     by : (seen : Option SeenHeader) → has_seen_cell seen p k ≡ true
-        → ((z : SeenHeader) → seen ≡ Some z → cells_under (header_of z.header) ≢ 0 → has_no_pointers
-        (header_of z.header) ≡ false → HasNoLeaf c (scene_of w) z.page)
+        → ((z : SeenHeader) → seen ≡ Some z → cells_under (header_of z.header) ≢ 0
+        → has_no_pointers (header_of z.header) ≡ false → HasNoLeaf c (scene_of w) z.page)
         → (s : Scan) → scan_claimed p k marks seen ≡ Some s → s.next < s.end → HasNoLeaf c (scene_of w) s.page
     by None own none s is lt = cc
     by (Some z) own none s is lt = marked (has_bit marks k) is
@@ -121,8 +122,7 @@ claim_precise c w T y p k marks own m = record { hand = m.hand; scan = λ s is l
             → has_no_pointers (header_of z.header) ≡ false
         scanned true e less =
             let end : (scan_begun p k z.header).end ≡ (scan_begun p k z.header).next + 0 =
-            ap (λ b. 64 * p + k * words_under (header_of z.header) +
-            (if b then 0 else words_under (header_of z.header))) e in
+            ap (λ b. (scan_begun p k z.header).next + (if b then 0 else words_under (header_of z.header))) e in
             absurd (omega arith)
         scanned false e less = e
 
@@ -147,8 +147,7 @@ loaded_points c w n seat x after T hand z s precise st less none b points =
     s.here.words o.number z.next touched (o.unreleased, leaf, o.word) b points
   where
     inside : EndsItsCell w.now.words z
-        → z.next < 64 * z.page + z.index * words_under (header_in w.now.words z.page) + words_under
-        (header_in w.now.words z.page)
+        → z.next < first_word w.now.words (cell_scanned z) + cell_words w.now.words (cell_scanned z)
     inside (inl e) = omega arith
     inside (inr e) = let start = st.start in let at = e.0 in absurd (omega arith)
 

@@ -102,7 +102,12 @@ along : (c : Config) (es : List Event) (k : Marking es) (done rest : List Event)
     → AtMoment c (IsTouched c k) (through k.begin ++ done) → Marked c k rest
 unfolding NoneSweepsFrom
 along c es k done [] is h none unswept at =
-    record { at = subst (λ (xs : List Event). AtMoment c (IsTouched c k) (through k.begin ++ xs)) (sym (is ∙ append-nil done)) at; begun = refl; released = refl }
+    record {
+      at = subst (λ (xs : List Event). AtMoment c (IsTouched c k) (through k.begin ++ xs))
+          (sym (is ∙ append-nil done)) at;
+      begun = refl;
+      released = refl;
+    }
 along c es k done (e ∷ rest) is h none unswept at =
     let first : List Event = through k.begin in
     let front : List Event = first ++ done in

@@ -41,7 +41,8 @@ pub scanned_has_none : (c : Config) (w : World) (n : NeverState) (p : ℕ) → T
     → has_no_pointers (header_in w.now.words p) ≡ false → HasNoLeaf c (scene_of w) p
 scanned_has_none c w n p t scanned =
     record {
-      header = (neither (is_leaf_header (header_in w.now.words p)) (is_unmapped_header (header_in w.now.words p)) scanned).0;
+      header =
+          (neither (is_leaf_header (header_in w.now.words p)) (is_unmapped_header (header_in w.now.words p)) scanned).0;
       allocations = λ a u at. not_leaf c w n t a u (ap (λ q. has_no_pointers (header_in w.now.words q)) at ∙ scanned);
     }
 
@@ -63,8 +64,8 @@ mapped_not_leaf c w n i t u mapped shown =
     let on : is_unmapped_header x ≡ false =
     ap (λ h. is_unmapped_header (header_of h)) made ∙ made_is_mapped o 0 size some in
     let part = first_page_shows c w.now.words a size (headers c w n t i u) in
-    (neither o.leaf (is_unmapped_header x) (sym (part_has_no_pointers o x part)
-    ∙ ap (λ b. b || is_unmapped_header x) shown ∙ on)).0
+    (neither o.leaf (is_unmapped_header x)
+    (sym (part_has_no_pointers o x part) ∙ ap (λ b. b || is_unmapped_header x) shown ∙ on)).0
 
 -- Pages that show cells keep it that no leaf is there.
 
@@ -90,9 +91,10 @@ stored_no_leaf c w n seat p v t early h cells = by (head_step c w.now (flight_of
     by (ItCarves four k) =
         let from = k.next.from in
         let here : k.place.page + (p - k.place.page) ≡ p = omega arith in
-        elim (((told_to_guard c w n t.known t.all).place early seat k.place k.there).headers
-        (p - k.place.page) k.next.near) [
-          | inl free ↦ absurd (cells (ap (λ y. cells_under (header_of y)) (ap (λ q. header_at w.now.words q) (sym here) ∙ free)))
+        let place = (told_to_guard c w n t.known t.all).place early seat k.place k.there in
+        elim (place.headers (p - k.place.page) k.next.near) [
+          | inl free ↦
+              absurd (cells (ap (λ y. cells_under (header_of y)) (ap (λ q. header_at w.now.words q) (sym here) ∙ free)))
           | inr made ↦ absurd (k.next.not_yet (ap (λ q. header_at w.now.words q) (sym here) ∙ made))
         ]
     by (ItUnmaps four u) =
@@ -108,31 +110,32 @@ stored_no_leaf c w n seat p v t early h cells = by (head_step c w.now (flight_of
         let z = eqb-true (phase_of w.now.words) 4 four in
         elim early [ inl e ↦ absurd (omega arith) | inr e ↦ absurd (omega arith) ]
 
-module _ (c : Config) (w : World) (n : NeverState) (seat : Seat) (x : Step) (after : NeverState) (T : ℕ → Type 0) (s : Steps c w n seat x after T) where
+module _ (c : Config) (w : World) (n : NeverState) (seat : Seat) (x : Step) (after : NeverState) (T : ℕ → Type 0)
+    (s : Steps c w n seat x after T) where
   header_behind : (p : ℕ) → cells_under (header_in w.now.words p) ≢ 0
       → is_leaf_header (header_in w.now.words p) ≡ false
       → is_leaf_header (header_in (WorldBehind c w seat x).now.words p) ≡ false
   header_behind p cells none = by x refl s.meets
     where
+      stored : ℕ → ℕ → Page
+      stored q v = record { header = v; used = used_at w.now.words q }
+
       by : (y : Step) → x ≡ y → Meets c w.now seat y
           → is_leaf_header (header_in (WorldBehind c w seat y).now.words p) ≡ false
       by (step.Head q v) is h = elim (cases_eq p q) [
         | inl e ↦
             let lt = ltb-true q c.pages h.range in
             let at : header_at (WorldBehind c w seat (step.Head q v)).now.words p ≡ v =
-            ap (λ i. (slice_index_or
-            (slice_set w.now.words.pages q
-            (record { header = v; used = used_at w.now.words q })) i free_page).header) e
+            ap (λ i. (slice_index_or (slice_set w.now.words.pages q (stored q v)) i free_page).header) e
             ∙ ap (λ (y : Page). y.header)
-            (get_or-set_same w.now.words.pages q (record { header = v; used = used_at w.now.words q }) free_page
+            (get_or-set_same w.now.words.pages q (stored q v) free_page
             (omega (arith, lt, s.before.known.lengths.pages))) in
             ap (λ y. is_leaf_header (header_of y)) at
             ∙ stored_no_leaf c w n seat q v s.before s.early h
             (subst (λ i. cells_under (header_in w.now.words i) ≢ 0) e cells)
         | inr ne ↦
             ap (λ (y : Page). is_leaf_header (header_of y.header))
-            (get_or-set_other w.now.words.pages q p
-            (record { header = v; used = used_at w.now.words q }) free_page ne) ∙ none
+            (get_or-set_other w.now.words.pages q p (stored q v) free_page ne) ∙ none
       ]
       by y is h = rest y refl
         where
@@ -142,7 +145,11 @@ module _ (c : Config) (w : World) (n : NeverState) (seat : Seat) (x : Step) (aft
 
   pub no_leaf_behind : (p : ℕ) → cells_under (header_in w.now.words p) ≢ 0 → HasNoLeaf c (scene_of w) p
       → HasNoLeaf c (scene_of (WorldBehind c w seat x)) p
-  no_leaf_behind p cells none = record { header = header_behind p cells none.header; allocations = λ a u at. by a u at (came_behind c w seat x a u) }
+  no_leaf_behind p cells none =
+      record {
+        header = header_behind p cells none.header;
+        allocations = λ a u at. by a u at (came_behind c w seat x a u);
+      }
     where
       v : World
       v = WorldBehind c w seat x

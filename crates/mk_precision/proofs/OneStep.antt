@@ -1,4 +1,4 @@
--- One step of a cycle, whatever it is: behind `begin` nothing is marked or held, and each step keeps what is so touched.
+-- One step of a cycle, whatever it is: behind `begin` nothing is marked or held, and each step keeps it touched.
 use Rattle.std.proofs.Common.{arith, inl, inr, sym, true, ℕ, ◌∙◌, ◌≡◌}
 use Rattle.std.specs.Prelude.{slice_index, ◌&&◌, ◌==◌}
 use Rattle.std.proofs.lemmas.Bool.{and_parts, cases_Bool, cases_lt, eqb-true, true≢false}
@@ -34,7 +34,10 @@ use Rattle.mk_precision.proofs.Precise.{IsPrecise, MarkerIsPrecise, Scene, Steps
 
 idle_stands : (c : Config) (m : Moment) (x : MarkerState) → IsIdle x → MarkerStands c m x
 idle_stands c m x idle =
-    record { scan = λ z is. absurd (none-some _ (sym idle.scan ∙ is)); seen = λ z is. absurd (none-some _ (sym idle.seen ∙ is)) }
+    record {
+      scan = λ z is. absurd (none-some _ (sym idle.scan ∙ is));
+      seen = λ z is. absurd (none-some _ (sym idle.seen ∙ is));
+    }
 
 markers_stand : (c : Config) (w : World) (n : NeverState) (seat : Seat) (x : Step) (after : NeverState)
     (T : ℕ → Type 0) → Steps c w n seat x after T
@@ -63,8 +66,8 @@ precise_begun c w seat T known h =
     record {
       marked = λ b u is.
           let cell : Cell = cell_of_allocation c (placed_at (WorldBehind c w seat step.Begin).allocations b) in
-          absurd (true≢false (sym is
-          ∙ no_bit (slice_index w.now.words.marks cell.page) cell.index (unmarked cell.page)));
+          absurd (true≢false
+          (sym is ∙ no_bit (slice_index w.now.words.marks cell.page) cell.index (unmarked cell.page)));
       hand = λ k is. absurd (none-some _ is);
       markers = λ j. by seat h j;
     }

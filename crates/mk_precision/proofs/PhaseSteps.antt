@@ -39,8 +39,8 @@ pub marking_goes_on : (c : Config) (m : Moment) (seat : Seat) (x : Step) → IsM
 marking_goes_on c m seat step.Begin early h other =
     absurd (not_at (phase_of m.words) 0 early (eqb-true (phase_of m.words) 0 h.phase) (inl refl))
 marking_goes_on c m seat step.Want early h other =
-    let one =
-    eqb-true (phase_of m.words) 1 h.phase in record { early = inr (omega arith); begun = refl; released = refl }
+    let one = eqb-true (phase_of m.words) 1 h.phase in
+    record { early = inr (omega arith); begun = refl; released = refl }
 marking_goes_on c m seat step.Close early h other = cc
 marking_goes_on c m seat step.Release early h other =
     absurd (not_at (phase_of m.words) 3 early (eqb-true (phase_of m.words) 3 h.phase) (inr (omega arith)))
@@ -53,9 +53,13 @@ marking_goes_on c m seat x early h other = rest x refl
     rest : (x : Step) → is_phase_step x ≡ false → GoesOnMarking c m seat x
     rest x stays =
         let same = phase_stays c m seat x stays in
-        record { early = elim early [ inl e ↦ inl (same ∙ e) | inr e ↦ inr (same ∙ e) ]; begun = none_begins x stays; released = none_releases x stays }
+        record {
+          early = elim early [ inl e ↦ inl (same ∙ e) | inr e ↦ inr (same ∙ e) ];
+          begun = none_begins x stays;
+          released = none_releases x stays;
+        }
 
--- Behind the `close` neither a `begin` nor a grant comes, and the phase waits for the `release`, and then for the `end`.
+-- Behind the `close` neither a `begin` nor a grant comes: the phase waits for the `release`, and then for the `end`.
 pub record Waits (c : Config) (m : Moment) (seat : Seat) (x : Step) (p : ℕ) : Type 0 where
   pub phase : phase_of (Behind c m seat x).words ≡ p
   pub begun : is_begin x ≡ false
@@ -76,7 +80,8 @@ waits c m seat step.Grant p late at h out past =
 waits c m seat x p late at h out past = rest x refl refl
   where
     rest : (x : Step) → is_phase_step x ≡ false → is_grant x ≡ false → Waits c m seat x p
-    rest x stays other = record { phase = phase_stays c m seat x stays ∙ at; begun = none_begins x stays; granted = other }
+    rest x stays other =
+        record { phase = phase_stays c m seat x stays ∙ at; begun = none_begins x stays; granted = other }
 
 pub stopped_waits : (c : Config) (m : Moment) (seat : Seat) (x : Step) → phase_of m.words ≡ 3 → Meets c m seat x
     → is_release x ≡ false

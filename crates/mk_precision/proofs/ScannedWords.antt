@@ -25,12 +25,17 @@ use Rattle.mk_precision.proofs.Worlds.{Told, headers, stands}
 -- A number lies in one of the pieces of a length.
 one_piece : (size k j y : ℕ) → k * size ≤ y → y < k * size + size → j * size ≤ y → y < j * size + size → k ≡ j
 one_piece size k j y from to from2 to2 = elim (cases_lt k j) [
-  | inl lt ↦ let m : (k + 1) * size ≤ j * size = mul-le (k + 1) size j size (omega arith) (omega arith) in absurd (omega arith)
+  | inl lt ↦ before k j from2 to lt
   | inr le ↦ elim (cases_lt j k) [
-    | inl lt ↦ let m : (j + 1) * size ≤ k * size = mul-le (j + 1) size k size (omega arith) (omega arith) in absurd (omega arith)
+    | inl lt ↦ before j k from to2 lt
     | inr le2 ↦ omega arith
   ]
 ]
+  where
+    before : (a b : ℕ) → b * size ≤ y → y < a * size + size → a < b → k ≡ j
+    before a b low high lt =
+        let m : (a + 1) * size ≤ b * size = mul-le (a + 1) size b size (omega arith) (omega arith) in
+        absurd (omega arith)
 
 -- A page that has a header and a word of a cell names the cell's page.
 scanned_head : (c : Config) (w : World) (n : NeverState) (p k x : ℕ) → Told c w n
@@ -48,8 +53,8 @@ scanned_head c w n p k x t known from to some = by (header_in w.now.words p) ref
         → x / 64 ≡ p + d
         → head_page w.now.words (x / 64) ≡ p
     later o d is heads one lt at =
-        elim ((t.all.order.runs p (ap heads_run is
-        ∙ heads)).later d one (subst (λ (y : Option Header). d < run_count y) (sym is) lt)) [
+        let whole = t.all.order.runs p (ap heads_run is ∙ heads) in
+        elim (whole.later d one (subst (λ (y : Option Header). d < run_count y) (sym is) lt)) [
           | inl shows ↦
               let back : head_page_under (Some (Later d shows.0)) (p + d) ≡ p = omega arith in
               ap (λ q. head_page w.now.words q) at ∙ ap (λ (y : Option Header). head_page_under y (p + d)) shows.1
@@ -62,8 +67,8 @@ scanned_head c w n p k x t known from to some = by (header_in w.now.words p) ref
         → k < 1 → 64 * p + k * (64 * count) ≤ x → x < 64 * p + k * (64 * count) + 64 * count
         → head_page w.now.words (x / 64) ≡ p
     on_run o count is own heads pages lt lo hi =
-        let none : k * (64 * count) ≡ 0 =
-        ap (λ j. j * (64 * count)) (let zero : k ≡ 0 = omega arith in zero) ∙ omega arith in
+        let zero : k ≡ 0 = omega arith in
+        let none : k * (64 * count) ≡ 0 = ap (λ j. j * (64 * count)) zero ∙ omega arith in
         let low : 64 * p ≤ x = omega arith in
         let high : x < 64 * p + 64 * count = omega arith in
         elim (cases_eq (x / 64) p) [

@@ -1,4 +1,4 @@
--- From a cycle's `close` to its `release` what is marked stays touched, and the `release` releases the rest of the snapshot.
+-- From a cycle's `close` to its `release` all that is marked is touched. The `release` releases the rest of the snapshot.
 use Rattle.std.proofs.Common.{Bool, List, [], ap, append-nil, append_assoc, arith, false, inl, inr, refl, subst, sym, true, ℕ, ◌++◌, ◌∙◌, ◌∷◌, ◌≡◌}
 use Rattle.std.specs.Prelude.{not, slice_index, ◌&&◌}
 use Rattle.std.proofs.lemmas.Bool.{cases_Bool, eqb-true, true≢false}
@@ -202,6 +202,6 @@ keeps_only_the_touched c es h k unswept i quarantined unreleased =
 pub releases_the_untouched : OfHistories ReleasesTheUntouched
 releases_the_untouched c es h k unswept i quarantined untouched = elim
     (cases_Bool (placed_at (left c (through_release k)).allocations i).released) [
-  | inl released ↦ released
-  | inr unreleased ↦ absurd (untouched (keeps_only_the_touched c es h k unswept i quarantined unreleased))
-]
+      | inl released ↦ released
+      | inr unreleased ↦ absurd (untouched (keeps_only_the_touched c es h k unswept i quarantined unreleased))
+    ]

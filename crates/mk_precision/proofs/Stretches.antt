@@ -28,19 +28,22 @@ next_part es xs ys zs e f behind is at =
 
 pub at_close : {es : List Event} (k : Marking es) → es ≡ before_close k ++ k.close.at.event ∷ k.close.at.behind
 at_close {es} k =
-    next_part es k.begin.before k.close.at.before k.close.at.behind k.begin.event k.close.at.event k.begin.behind k.begin.is k.close.at.is
+    next_part es k.begin.before k.close.at.before k.close.at.behind k.begin.event k.close.at.event k.begin.behind
+    k.begin.is k.close.at.is
     ∙ ap (λ (xs : List Event). xs ++ k.close.at.event ∷ k.close.at.behind)
     (sym (append_assoc k.begin.before (k.begin.event ∷ []) k.close.at.before))
 
 pub at_release : {es : List Event} (k : Releasing es)
     → es ≡ before_release k ++ k.release.at.event ∷ k.release.at.behind
 at_release {es} k =
-    next_part es (before_close k.marking) k.release.at.before k.release.at.behind k.marking.close.at.event k.release.at.event k.marking.close.at.behind
+    next_part es (before_close k.marking) k.release.at.before k.release.at.behind
+    k.marking.close.at.event k.release.at.event k.marking.close.at.behind
     (at_close k.marking) k.release.at.is
 
 pub at_end : {es : List Event} (k : Cycle es) → es ≡ before_end k ++ k.end.at.event ∷ k.end.at.behind
 at_end {es} k =
-    next_part es (before_release k.releasing) k.end.at.before k.end.at.behind k.releasing.release.at.event k.end.at.event k.releasing.release.at.behind
+    next_part es (before_release k.releasing) k.end.at.before k.end.at.behind
+    k.releasing.release.at.event k.end.at.event k.releasing.release.at.behind
     (at_release k.releasing) k.end.at.is
 
 -- The part through an event of a history is one.
