@@ -7,3 +7,5 @@ pub mod Tracked
 pub mod Theorems
 pub mod FreshWords
 pub mod FreshSteps
+pub mod TallySteps
+pub mod Tallies
