@@ -1,7 +1,7 @@
 -- The count of fresh words that is kept beside the table is that of the allocations, behind each kind of event.
-use Rattle.std.proofs.Common.{◌≡◌, ◌≢◌, ◌⊎◌, ℕ, ◌+◌, ◌-◌, ◌/◌, ◌<◌, ◌^◌, Bool, true, false, List, map, length, refl, sym, ◌∙◌, ap, subst, arith, inl, inr}
+use Rattle.std.proofs.Common.{◌≡◌, ◌≢◌, ℕ, ◌+◌, ◌-◌, ◌<◌, ◌^◌, Bool, true, false, List, map, length, refl, sym, ◌∙◌, ap, subst, arith, inl, inr}
 use Rattle.std.specs.Prelude.{None, Option, Some, min, not, slice_index, ◌&&◌, ◌||◌, ◌==◌, if◌then◌else◌}
-use Rattle.std.proofs.lemmas.Bool.{and_parts, cases_Bool, cases_lt, cond-false, cond-true, false_from_ne_true, not-true, true≢false}
+use Rattle.std.proofs.lemmas.Bool.{and_parts, cases_lt, cond-true, false_from_ne_true, not-true, true≢false}
 use Rattle.std.proofs.lemmas.List.{get_or_past}
 use Rattle.mk_never.specs.Types.{is_large, kinds_of}
 use Rattle.mk_geom.specs.declared.addresses.Cell.{Cell}

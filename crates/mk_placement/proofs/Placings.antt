@@ -1,5 +1,5 @@
 -- What each step of the turn's holder makes of the place of its New.
-use Rattle.std.proofs.Common.{◌≡◌, ◌≢◌, ◌⊎◌, ℕ, ◌+◌, ◌<◌, Bool, true, false, refl, sym, ◌∙◌, ap, subst, inl, inr, arith}
+use Rattle.std.proofs.Common.{◌≡◌, ◌≢◌, ℕ, ◌<◌, Bool, true, false, refl, sym, ◌∙◌, ap, subst, inl, inr, arith}
 use Rattle.std.specs.Prelude.{Option, Some, None, ◌&&◌, ◌||◌, ◌==◌, not, if◌then◌else◌}
 use Rattle.std.proofs.lemmas.Bool.{and_parts, cases_eq, eqb-true, false_from_ne_true, ne_eqb, or_cases, true≢false}
 use Rattle.std.proofs.lemmas.List.{get_or-set_same}
@@ -15,9 +15,8 @@ use Rattle.mk_core.specs.declared.seats.Flight.{Flight}
 use Rattle.mk_core.specs.declared.seats.Holding.{Holding}
 use Rattle.mk_core.specs.declared.seats.Object.{Object}
 use Rattle.mk_core.specs.declared.seats.Placing.{Placing}
-use Rattle.mk_core.specs.declared.seats.Placing.TheVariants.{Chosen, Granted, Unplaced, Used}
+use Rattle.mk_core.specs.declared.seats.Placing.TheVariants.{Chosen, Unplaced, Used}
 use Rattle.mk_core.specs.declared.seats.RunPages.{RunPages}
-use Rattle.mk_core.specs.declared.seats.Stage.{Stage}
 use Rattle.mk_core.specs.declared.seats.Stage.TheVariants as stage
 use Rattle.mk_core.specs.Accesses.{found}
 use Rattle.mk_core.specs.Calls.{at_rest}
@@ -29,7 +28,7 @@ use Rattle.mk_core.specs.Placement.{serves}
 use Rattle.mk_core.specs.StopConditions.{marks_place}
 use Rattle.mk_core.specs.TurnConditions.{carves, is_used_once, place_now, takes_cell, unmaps}
 use Rattle.mk_core.specs.Words.{phase_of}
-use Rattle.mk_core.proofs.PlacesNow.{AsChosen, AsUsed, ByFit, IsPlaced, PlacedNow, placed_now, undecided_new}
+use Rattle.mk_core.proofs.PlacesNow.{AsChosen, AsUsed, ByFit, IsPlaced, placed_now, undecided_new}
 use Rattle.mk_core.proofs.ServingSteps.{carves_is, marks_is, takes_is}
 use Rattle.mk_protocol.proofs.Actors.{Meets}
 use Rattle.mk_protocol.proofs.Known.{Known}

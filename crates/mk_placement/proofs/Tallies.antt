@@ -1,5 +1,5 @@
 -- What the tallies count: before each `give`, and where nobody holds the turn.
-use Rattle.std.proofs.Common.{◌≡◌, ℕ, ◌+◌, Bool, true, false, List, [], ◌∷◌, ◌++◌, refl, sym, ◌∙◌, ap, append_assoc, subst, arith, inl, inr}
+use Rattle.std.proofs.Common.{◌≡◌, ℕ, ◌+◌, true, List, [], ◌∷◌, ◌++◌, refl, sym, ◌∙◌, ap, append_assoc, subst, arith, inl, inr}
 use Rattle.std.specs.Prelude.{cond, ◌&&◌, ◌==◌}
 use Rattle.std.proofs.lemmas.Bool.{and_parts, eqb-true, false_from_ne_true, ne_eqb, true≢false}
 use Rattle.std.proofs.lemmas.List.Sums.{sum_by_push}
@@ -18,7 +18,7 @@ use Rattle.mk_core.specs.Cycles.{is_end}
 use Rattle.mk_core.specs.Decided.{Decided}
 use Rattle.mk_core.specs.Effects.{answer_decided}
 use Rattle.mk_core.specs.History.{IsHistory, World, calls, calls_from, call_decided, first_world, left, left_from, world_behind}
-use Rattle.mk_core.specs.Moments.{flight_of, is_phase}
+use Rattle.mk_core.specs.Moments.{flight_of}
 use Rattle.mk_core.specs.NewPlaces.{is_run_gone, is_undecided_new}
 use Rattle.mk_core.specs.Readings.{TalliesTell}
 use Rattle.mk_core.specs.TurnConditions.{is_decided, words_held}

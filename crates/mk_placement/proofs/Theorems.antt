@@ -1,5 +1,5 @@
 -- Where the objects of all histories are granted, and when a New is full.
-use Rattle.std.proofs.Common.{◌≡◌, ℕ, ◌<◌, Bool, true, false, List, ◌∷◌, ◌++◌, refl, sym, ◌∙◌, ap, subst, arith}
+use Rattle.std.proofs.Common.{◌≡◌, ℕ, ◌<◌, true, false, List, refl, sym, ◌∙◌, ap, subst, arith}
 use Rattle.std.specs.Prelude.{IsSome, None, Option, Some, is_none}
 use Rattle.std.proofs.lemmas.Bool.{eqb-true, ne_eqb, true≢false}
 use Rattle.mk_geom.specs.declared.pages.Page.{Page}
@@ -10,17 +10,15 @@ use Rattle.mk_core.specs.declared.events.Seat.{Seat}
 use Rattle.mk_core.specs.declared.events.Seat.TheVariants.{Caller}
 use Rattle.mk_core.specs.declared.events.Step.{Step}
 use Rattle.mk_core.specs.declared.events.Step.TheVariants as step
-use Rattle.mk_core.specs.declared.seats.Flight.{Flight}
 use Rattle.mk_core.specs.declared.seats.Object.{Object}
 use Rattle.mk_core.specs.declared.seats.OwnCycle.{OwnCycle}
-use Rattle.mk_core.specs.declared.seats.OwnCycle.TheVariants.{Begun, Ended, NotBegun}
+use Rattle.mk_core.specs.declared.seats.OwnCycle.TheVariants.{Ended}
 use Rattle.mk_core.specs.declared.seats.Placing.{Placing}
-use Rattle.mk_core.specs.declared.seats.Placing.TheVariants.{Chosen, Granted, Unplaced, Used}
+use Rattle.mk_core.specs.declared.seats.Placing.TheVariants.{Unplaced, Used}
 use Rattle.mk_core.specs.Accesses.{granted_base}
-use Rattle.mk_core.specs.Allocations.{FitsAmongAllocations}
 use Rattle.mk_core.specs.History.{IsHistory, World, left}
 use Rattle.mk_core.specs.Moments.{flight_of, is_phase}
-use Rattle.mk_core.specs.NewPlaces.{is_undecided_new, object_made, place_on_pages}
+use Rattle.mk_core.specs.NewPlaces.{is_undecided_new, place_on_pages}
 use Rattle.mk_core.specs.Placement.{FullsFitNowhere, GrantsStandAtTheirPlaces, IsFull, StandsAtItsPlace, object_at}
 use Rattle.mk_core.specs.TurnConditions.{is_full, is_used_once}
 use Rattle.mk_core.specs.Words.{phase_of}

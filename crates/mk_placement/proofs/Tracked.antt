@@ -1,10 +1,9 @@
 -- What is told of a turn while its New is undecided, behind every history.
-use Rattle.std.proofs.Common.{◌≡◌, ℕ, ◌<◌, Bool, true, false, List, [], ◌∷◌, ◌++◌, refl, sym, ◌∙◌, ap, subst, arith, length}
+use Rattle.std.proofs.Common.{◌≡◌, ℕ, ◌<◌, true, false, List, [], ◌∷◌, ◌++◌, refl, sym, ◌∙◌, ap, subst, arith}
 use Rattle.std.specs.Prelude.{None, Option, Some, ◌&&◌, ◌==◌}
 use Rattle.std.proofs.lemmas.Bool.{and_parts, eqb-true, false_from_ne_true, true≢false}
 use Rattle.std.proofs.lemmas.List.{get_or-set_same}
 use Rattle.mk_geom.specs.declared.pages.Place.{Place}
-use Rattle.mk_never.specs.declared.operations.Op.{Op}
 use Rattle.mk_core.specs.declared.config.Config.{Config}
 use Rattle.mk_core.specs.declared.events.Event.{Event}
 use Rattle.mk_core.specs.declared.events.Seat.{Seat}
@@ -41,7 +40,7 @@ use Rattle.mk_invariant.proofs.Theorems.{first_fit_finds_the_place}
 use Rattle.mk_placement.proofs.Histories.{before_it, holds_of_histories}
 use Rattle.mk_placement.proofs.Longer.{gives_turn, left_in_turn, longer_first, longer_turn, none_serves_more}
 use Rattle.mk_placement.proofs.OwnCycles.{HasCycle, cycle_more, cycle_step}
-use Rattle.mk_placement.proofs.Placings.{Fixes, GoesOn, PlacesAt, PlacingStep, Stays, places_at}
+use Rattle.mk_placement.proofs.Placings.{Fixes, GoesOn, PlacingStep, Stays, places_at}
 use Rattle.mk_placement.proofs.Undecided.{IsTaken, NewCame, WasNew, new_came}
 
 -- A step of the turn has served its New first, where the place was this one.

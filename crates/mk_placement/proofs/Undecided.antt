@@ -1,11 +1,10 @@
 -- Where an undecided New comes from: its call was so before the event, or its `take` is the event.
-use Rattle.std.proofs.Common.{◌≡◌, ◌≢◌, ◌⊎◌, ℕ, ◌+◌, ◌<◌, Bool, true, false, List, length, refl, sym, ◌∙◌, ap, subst, arith, inl, inr}
-use Rattle.std.specs.Prelude.{Option, Some, None, ◌==◌, if◌then◌else◌, slice_index_or, slice_set}
+use Rattle.std.proofs.Common.{◌≡◌, ◌⊎◌, ℕ, ◌+◌, Bool, true, false, List, length, refl, sym, ◌∙◌, ap, subst, arith, inl, inr}
+use Rattle.std.specs.Prelude.{Option, Some, None, if◌then◌else◌, slice_index_or, slice_set}
 use Rattle.std.proofs.lemmas.Bool.{cases_eq, cases_lt, eq-eqb}
 use Rattle.std.proofs.lemmas.List.{get_or-set_other, get_or-set_same, set_past}
 use Rattle.mk_never.specs.declared.operations.Op.{Op}
 use Rattle.mk_core.specs.declared.config.Config.{Config}
-use Rattle.mk_core.specs.declared.events.Event.{Event}
 use Rattle.mk_core.specs.declared.events.Seat.{Seat}
 use Rattle.mk_core.specs.declared.events.Seat.TheVariants.{Caller, Host, Marker}
 use Rattle.mk_core.specs.declared.events.Step.{Step}
@@ -15,15 +14,15 @@ use Rattle.mk_core.specs.declared.seats.Holding.{Holding}
 use Rattle.mk_core.specs.declared.seats.Stage.TheVariants as stage
 use Rattle.mk_core.specs.Calls.{at_rest}
 use Rattle.mk_core.specs.History.{World}
-use Rattle.mk_core.specs.Moments.{Moment, flight_of, nothing_done}
+use Rattle.mk_core.specs.Moments.{flight_of, nothing_done}
 use Rattle.mk_core.specs.NewPlaces.{is_new_at, is_undecided_new}
 use Rattle.mk_protocol.proofs.Actors.{Meets}
 use Rattle.mk_protocol.proofs.Known.{Known}
-use Rattle.mk_protocol.proofs.Moves.{Move, Enters, GoesOn, Gives, Leaves, Stays, Takes, Works, Holds, Opens, Phases, Attends, Quits, Scans}
+use Rattle.mk_protocol.proofs.Moves.{Move, Enters, GoesOn, Gives, Leaves, Stays, Takes, Works}
 use Rattle.mk_protocol.proofs.NextSteps.{at_no_take}
 use Rattle.mk_protocol.proofs.OrderlyLists.{event_moves}
 use Rattle.mk_protocol.proofs.OthersMoves.{WorldBehind}
-use Rattle.mk_protocol.proofs.SameWords.{reg_keeps, tally_keeps}
+use Rattle.mk_protocol.proofs.SameWords.{tally_keeps}
 use Rattle.mk_protocol.proofs.Services.{Service, Fills, Frees, Goes, Grants, Loads, Places}
 use Rattle.mk_protocol.proofs.Stages.{new_stands}
 use Rattle.mk_protocol.proofs.Standings.{InCall, UnderTurn, standing}
