@@ -36,7 +36,7 @@ use Rattle.mk_layout.specs.SettledPages.{IsSettled}
 use Rattle.mk_layout.proofs.Holders.{none_on_its_way}
 use Rattle.mk_invariant.specs.Theorems.{OfHistories}
 use Rattle.mk_invariant.proofs.Theorems.{first_fit_finds_the_place}
-use Rattle.mk_placement.proofs.Histories.{before_it, holds_of_histories}
+use Rattle.mk_placement.proofs.Histories.{KeptByEvents, before_it, holds_of_histories}
 use Rattle.mk_placement.proofs.Longer.{gives_turn, left_in_turn, longer_first, longer_turn, none_serves_more, taken}
 use Rattle.mk_placement.proofs.OwnCycles.{HasCycle, cycle_more, cycle_step}
 use Rattle.mk_placement.proofs.Placings.{Fixes, GoesOn, PlacingStep, Stays, places_at}
@@ -206,8 +206,7 @@ tracked_behind c es seat x k (WasNew same) all h meets lt new =
     on : gives_turn (Caller k) (record { seat = seat; step = x }) ≡ false
     on = gives_off c (left c es) seat x k known lt new
 
-one_more : (c : Config) (es : List Event) (e : Event) → IsHistory c (es ++ e ∷ []) → NewsAreTracked c es
-    → NewsAreTracked c (es ++ e ∷ [])
+one_more : KeptByEvents NewsAreTracked
 one_more c es e h all k lt new =
     let here = before_it c (es ++ e ∷ []) es e [] h refl in
     let more : left c (es ++ e ∷ []) ≡ world_behind c (left c es) e = left_more c (first_world c) es e in
