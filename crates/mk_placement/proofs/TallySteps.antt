@@ -6,19 +6,20 @@ use Rattle.mk_core.specs.declared.accesses.Access.TheVariants.{Load}
 use Rattle.mk_core.specs.declared.accesses.TableWord.TheVariants.{Named}
 use Rattle.mk_core.specs.declared.config.Config.{Config}
 use Rattle.mk_core.specs.declared.events.Event.{Event}
-use Rattle.mk_core.specs.declared.events.Group.TheVariants as group
 use Rattle.mk_core.specs.declared.events.Seat.{Seat}
 use Rattle.mk_core.specs.declared.events.Seat.TheVariants.{Caller, Host, Marker}
 use Rattle.mk_core.specs.declared.events.Step.{Step}
 use Rattle.mk_core.specs.declared.events.Step.TheVariants as step
+use Rattle.mk_core.specs.declared.seats.Flight.{Flight}
 use Rattle.mk_core.specs.declared.events.Word.TheVariants as word
 use Rattle.mk_core.specs.Accesses.{caller_number, reg_access, register_met}
 use Rattle.mk_core.specs.Cycles.{is_end}
 use Rattle.mk_core.specs.Effects.{answer_decided}
 use Rattle.mk_core.specs.History.{World, world_behind}
 use Rattle.mk_core.specs.Moments.{Moment, flight_of, holder_number}
-use Rattle.mk_core.specs.Order.{group_of}
+use Rattle.mk_core.specs.Order.{group_of, is_of_turn}
 use Rattle.mk_core.specs.Words.{Words, accessed}
+use Rattle.mk_core.proofs.RegisterAccesses.{LeavesTallies, register_leaves_tallies}
 use Rattle.mk_protocol.proofs.Actors.{Actor, AsHolder, AsMarker, CallTakes, HostTakes, InCallOf, Meets}
 use Rattle.mk_protocol.proofs.Known.{Known}
 use Rattle.mk_protocol.proofs.Orderly.{turn_of}
@@ -28,18 +29,6 @@ use Rattle.mk_protocol.proofs.OthersMoves.{WorldBehind}
 use Rattle.mk_protocol.proofs.SameWords.{tally_keeps}
 use Rattle.mk_protocol.proofs.Views.{HoldsTurn, view_of}
 use Rattle.mk_layout.proofs.Before.{reg_leaves}
-
--- the tallies are the same
-pub record KeepsTallies (w x : Words) : Type 0 where
-  pub held : x.held ≡ w.held
-  pub fresh : x.fresh ≡ w.fresh
-  pub cycles : x.cycles ≡ w.cycles
-  pub released : x.released ≡ w.released
-  pub full : x.full ≡ w.full
-
-reg_tallies : (w : Words) (k r : ℕ) (a : Access) → KeepsTallies w (accessed w (Named (word.Reg k r)) a)
-reg_tallies w k r Load = record { held = refl; fresh = refl; cycles = refl; released = refl; full = refl }
-reg_tallies w k r _ = record { held = refl; fresh = refl; cycles = refl; released = refl; full = refl }
 
 -- The step changes no tally, and no allocation.
 abbrev pub counts_alike : Step → Bool
@@ -51,21 +40,21 @@ counts_alike step.Release = false
 counts_alike _ = true
 
 pub record CountsAlike (w v : World) : Type 0 where
-  pub tallies : KeepsTallies w.now.words v.now.words
+  pub tallies : LeavesTallies w.now.words v.now.words
   pub allocations : v.allocations ≡ w.allocations
 
-pub alike : (c : Config) (w : World) (seat : Seat) (x : Step) → counts_alike x ≡ true → CountsAlike w (WorldBehind c w seat x)
+alike : (c : Config) (w : World) (seat : Seat) (x : Step) → counts_alike x ≡ true → CountsAlike w (WorldBehind c w seat x)
 alike c w seat (step.Tally n v) is = cc
 alike c w seat (step.Quar p n) is = cc
 alike c w seat step.Grant is = cc
 alike c w seat step.Begin is = cc
 alike c w seat step.Release is = cc
 alike c w seat step.Reg is =
-    record {
-      tallies = reg_tallies w.now.words (caller_number seat) (register_met (flight_of w.now seat) (flight_of w.now seat).stage) (reg_access (flight_of w.now seat) (flight_of w.now seat).stage);
-      allocations = refl;
-    }
-alike c w seat _ is = record { tallies = record { held = refl; fresh = refl; cycles = refl; released = refl; full = refl }; allocations = refl }
+    let f : Flight = flight_of w.now seat in
+    let leaves = register_leaves_tallies w.now.words (caller_number seat) (register_met f f.stage) (reg_access f f.stage) in
+    record { tallies = leaves; allocations = refl }
+alike c w seat _ is =
+    record { tallies = record { held = refl; fresh = refl; cycles = refl; released = refl; full = refl }; allocations = refl }
 
 -- What an event does to the turn: it takes one that is free, gives it back, or leaves it.
 pub data TurnStep (x : Step) (turn now : ℕ) : Type 0 where
@@ -85,30 +74,25 @@ turn_step c w seat (step.Tally n v) = Leaves (tally_keeps w.now.words n v).turn
 turn_step c w seat _ = Leaves refl
 
 -- A seat that doesn't hold the turn leaves them, and so does `give`.
-outside_alike : (c : Config) (m : Moment) (seat : Seat) (x : Step) → (HoldsTurn c (view_of m) seat → ⊥) → Actor c m seat x → counts_alike x ≡ true
-outside_alike c m seat x out (InCallOf k y lt g) = by y g
-  where
-    by : (y : Step) → group_of y ≡ group.Callers → counts_alike y ≡ true
-    by (step.Tally n v) g = cc
-    by (step.Quar p n) g = cc
-    by step.Grant g = cc
-    by step.Begin g = cc
-    by step.Release g = cc
-    by _ g = refl
-outside_alike c m seat x out (AsMarker k y lt g) = by y g
-  where
-    by : (y : Step) → group_of y ≡ group.Markers → counts_alike y ≡ true
-    by (step.Tally n v) g = cc
-    by (step.Quar p n) g = cc
-    by step.Grant g = cc
-    by step.Begin g = cc
-    by step.Release g = cc
-    by _ g = refl
+
+of_no_turn : (x : Step) → is_of_turn (group_of x) ≡ false → counts_alike x ≡ true
+of_no_turn (step.Tally n v) g = cc
+of_no_turn (step.Quar p n) g = cc
+of_no_turn step.Grant g = cc
+of_no_turn step.Begin g = cc
+of_no_turn step.Release g = cc
+of_no_turn _ g = refl
+
+outside_alike : (c : Config) (m : Moment) (seat : Seat) (x : Step) → (HoldsTurn c (view_of m) seat → ⊥) → Actor c m seat x
+    → counts_alike x ≡ true
+outside_alike c m seat x out (InCallOf k y lt g) = of_no_turn y (ap is_of_turn g)
+outside_alike c m seat x out (AsMarker k y lt g) = of_no_turn y (ap is_of_turn g)
 outside_alike c m seat x out (CallTakes k o lt idle under) = refl
 outside_alike c m seat x out (HostTakes away) = refl
 outside_alike c m seat x out (AsHolder s y holds n) = absurd (out holds)
 
-give_answers : (c : Config) (m : Moment) (seat : Seat) → answers_full (answer_decided c m (record { seat = seat; step = step.Give })) ≡ false
+give_answers : (c : Config) (m : Moment) (seat : Seat)
+    → answers_full (answer_decided c m (record { seat = seat; step = step.Give })) ≡ false
 give_answers c m (Caller k) = refl
 give_answers c m (Marker k) = refl
 give_answers c m Host = refl
@@ -124,12 +108,20 @@ give_counts_nothing c w e is =
     record {
       alike = alike c w e.seat e.step (ap (λ (x : Step). counts_alike x) is);
       no_end = ap (λ (x : Step). is_end x) is;
-      no_full = ap (λ (x : Step). answers_full (answer_decided c w.now (record { seat = e.seat; step = x }))) is ∙ give_answers c w.now e.seat;
+      no_full = ap (λ (x : Step). answers_full (answer_decided c w.now (record { seat = e.seat; step = x }))) is
+          ∙ give_answers c w.now e.seat;
     }
 
-pub others_count_nothing : (c : Config) (w : World) (e : Event) → Known c w.now → Meets c w.now e.seat e.step → w.now.words.turn ≡ 0 → CountsNothing c w e
+pub others_count_nothing : (c : Config) (w : World) (e : Event) → Known c w.now → Meets c w.now e.seat e.step
+    → w.now.words.turn ≡ 0 → CountsNothing c w e
 others_count_nothing c w e known h free =
-    let out : HoldsTurn c (view_of w.now) e.seat → ⊥ = λ t. let turn = turn_of c (view_of w.now) e.seat known.orderly t in omega arith in
     let actor = actor_of c w.now e.seat e.step known.orderly h in
     let none = counts_nothing c w.now e.seat e.step out actor in
-    record { alike = alike c w e.seat e.step (outside_alike c w.now e.seat e.step out actor); no_end = none.0; no_full = none.1 }
+    record {
+      alike = alike c w e.seat e.step (outside_alike c w.now e.seat e.step out actor);
+      no_end = none.0;
+      no_full = none.1;
+    }
+  where
+    out : HoldsTurn c (view_of w.now) e.seat → ⊥
+    out t = let turn = turn_of c (view_of w.now) e.seat known.orderly t in omega arith
