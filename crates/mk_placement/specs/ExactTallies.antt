@@ -8,4 +8,5 @@ use Rattle.mk_core.specs.Counts.{TalliesAreExact}
 -- They are so before each `give`.
 abbrev pub TalliesAreExactAtGives : Config → List Event → Type 0
 TalliesAreExactAtGives c es =
-    (before : List Event) (e : Event) (behind : List Event) → es ≡ before ++ e ∷ behind → e.step ≡ step.Give → TalliesAreExact c before
+    (before : List Event) (e : Event) (behind : List Event) → es ≡ before ++ e ∷ behind → e.step ≡ step.Give
+    → TalliesAreExact c before
