@@ -76,7 +76,8 @@ module _ (c : Config) (w : World) (cell : Cell) (n : ℕ) (b : Before c w) (off 
   own = placed_at w.allocations x.own.number
 
   -- the others stay
-  others_count : (i : ℕ) → i ≢ x.own.number → (stand : Bool) → stands_in w.now.words cell (placed_at w.allocations i) ≡ stand
+  others_count : (i : ℕ) → i ≢ x.own.number → (stand : Bool)
+      → stands_in w.now.words cell (placed_at w.allocations i) ≡ stand
       → fresh_part c (if stand then freed_fresh (placed_at w.allocations i) else placed_at w.allocations i)
       ≡ fresh_part c (placed_at w.allocations i)
   others_count i ne false is = refl
@@ -101,7 +102,8 @@ module _ (c : Config) (w : World) (cell : Cell) (n : ℕ) (b : Before c w) (off 
   unfreed : own.freed ≡ false
   unfreed = false_from_ne_true own.freed (λ f.
       let bit = order.quarantined.shown x.own.number x.own.unreleased f in
-      true≢false (sym bit ∙ ap (λ (y : Cell). has_bit (slice_index w.now.words.freed y.page) y.index) x.own.is ∙ x.unset))
+      let same = ap (λ (y : Cell). has_bit (slice_index w.now.words.freed y.page) y.index) x.own.is in
+      true≢false (sym bit ∙ same ∙ x.unset))
 
   stale : own.fresh ≡ false
   stale = false_from_ne_true own.fresh (λ f. true≢false (sym (order.snapshot.fresh x.own.number f).0 ∙ unfreed))
@@ -109,13 +111,16 @@ module _ (c : Config) (w : World) (cell : Cell) (n : ℕ) (b : Before c w) (off 
   own_counts : fresh_part c (freed own) ≡ fresh_part c own + words_freed w.now.words (Some cell)
   own_counts =
       let o : Object = object_placed c own in
-      let now : fresh_part c (freed own) ≡ (if is_small_object o then words_made o else 0) =
-      ap (λ (y : PlacedAllocation). fresh_part c y) (cond-true (stands_in w.now.words cell own) (freed_fresh own) own x.stands)
-      ∙ counted_freed own.released (is_large (kinds_of c.types own.ty)) (is_small_object o) (words_made o) x.own.unreleased
+      let small : Bool = is_small_object o in
+      let becomes : freed own ≡ freed_fresh own =
+      cond-true (stands_in w.now.words cell own) (freed_fresh own) own x.stands in
+      let counted = counted_freed own.released (is_large (kinds_of c.types own.ty)) small (words_made o) x.own.unreleased
       (large_is_not_small (kinds_of c.types own.ty)) in
+      let now : fresh_part c (freed own) ≡ (if small then words_made o else 0) =
+      ap (λ (y : PlacedAllocation). fresh_part c y) becomes ∙ counted in
       let was = stale_part c own stale in
-      let added : words_freed w.now.words (Some cell) ≡ (if is_small_object o then words_made o else 0) =
-      words_of_part o (header_in w.now.words cell.page) part (is_small_object o) refl in
+      let added : words_freed w.now.words (Some cell) ≡ (if small then words_made o else 0) =
+      words_of_part o (header_in w.now.words cell.page) part small refl in
       omega arith
 
   within : x.own.number < length w.allocations
@@ -150,20 +155,23 @@ quar_told c w seat p n b h order told = by (cell_freed c.pages w.now.words (flig
         ≡ in_a_word (fresh_words_of c (map (freed_where_it_stands w.now.words cell) w.allocations))
     by None is =
         none_added w.now.fresh_words (fresh_words_of c w.allocations) told
-        ∙ ap (λ (ys : List PlacedAllocation). in_a_word (fresh_words_of c ys)) (sym (none_freed w.now.words w.allocations))
+        ∙ ap (λ (ys : List PlacedAllocation). in_a_word (fresh_words_of c ys))
+        (sym (none_freed w.now.words w.allocations))
     by (Some cell) is =
         let x = freed_cell c.pages w.now.words (flight_of w.now seat) p n cell is in
         let sum = fresh_freed c w cell n b x.phase order (frees_here c w seat p n cell b h order.laid x) in
         some_added w.now.fresh_words (fresh_words_of c w.allocations) (words_freed w.now.words (Some cell)) _ told sum
 
 -- `release`: what is fresh stays
-release_told : (c : Config) (w : World) (seat : Seat) → KeepsSnapshot c w → KeepsSnapshot c (WorldBehind c w seat step.Release)
-    → FreshTold c w → FreshTold c (WorldBehind c w seat step.Release)
+release_told : (c : Config) (w : World) (seat : Seat) → KeepsSnapshot c w
+    → KeepsSnapshot c (WorldBehind c w seat step.Release) → FreshTold c w
+    → FreshTold c (WorldBehind c w seat step.Release)
 release_told c w seat s now told =
     told ∙ ap (λ n. in_a_word n) (sym (fresh_kept c (with_released c w.now.words) w.allocations same))
   where
     counted : (released left mapped fresh : Bool) (m : ℕ) → (fresh ≡ true → (released || left) ≡ released)
-        → (if (not (released || left) && mapped) && fresh then m else 0) ≡ (if (not released && mapped) && fresh then m else 0)
+        → (if (not (released || left) && mapped) && fresh then m else 0)
+        ≡ (if (not released && mapped) && fresh then m else 0)
     counted released left mapped true m stays = ap (λ b. if (not b && mapped) && true then m else 0) (stays refl)
     counted released left mapped false m stays =
         no_part (not (released || left) && mapped) m ∙ sym (no_part (not released && mapped) m)

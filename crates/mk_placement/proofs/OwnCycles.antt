@@ -9,6 +9,7 @@ use Rattle.mk_core.specs.declared.events.Event.{Event}
 use Rattle.mk_core.specs.declared.events.Seat.{Seat}
 use Rattle.mk_core.specs.declared.events.Step.{Step}
 use Rattle.mk_core.specs.declared.events.Step.TheVariants as step
+use Rattle.mk_core.specs.declared.seats.Holding.{Holding}
 use Rattle.mk_core.specs.declared.seats.OwnCycle.{OwnCycle}
 use Rattle.mk_core.specs.declared.seats.OwnCycle.TheVariants.{Begun, Ended, NotBegun}
 use Rattle.mk_core.specs.Cycles.{At, Cycle, Marking, Releasing, is_begin, is_close, is_end, is_release}
@@ -29,7 +30,8 @@ some_of kind es = list_any (λ (e : Event). kind e.step) es
 
 -- A cycle under way, by the phase.
 pub data UnderWay (es : List Event) (phase : ℕ) : Type 0 where
-  Marks : (phase ≡ 1) ⊎ (phase ≡ 2) → (begin : At is_begin es) → some_of is_close begin.behind ≡ false → UnderWay es phase
+  Marks : (phase ≡ 1) ⊎ (phase ≡ 2) → (begin : At is_begin es) → some_of is_close begin.behind ≡ false
+      → UnderWay es phase
   Stops : phase ≡ 3 → (k : Marking es) → some_of is_release k.close.at.behind ≡ false → UnderWay es phase
   Releases : phase ≡ 4 → (k : Releasing es) → some_of is_end k.release.at.behind ≡ false → UnderWay es phase
 
@@ -64,23 +66,31 @@ StepsAt c w seat x v =
 
 abbrev begun_if : World → Bool → World
 begun_if w b =
-    record w { now = record w.now { seats = record w.now.seats { holding = if b then nothing_done else w.now.seats.holding } } }
+    let holding : Holding = if b then nothing_done else w.now.seats.holding in
+    record w { now = record w.now { seats = record w.now.seats { holding = holding } } }
 
-take_step : (c : Config) (w : World) (seat : Seat) (o : Option Op) (b : Bool) → StepsAt c w seat (step.Take o) (begun_if w b)
+take_step : (c : Config) (w : World) (seat : Seat) (o : Option Op) (b : Bool)
+    → StepsAt c w seat (step.Take o) (begun_if w b)
 take_step c w seat o true = Drops refl
 take_step c w seat o false = Stays (record { close = refl; release = refl; end = refl }) refl refl
 
-pub cycle_step : (c : Config) (w : World) (seat : Seat) (x : Step) → Meets c w.now seat x → StepsAt c w seat x (WorldBehind c w seat x)
+pub cycle_step : (c : Config) (w : World) (seat : Seat) (x : Step) → Meets c w.now seat x
+    → StepsAt c w seat x (WorldBehind c w seat x)
 cycle_step c w seat (step.Take o) h = take_step c w seat o (w.now.words.turn == 0)
 cycle_step c w seat step.Give h = Drops refl
 cycle_step c w seat step.Reg h =
     Stays (record { close = refl; release = refl; end = refl }) refl (ap (λ n. n % 8) (reg_leaves c w seat).phase)
 cycle_step c w seat (step.Tally n v) h =
-    Stays (record { close = refl; release = refl; end = refl }) refl (ap (λ m. m % 8) (tally_keeps w.now.words n v).phase)
-cycle_step c w seat step.Begin h = let e = eqb-true (w.now.words.phase % 8) 0 h.phase in Begins refl refl (omega arith)
-cycle_step c w seat step.Want h = let e = eqb-true (w.now.words.phase % 8) 1 h.phase in Wants refl e refl (omega arith)
-cycle_step c w seat step.Close h = let e = eqb-true (w.now.words.phase % 8) 2 h.phase in Closes refl e refl (omega arith)
-cycle_step c w seat step.Release h = let e = eqb-true (w.now.words.phase % 8) 3 h.phase in Frees refl e refl (omega arith)
+    let same = (tally_keeps w.now.words n v).phase in
+    Stays (record { close = refl; release = refl; end = refl }) refl (ap (λ m. m % 8) same)
+cycle_step c w seat step.Begin h =
+    let e = eqb-true (w.now.words.phase % 8) 0 h.phase in Begins refl refl (omega arith)
+cycle_step c w seat step.Want h =
+    let e = eqb-true (w.now.words.phase % 8) 1 h.phase in Wants refl e refl (omega arith)
+cycle_step c w seat step.Close h =
+    let e = eqb-true (w.now.words.phase % 8) 2 h.phase in Closes refl e refl (omega arith)
+cycle_step c w seat step.Release h =
+    let e = eqb-true (w.now.words.phase % 8) 3 h.phase in Frees refl e refl (omega arith)
 cycle_step c w seat step.End h = Ends refl (eqb-true (w.now.words.phase % 8) 4 h.phase) refl
 cycle_step c w seat step.Attend h = Stays (record { close = refl; release = refl; end = refl }) refl (omega arith)
 cycle_step c w seat step.Quit h = Stays (record { close = refl; release = refl; end = refl }) refl (omega arith)
@@ -113,14 +123,16 @@ module _ (es : List Event) (e : Event) (phase now : ℕ) where
   closes is two three (Releases at k none) = absurd (omega arith)
 
   frees : is_release e.step ≡ true → phase ≡ 3 → now ≡ 4 → UnderWay es phase → UnderWay (es ++ e ∷ []) now
-  frees is three four (Marks at begin none) = elim at [ inl one ↦ absurd (omega arith) | inr two ↦ absurd (omega arith) ]
+  frees is three four (Marks at begin none) =
+      elim at [ inl one ↦ absurd (omega arith) | inr two ↦ absurd (omega arith) ]
   frees is three four (Stops at k none) =
       Releases four
       (record { marking = longer_marking (e ∷ []) k; release = next_at_end k.close.at.behind e none is }) refl
   frees is three four (Releases at k none) = absurd (omega arith)
 
   ends : is_end e.step ≡ true → phase ≡ 4 → UnderWay es phase → Cycle (es ++ e ∷ [])
-  ends is four (Marks at begin none) = elim at [ inl one ↦ absurd (omega arith) | inr two ↦ absurd (omega arith) ]
+  ends is four (Marks at begin none) =
+      elim at [ inl one ↦ absurd (omega arith) | inr two ↦ absurd (omega arith) ]
   ends is four (Stops at k none) = absurd (omega arith)
   ends is four (Releases at k none) =
       record { releasing = longer_releasing (e ∷ []) k; end = next_at_end k.release.at.behind e none is }

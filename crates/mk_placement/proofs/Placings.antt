@@ -51,7 +51,8 @@ abbrev marks_at : Config → Moment → Flight → ℕ → ℕ → Option Place 
 marks_at c m f p n place = marks_place m.words (object_made c f.op) place p n
 
 -- A seat that has no undecided New serves none.
-pub none_to_serve : (c : Config) (m : Moment) (f : Flight) (x : Step) → is_undecided_new f ≡ false → serves c m f x ≡ false
+none_to_serve : (c : Config) (m : Moment) (f : Flight) (x : Step) → is_undecided_new f ≡ false
+    → serves c m f x ≡ false
 none_to_serve c m f x out = by x
   where
     none : place_now c m f ≡ None
@@ -60,9 +61,11 @@ none_to_serve c m f x out = by x
 
     by : (x : Step) → serves c m f x ≡ false
     by (step.Head p n) =
-        ap (λ (x : Option Place). not (is_phase m.words 4) && carves_at c m f p n x) none ∙ and-false (not (is_phase m.words 4))
+        ap (λ (x : Option Place). not (is_phase m.words 4) && carves_at c m f p n x) none
+        ∙ and-false (not (is_phase m.words 4))
     by (step.Used p n) =
-        ap (λ (x : Option Place). not (is_phase m.words 4) && takes_at c m f p n x) none ∙ and-false (not (is_phase m.words 4))
+        ap (λ (x : Option Place). not (is_phase m.words 4) && takes_at c m f p n x) none
+        ∙ and-false (not (is_phase m.words 4))
     by (step.Mark p n) = ap (λ (x : Option Place). marks_at c m f p n x) none
     by _ = refl
 
@@ -74,14 +77,16 @@ others_keep_holding c w seat v (Calls f lt g x) = refl
 others_keep_holding c w seat v (Marks y lt x) = refl
 
 -- What an event makes of the place: it serves none and leaves it, or fixes the first fit, or goes on with the place.
-pub data PlacingStep (c : Config) (m : Moment) (o : Object) (served : Bool) (before behind : Option Place) : Type 0 where
-  Stays : served ≡ false → behind ≡ before → PlacingStep c m o served before behind
-  Fixes : (place : Place) → served ≡ true → is_phase m.words 4 ≡ false → m.seats.holding.placing ≡ Unplaced → before ≡ None
-      → place_on_pages c.resident m.words.pages o ≡ Some place → behind ≡ Some place → PlacingStep c m o served before behind
-  GoesOn : (place : Place) → before ≡ Some place → behind ≡ Some place → PlacingStep c m o served before behind
+pub data PlacingStep (c : Config) (m : Moment) (o : Object) (served : Bool) (was now : Option Place) : Type 0 where
+  Stays : served ≡ false → now ≡ was → PlacingStep c m o served was now
+  Fixes : (place : Place) → served ≡ true → is_phase m.words 4 ≡ false → m.seats.holding.placing ≡ Unplaced
+      → place_on_pages c.resident m.words.pages o ≡ Some place → was ≡ None → now ≡ Some place
+      → PlacingStep c m o served was now
+  GoesOn : (place : Place) → was ≡ Some place → now ≡ Some place → PlacingStep c m o served was now
 
 abbrev Placed : Config → Moment → Flight → Step → Placing → Type 0
-Placed c m f x p = PlacingStep c m (object_made c f.op) (serves c m f x) (held_place m.seats.holding.placing) (held_place p)
+Placed c m f x p =
+    PlacingStep c m (object_made c f.op) (serves c m f x) (held_place m.seats.holding.placing) (held_place p)
 
 -- A change of the placing, which holds the place that the step has.
 record HoldsIt (change : Placing → Option Place → Placing) (place : Place) : Type 0 where
@@ -99,7 +104,7 @@ fixes c m f x place change is off now holds =
   where
     by : (p : Placing) → m.seats.holding.placing ≡ p → IsPlaced c.resident m.words.pages (object_made c f.op) place p
         → PlacingStep c m (object_made c f.op) (serves c m f x) (held_place p) (held_place (change p (Some place)))
-    by p at (ByFit fits) = Fixes place is off at refl fits holds.first
+    by p at (ByFit fits) = Fixes place is off at fits refl holds.first
     by p at AsChosen = GoesOn place refl holds.chosen
     by p at AsUsed = GoesOn place refl holds.used
 
@@ -114,7 +119,8 @@ taken_holds place = record { first = refl; chosen = refl; used = refl }
 head_places : (c : Config) (m : Moment) (f : Flight) (p n : ℕ) (b other : Bool) → is_phase m.words 4 ≡ b
     → m.seats.holding.freed ≡ None
     → (if b then other else carves_at c m f p n (place_now c m f) || unmaps m.words m.seats.holding.freed p n) ≡ true
-    → Placed c m f (step.Head p n) (if b then m.seats.holding.placing else chosen m.seats.holding.placing (place_now c m f))
+    → Placed c m f (step.Head p n)
+    (if b then m.seats.holding.placing else chosen m.seats.holding.placing (place_now c m f))
 head_places c m f p n true other at none h = Stays (ap (λ b. not b && carves_at c m f p n (place_now c m f)) at) refl
 head_places c m f p n false other at none h =
     elim (or_cases (carves_at c m f p n (place_now c m f)) (unmaps m.words m.seats.holding.freed p n) h) [
@@ -127,7 +133,8 @@ head_places c m f p n false other at none h =
 
 used_places : (c : Config) (m : Moment) (f : Flight) (p n : ℕ) (b other : Bool) → is_phase m.words 4 ≡ b
     → (if b then other else not (is_used_once m.seats.holding.placing) && takes_at c m f p n (place_now c m f)) ≡ true
-    → Placed c m f (step.Used p n) (if b then m.seats.holding.placing else taken m.seats.holding.placing (place_now c m f))
+    → Placed c m f (step.Used p n)
+    (if b then m.seats.holding.placing else taken m.seats.holding.placing (place_now c m f))
 used_places c m f p n true other at h = Stays (ap (λ b. not b && takes_at c m f p n (place_now c m f)) at) refl
 used_places c m f p n false other at h =
     let is = (and_parts (not (is_used_once m.seats.holding.placing)) (takes_at c m f p n (place_now c m f)) h).1 in
@@ -139,7 +146,8 @@ not_four : (n : ℕ) → (n == 1) ≡ true → (n == 4) ≡ false
 not_four n one = let e = eqb-true n 1 one in ne_eqb n 4 (λ four. omega arith)
 
 mark_places : (c : Config) (m : Moment) (f : Flight) (p n : ℕ) (b : Bool) → marks_at c m f p n (place_now c m f) ≡ b
-    → Placed c m f (step.Mark p n) (if b then chosen m.seats.holding.placing (place_now c m f) else m.seats.holding.placing)
+    → Placed c m f (step.Mark p n)
+    (if b then chosen m.seats.holding.placing (place_now c m f) else m.seats.holding.placing)
 mark_places c m f p n false is = Stays is refl
 mark_places c m f p n true is =
     let x = marks_is m.words (object_made c f.op) (place_now c m f) p n is in
@@ -200,10 +208,12 @@ others_places c w seat x k known h holds other =
     held = let turn = turn_of c (view_of w.now) (Caller k) known.orderly holds in λ z. omega arith
 
     none : is_undecided_new (flight_of w.now seat) ≡ false
-    none = false_from_ne_true (is_undecided_new (flight_of w.now seat)) (λ new. out (new_has_turn c w.now seat h.seat new))
+    none =
+        false_from_ne_true (is_undecided_new (flight_of w.now seat))
+        (λ new. out (new_has_turn c w.now seat h.seat new))
 
-pub places_at : (c : Config) (w : World) (seat : Seat) (x : Step) (k : ℕ) → Known c w.now → Meets c w.now seat x → k < c.callers
-    → HasNew w k → HasNew (WorldBehind c w seat x) k → PlacesAt c w seat x k
+pub places_at : (c : Config) (w : World) (seat : Seat) (x : Step) (k : ℕ) → Known c w.now → Meets c w.now seat x
+    → k < c.callers → HasNew w k → HasNew (WorldBehind c w seat x) k → PlacesAt c w seat x k
 places_at c w seat x k known h lt was new = by seat h new
   where
     holds : HoldsTurn c (view_of w.now) (Caller k)
@@ -219,7 +229,8 @@ places_at c w seat x k known h lt was new = by seat h new
     by Host h new = others_places c w Host x k known h holds (λ e. cc)
     by (Caller j) h new = elim (cases_eq k j) [
       | inl same ↦
-          subst (λ i. Meets c w.now (Caller i) x → HasNew (WorldBehind c w (Caller i) x) k → PlacesAt c w (Caller i) x k)
+          subst
+          (λ i. Meets c w.now (Caller i) x → HasNew (WorldBehind c w (Caller i) x) k → PlacesAt c w (Caller i) x k)
           same own h new
       | inr ne ↦ others_places c w (Caller j) x k known h holds (λ (e : Caller j ≡ Caller k). ne cc)
     ]

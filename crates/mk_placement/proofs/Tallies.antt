@@ -54,8 +54,8 @@ world_before : (c : Config) (es : List Event) → IsHistory c es → Before c (l
 world_before c es h =
     let all = histories_keep_the_invariant c es h in
     let others = told_to_layout c (left c es) _ (known_world c es h.within_limits h.enabled) all in
-    known_before c (left c es) h.within_limits (histories_keep_lengths c es) (known_left c es h.within_limits h.enabled) others
-    all.order.quarantined
+    let known = known_left c es h.within_limits h.enabled in
+    known_before c (left c es) h.within_limits (histories_keep_lengths c es) known others all.order.quarantined
 
 fresh_kept : KeptByEvents FreshIsTold
 fresh_kept c es e h told =
@@ -142,8 +142,9 @@ module _ (c : Config) (es : List Event) (e : Event) (nothing : CountsNothing c (
   same_fulls : fulls c es ≡ fulls c (es ++ e ∷ [])
   same_fulls =
       let ds : List Decided = call_decided c (left c es).now e in
-      let f : Flight = flight_of (left c es).now e.seat in
-      let last : fulls_of ds ≡ 0 = entry_fulls (caller_number e.seat) f.op (answer_decided c (left c es).now e) nothing.no_full in
+      let m : Moment = (left c es).now in
+      let last : fulls_of ds ≡ 0 =
+      entry_fulls (caller_number e.seat) (flight_of m e.seat).op (answer_decided c m e) nothing.no_full in
       let pushed : fulls c (es ++ e ∷ []) ≡ fulls c es + fulls_of ds =
       ap (λ (xs : List Decided). fulls_of xs) (calls_more c (first_world c) es e) ∙ fulls_append (calls c es) ds in
       omega arith
@@ -175,8 +176,8 @@ tidy_before c es e tidy before g behind is gives =
 abbrev ExactAndTidy : Config → List Event → Type 0
 ExactAndTidy c es = TalliesAreExact c es × (IsTidy c es → TalliesAreTidy c es)
 
-told_behind : (c : Config) (es : List Event) (e : Event) → IsHistory c es → Meets c (left c es).now e.seat e.step → TalliesTell c es
-    → TurnStep e.step (left c es).now.words.turn (world_behind c (left c es) e).now.words.turn
+told_behind : (c : Config) (es : List Event) (e : Event) → IsHistory c es → Meets c (left c es).now e.seat e.step
+    → TalliesTell c es → TurnStep e.step (left c es).now.words.turn (world_behind c (left c es) e).now.words.turn
     → (world_behind c (left c es) e).now.words.turn ≡ 0 → ExactAndTidy c (es ++ e ∷ [])
 told_behind c es e h meets tells (Takes held) free = absurd (held free)
 told_behind c es e h meets tells (Gives is) free =
@@ -197,7 +198,8 @@ tells_kept c es e h tells free =
 
 tells_at_first : (c : Config) → TalliesTell c []
 unfolding left_from calls_from unreleased_storage
-tells_at_first c free = (record { held = refl; fresh = refl }, λ tidy. record { cycles = refl; released = refl; full = refl })
+tells_at_first c free =
+    (record { held = refl; fresh = refl }, λ tidy. record { cycles = refl; released = refl; full = refl })
 
 pub tallies_tell : OfHistories TalliesTell
 tallies_tell = holds_of_histories TalliesTell tells_at_first tells_kept

@@ -38,7 +38,8 @@ pub record CountsAlike (w v : World) : Type 0 where
   pub tallies : LeavesTallies w.now.words v.now.words
   pub allocations : v.allocations ≡ w.allocations
 
-alike : (c : Config) (w : World) (seat : Seat) (x : Step) → counts_alike x ≡ true → CountsAlike w (WorldBehind c w seat x)
+alike : (c : Config) (w : World) (seat : Seat) (x : Step) → counts_alike x ≡ true
+    → CountsAlike w (WorldBehind c w seat x)
 alike c w seat (step.Tally n v) is = cc
 alike c w seat (step.Quar p n) is = cc
 alike c w seat step.Grant is = cc
@@ -46,10 +47,16 @@ alike c w seat step.Begin is = cc
 alike c w seat step.Release is = cc
 alike c w seat step.Reg is =
     let f : Flight = flight_of w.now seat in
-    let leaves = register_leaves_tallies w.now.words (caller_number seat) (register_met f f.stage) (reg_access f f.stage) in
-    record { tallies = leaves; allocations = refl }
+    let access = reg_access f f.stage in
+    record {
+      tallies = register_leaves_tallies w.now.words (caller_number seat) (register_met f f.stage) access;
+      allocations = refl;
+    }
 alike c w seat _ is =
-    record { tallies = record { held = refl; fresh = refl; cycles = refl; released = refl; full = refl }; allocations = refl }
+    record {
+      tallies = record { held = refl; fresh = refl; cycles = refl; released = refl; full = refl };
+      allocations = refl;
+    }
 
 -- What an event does to the turn: it takes one that is free, gives it back, or leaves it.
 pub data TurnStep (x : Step) (turn now : ℕ) : Type 0 where
@@ -57,7 +64,8 @@ pub data TurnStep (x : Step) (turn now : ℕ) : Type 0 where
   Gives : x ≡ step.Give → TurnStep x turn now
   Leaves : now ≡ turn → TurnStep x turn now
 
-pub turn_step : (c : Config) (w : World) (seat : Seat) (x : Step) → TurnStep x w.now.words.turn (WorldBehind c w seat x).now.words.turn
+pub turn_step : (c : Config) (w : World) (seat : Seat) (x : Step)
+    → TurnStep x w.now.words.turn (WorldBehind c w seat x).now.words.turn
 turn_step c w seat (step.Take o) = by (w.now.words.turn == 0)
   where
     by : (b : Bool) → TurnStep (step.Take o) w.now.words.turn (if b then 1 + holder_number c seat else w.now.words.turn)
@@ -78,8 +86,8 @@ of_no_turn step.Begin g = cc
 of_no_turn step.Release g = cc
 of_no_turn _ g = refl
 
-outside_alike : (c : Config) (m : Moment) (seat : Seat) (x : Step) → (HoldsTurn c (view_of m) seat → ⊥) → Actor c m seat x
-    → counts_alike x ≡ true
+outside_alike : (c : Config) (m : Moment) (seat : Seat) (x : Step) → (HoldsTurn c (view_of m) seat → ⊥)
+    → Actor c m seat x → counts_alike x ≡ true
 outside_alike c m seat x out (InCallOf k y lt g) = of_no_turn y (ap is_of_turn g)
 outside_alike c m seat x out (AsMarker k y lt g) = of_no_turn y (ap is_of_turn g)
 outside_alike c m seat x out (CallTakes k o lt idle under) = refl

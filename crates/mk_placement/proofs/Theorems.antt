@@ -10,6 +10,7 @@ use Rattle.mk_core.specs.declared.events.Seat.{Seat}
 use Rattle.mk_core.specs.declared.events.Seat.TheVariants.{Caller}
 use Rattle.mk_core.specs.declared.events.Step.{Step}
 use Rattle.mk_core.specs.declared.events.Step.TheVariants as step
+use Rattle.mk_core.specs.declared.seats.Holding.{Holding}
 use Rattle.mk_core.specs.declared.seats.Object.{Object}
 use Rattle.mk_core.specs.declared.seats.OwnCycle.{OwnCycle}
 use Rattle.mk_core.specs.declared.seats.OwnCycle.TheVariants.{Ended}
@@ -34,10 +35,10 @@ use Rattle.mk_placement.proofs.Undecided.{HasNew}
 -- What holds where a caller with an undecided New makes a step of this kind holds where any seat makes it.
 at_each : (c : Config) (x : Step) (claim : List Event → Seat → Type 0)
     → ((m : Moment) (seat : Seat) → Meets c m seat x → is_undecided_new (flight_of m seat) ≡ true)
-    → ((es : List Event) (k : ℕ) → IsHistory c es → k < c.callers → HasNew (left c es) k → Meets c (left c es).now (Caller k) x
-    → claim es (Caller k))
-    → (es before : List Event) (e : Event) (behind : List Event) → IsHistory c es → es ≡ before ++ e ∷ behind → e.step ≡ x
-    → claim before e.seat
+    → ((es : List Event) (k : ℕ) → IsHistory c es → k < c.callers → HasNew (left c es) k
+    → Meets c (left c es).now (Caller k) x → claim es (Caller k))
+    → (es before : List Event) (e : Event) (behind : List Event) → IsHistory c es → es ≡ before ++ e ∷ behind
+    → e.step ≡ x → claim before e.seat
 at_each c x claim news there es before e behind h is kind =
     let here = before_it c es before e behind h is in
     let m : Moment = (left c before).now in
@@ -57,7 +58,8 @@ granted_there c es k h lt new meets = by (left c es).now.seats.holding.placing r
     o : Object
     o = object_at c es (Caller k)
 
-    by : (p : Placing) → (left c es).now.seats.holding.placing ≡ p → is_used_once p ≡ true → StandsAtItsPlace c es (Caller k)
+    by : (p : Placing) → (left c es).now.seats.holding.placing ≡ p → is_used_once p ≡ true
+        → StandsAtItsPlace c es (Caller k)
     by (Used place) at once =
         let t = news_are_tracked c es h k lt new in
         let served : HasPlace c (Caller k) t.turn o (Some place) =
@@ -92,7 +94,8 @@ full_there : (c : Config) (es : List Event) (k : ℕ) → IsHistory c es → k <
 full_there c es k h lt new meets =
     let w : World = left c es in
     let o : Object = object_at c es (Caller k) in
-    let parts = full_is c.resident w.now.words.pages o w.now.seats.holding.placing w.now.seats.holding.cycle meets.holder in
+    let y : Holding = w.now.seats.holding in
+    let parts = full_is c.resident w.now.words.pages o y.placing y.cycle meets.holder in
     let t = news_are_tracked c es h k lt new in
     let zero = eqb-true (phase_of w.now.words) 0 meets.phase in
     let off : is_phase w.now.words 4 ≡ false = ne_eqb (phase_of w.now.words) 4 (λ four. omega arith) in

@@ -43,7 +43,8 @@ use Rattle.mk_placement.proofs.Placings.{Fixes, GoesOn, PlacingStep, Stays, plac
 use Rattle.mk_placement.proofs.Undecided.{HasNew, IsTaken, NewCame, WasNew, new_came, new_holds_turn, new_object}
 
 -- A step of the turn has served its New first, where the place was this one.
-pub record ServedFirst (c : Config) (s : Seat) {es : List Event} (t : TurnOf c s es) (o : Object) (place : Place) : Type 0 where
+pub record ServedFirst (c : Config) (s : Seat) {es : List Event} (t : TurnOf c s es) (o : Object) (place : Place)
+    : Type 0 where
   pub first : FirstServed c t
   pub fits : place_for c (before_served t first) o ≡ Some place
 
@@ -80,7 +81,8 @@ gives_off c w (Caller j) x k known lt new =
 
 -- Where nothing is placed yet, nothing is on its way,
 pub unplaced_settles : (c : Config) (es : List Event) (k : ℕ) → IsHistory c es → k < c.callers → HasNew (left c es) k
-    → is_phase (left c es).now.words 4 ≡ false → (left c es).now.seats.holding.placing ≡ Unplaced → IsSettled (left c es)
+    → is_phase (left c es).now.words 4 ≡ false → (left c es).now.seats.holding.placing ≡ Unplaced
+    → IsSettled (left c es)
 unplaced_settles c es k h lt new off at =
     let w : World = left c es in
     let undecided = undecided_new (flight_of w.now (Caller k)) new in
@@ -116,7 +118,8 @@ module _ (c : Config) (es : List Event) (e : Event) (k : ℕ) (o : Object) (t : 
   stays : event_serves c (left c es) e ≡ false → (place : Option Place) → HasPlace c (Caller k) t o place
       → HasPlace c (Caller k) (longer_turn t e on) o place
   stays none None has =
-      none_serves_more c _ t.behind e has (ap (λ (w : World). event_serves c w e) (left_in_turn c (Caller k) es t) ∙ none)
+      let here = left_in_turn c (Caller k) es t in
+      none_serves_more c _ t.behind e has (ap (λ (w : World). event_serves c w e) here ∙ none)
   stays none (Some place) has = goes_on place has
 
   fixes : (place : Place) → event_serves c (left c es) e ≡ true → place_for c es o ≡ Some place
@@ -135,20 +138,21 @@ module _ (c : Config) (es : List Event) (e : Event) (k : ℕ) (o : Object) (t : 
         fits = ap (λ (w : World). place_among_allocations c o.words o.leaf w.allocations) here ∙ fits;
       }
 
-  place_more : (before behind : Option Place) → PlacingStep c (left c es).now o (event_serves c (left c es) e) before behind
-      → FitsHere c es o → HasPlace c (Caller k) t o before → HasPlace c (Caller k) (longer_turn t e on) o behind
-  place_more before behind (Stays none same) fit has = to_place behind before same (stays none before has)
-  place_more before behind (Fixes place is off at no_place found now) fit has =
-      to_place behind (Some place) now
-      (fixes place is (fit place off at found) (subst (λ (p : Option Place). HasPlace c (Caller k) t o p) no_place has))
-  place_more before behind (GoesOn place was now) fit has =
-      to_place behind (Some place) now
-      (goes_on place (subst (λ (p : Option Place). HasPlace c (Caller k) t o p) was has))
+  place_more : (was now : Option Place) → PlacingStep c (left c es).now o (event_serves c (left c es) e) was now
+      → FitsHere c es o → HasPlace c (Caller k) t o was → HasPlace c (Caller k) (longer_turn t e on) o now
+  place_more was now (Stays none same) fit has = to_place now was same (stays none was has)
+  place_more was now (Fixes place is off at found empty there) fit has =
+      to_place now (Some place) there
+      (fixes place is (fit place off at found) (subst (λ (p : Option Place). HasPlace c (Caller k) t o p) empty has))
+  place_more was now (GoesOn place here there) fit has =
+      to_place now (Some place) there
+      (goes_on place (subst (λ (p : Option Place). HasPlace c (Caller k) t o p) here has))
 
 -- One event: the `take` of the New, or one behind it.
 
 abbrev TrackedBehind : Config → List Event → Seat → Step → ℕ → Type 0
-TrackedBehind c es seat x k = Tracked c (es ++ record { seat = seat; step = x } ∷ []) (WorldBehind c (left c es) seat x) k
+TrackedBehind c es seat x k =
+    Tracked c (es ++ record { seat = seat; step = x } ∷ []) (WorldBehind c (left c es) seat x) k
 
 tracked_behind : (c : Config) (es : List Event) (seat : Seat) (x : Step) (k : ℕ) → NewCame c (left c es) seat x k
     → NewsAreTracked c es → IsHistory c es → Meets c (left c es).now seat x → k < c.callers
@@ -157,7 +161,8 @@ unfolding NoneServesFrom
 tracked_behind c es seat x k (IsTaken o own take free begun) all h meets lt new =
     record {
       turn = turn;
-      placed = subst (λ (y : Holding). HasPlace c (Caller k) turn (new_object c v k) (held_place y.placing)) (sym begun) tt;
+      placed =
+          subst (λ (y : Holding). HasPlace c (Caller k) turn (new_object c v k) (held_place y.placing)) (sym begun) tt;
       cycle = subst (λ (y : Holding). HasCycle [] y.cycle (phase_of v.now.words)) (sym begun) tt;
     }
   where
@@ -178,11 +183,15 @@ tracked_behind c es seat x k (IsTaken o own take free begun) all h meets lt new 
 tracked_behind c es seat x k (WasNew same) all h meets lt new =
     record {
       turn = longer_turn t.turn e on;
-      placed = subst (λ (f : Flight). HasPlace c (Caller k) (longer_turn t.turn e on) (object_made c f.op) (held_place v.now.seats.holding.placing))
-          (sym same)
-          (place_more c es e k (new_object c w k) t.turn on _ _ (places_at c w seat x k known meets lt was new)
-          (fits_here c es k (new_object c w k) h lt was) t.placed);
-      cycle = cycle_more t.turn.behind e (phase_of w.now.words) _ w.now.seats.holding.cycle _ (cycle_step c w seat x meets) t.cycle;
+      placed =
+          subst
+          (λ (y : Object). HasPlace c (Caller k) (longer_turn t.turn e on) y (held_place v.now.seats.holding.placing))
+          (ap (λ (f : Flight). object_made c f.op) (sym same))
+          (place_more c es e k o t.turn on _ _ (places_at c w seat x k known meets lt was new) (fits_here c es k o h lt was)
+          t.placed);
+      cycle =
+          cycle_more t.turn.behind e (phase_of w.now.words) _ w.now.seats.holding.cycle _ (cycle_step c w seat x meets)
+          t.cycle;
     }
   where
     w : World
@@ -193,6 +202,9 @@ tracked_behind c es seat x k (WasNew same) all h meets lt new =
 
     e : Event
     e = record { seat = seat; step = x }
+
+    o : Object
+    o = new_object c (left c es) k
 
     known : Known c (left c es).now
     known = known_left c es h.within_limits h.enabled
@@ -211,7 +223,8 @@ one_more c es e h all k lt new =
     let here = before_it c (es ++ e ∷ []) es e [] h refl in
     let more : left c (es ++ e ∷ []) ≡ world_behind c (left c es) e = left_more c (first_world c) es e in
     let behind : HasNew (world_behind c (left c es) e) k = subst (λ (w : World). HasNew w k) more new in
-    let came = new_came c (left c es) e.seat e.step k (known_left c es here.0.within_limits here.0.enabled) here.1 behind in
+    let known = known_left c es here.0.within_limits here.0.enabled in
+    let came = new_came c (left c es) e.seat e.step k known here.1 behind in
     subst (λ (w : World). Tracked c (es ++ e ∷ []) w k) (sym more)
     (tracked_behind c es e.seat e.step k came all here.0 here.1 lt behind)
 

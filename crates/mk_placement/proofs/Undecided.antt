@@ -35,7 +35,8 @@ abbrev pub HasNew : World → ℕ → Type 0
 HasNew w k = is_undecided_new (flight_of w.now (Caller k)) ≡ true
 
 -- and so the turn; and what it makes.
-pub new_holds_turn : (c : Config) (w : World) (k : ℕ) → k < c.callers → HasNew w k → HoldsTurn c (view_of w.now) (Caller k)
+pub new_holds_turn : (c : Config) (w : World) (k : ℕ) → k < c.callers → HasNew w k
+    → HoldsTurn c (view_of w.now) (Caller k)
 new_holds_turn c w k lt new = (lt, new_stands (flight_of w.now (Caller k)).stage (flight_of w.now (Caller k)).op new)
 
 abbrev pub new_object : Config → World → ℕ → Object
