@@ -114,8 +114,8 @@ module _ (c : Config) (w : World) (cell : Cell) (n : ℕ) (b : Before c w) (off 
       let small : Bool = is_small_object o in
       let becomes : freed own ≡ freed_fresh own =
       cond-true (stands_in w.now.words cell own) (freed_fresh own) own x.stands in
-      let counted = counted_freed own.released (is_large (kinds_of c.types own.ty)) small (words_made o) x.own.unreleased
-      (large_is_not_small (kinds_of c.types own.ty)) in
+      let large = large_is_not_small (kinds_of c.types own.ty) in
+      let counted = counted_freed own.released _ small (words_made o) x.own.unreleased large in
       let now : fresh_part c (freed own) ≡ (if small then words_made o else 0) =
       ap (λ (y : PlacedAllocation). fresh_part c y) becomes ∙ counted in
       let was = stale_part c own stale in

@@ -187,8 +187,8 @@ tracked_behind c es seat x k (WasNew same) all h meets lt new =
           subst
           (λ (y : Object). HasPlace c (Caller k) (longer_turn t.turn e on) y (held_place v.now.seats.holding.placing))
           (ap (λ (f : Flight). object_made c f.op) (sym same))
-          (place_more c es e k o t.turn on _ _ (places_at c w seat x k known meets lt was new) (fits_here c es k o h lt was)
-          t.placed);
+          (place_more c es e k o t.turn on _ _ (places_at c w seat x k known meets lt was new)
+          (fits_here c es k o h lt was) t.placed);
       cycle =
           cycle_more t.turn.behind e (phase_of w.now.words) _ w.now.seats.holding.cycle _ (cycle_step c w seat x meets)
           t.cycle;
