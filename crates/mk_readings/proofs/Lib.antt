@@ -1,3 +1,5 @@
+pub mod AppliedReadings
+pub mod AppliedTheorems
 pub mod CyclePhases
 pub mod FreeCells
 pub mod FreeWords
