@@ -40,7 +40,9 @@ unfolding by c0 large_freed
 run_is_made = earlier_part_is_history three_pages (take 4 large_freed) (drop 4 large_freed) large_is_history
 
 -- The second page of a run of two says that the first is its head.
-pub later_page_has_its_head : (run : RunPages) × (run_headed (header_in (left three_pages (take 4 large_freed)).now.words 0) 0 ≡ Some run) × (1 < run.count) × (1 ≤ 1)
+pub later_page_has_its_head : (run : RunPages)
+    × (run_headed (header_in (left three_pages (take 4 large_freed)).now.words 0) 0 ≡ Some run) × (1 < run.count)
+    × (1 ≤ 1)
 unfolding by c0 all_below pointed_cell three_pages large_freed left_from
 later_page_has_its_head = (headers_and_quarantine_tell three_pages (take 4 large_freed) run_is_made).later (λ e. eqb-false 0 4 refl e) 1 1 true refl
 
@@ -49,7 +51,8 @@ unfolding begun_in_stop three_objects
 three_is_history = earlier_part_is_history small three_objects (drop 24 stopped_cycle) stopped_is_history
 
 -- The one freed bit is that of a freed object,
-pub freed_bit_is_of_a_freed_one : (a : IsTaken (left small three_objects) third_cell) × ((placed_at (left small three_objects).allocations a.number).freed ≡ true)
+pub freed_bit_is_of_a_freed_one : (a : IsTaken (left small three_objects) third_cell)
+    × ((placed_at (left small three_objects).allocations a.number).freed ≡ true)
 unfolding left_from all_below pointed_cell three_objects
 freed_bit_is_of_a_freed_one = (headers_and_quarantine_tell small three_objects three_is_history).freed (λ e. eqb-false 0 4 refl e) third_cell third_is_freed
 
@@ -116,7 +119,8 @@ release_has_its_cycle = releases_are_of_cycles one_page freed_after_begin freed_
 abbrev second_cell : Cell
 second_cell = record { page = 0; index = 1 }
 
-stands_there : (number : ℕ) → stands_in (left one_page freed_after_begin).now.words second_cell (placed_at (left one_page freed_after_begin).allocations number) ≡ true → ⊥
+stands_there : (number : ℕ)
+    → stands_in (left one_page freed_after_begin).now.words second_cell (placed_at (left one_page freed_after_begin).allocations number) ≡ true → ⊥
 unfolding by c0 host all_below pointed_cell one_page freed_after_begin left_from
 stands_there zero h = false≢true h
 stands_there (suc zero) h = false≢true h

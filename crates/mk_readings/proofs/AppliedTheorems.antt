@@ -63,7 +63,8 @@ second_is_kept = theorems.reach_is_kept small begun_in_stop begun_is_history 1 s
 
 -- The first exchange is answered 1, so the values are equal; at the second they aren't, or it would be answered so too.
 
-pub first_compares_equal : word_at (never_behind pointer_page (take 16 exchanged)) 0 0 ≡ register_at (never_behind pointer_page (take 16 exchanged)) 0 2
+pub first_compares_equal : word_at (never_behind pointer_page (take 16 exchanged)) 0 0
+    ≡ register_at (never_behind pointer_page (take 16 exchanged)) 0 2
 unfolding by c0 all_below pointed_cell pointer_page exchanged left_from calls_from
 first_compares_equal =
     (theorems.exchanges_compare pointer_page exchanged exchanged_is_history (take 16 exchanged) (drop 17 exchanged) 0 0 0 2 1 0 refl refl 0 refl).0 refl
@@ -71,7 +72,8 @@ first_compares_equal =
 answered_zero : Some (answer.Num 0) ≡ Some (answer.Num 1) → ⊥
 answered_zero h = let no : ◌≡◌ {A = ℕ} 0 1 = cc in omega arith
 
-pub second_compares_unequal : word_at (never_behind pointer_page (take 24 exchanged)) 0 0 ≡ register_at (never_behind pointer_page (take 24 exchanged)) 0 2 → ⊥
+pub second_compares_unequal : word_at (never_behind pointer_page (take 24 exchanged)) 0 0
+    ≡ register_at (never_behind pointer_page (take 24 exchanged)) 0 2 → ⊥
 unfolding by c0 all_below pointed_cell pointer_page exchanged left_from calls_from
 second_compares_unequal same =
     answered_zero
@@ -100,7 +102,8 @@ page_told_by_storage =
     sym ((theorems.pages_show_the_storage one_page full_then_reused full_is_history full_is_settled).words 0 free_page (ltb-true 0 1 refl))
 
 -- and no place among them, told by the words.
-pub no_place_told_by_words : place_among_allocations one_page 32 true (left one_page full_then_reused).allocations ≡ None
+pub no_place_told_by_words : place_among_allocations one_page 32 true (left one_page full_then_reused).allocations
+    ≡ None
 unfolding by c0 all_below pointed_cell may_turn_black one_page full_then_reused left_from
 no_place_told_by_words =
     sym (theorems.first_fit_finds_the_place one_page full_then_reused full_is_history (record { words = 32; leaf = true }) full_is_settled)
@@ -118,7 +121,8 @@ unfolding left_from all_below pointed_cell written_beside three_objects
 written_is_guarded =
     theorems.black_cells_are_guarded small written_beside beside_begins (inl refl) 0 0 0 (ltb-true 0 32 refl) refl refl (ltb-true 0 2 refl)
 
-owed_by_one : IsGuarded small (left small written_beside).now 0 → (k : ℕ) × OwesDirty (left small written_beside).now k 0
+owed_by_one : IsGuarded small (left small written_beside).now 0
+    → (k : ℕ) × OwesDirty (left small written_beside).now k 0
 owed_by_one (PointsWell well) = absurd (false≢true (sym written_points_badly ∙ well))
 owed_by_one (PageIsDirty dirty) = let clean = page_is_clean in absurd (omega arith)
 owed_by_one (DirtyIsOwed k owes) = (k, owes)

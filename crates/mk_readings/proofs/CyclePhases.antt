@@ -49,7 +49,8 @@ phase_behind step.End p = 0
 phase_behind step.Over p = 5
 phase_behind _ p = p
 
-pub phase_moves : (c : Config) (m : Moment) (seat : Seat) (x : Step) → Meets c m seat x → phase_of (Behind c m seat x).words ≡ phase_behind x (phase_of m.words)
+pub phase_moves : (c : Config) (m : Moment) (seat : Seat) (x : Step) → Meets c m seat x
+    → phase_of (Behind c m seat x).words ≡ phase_behind x (phase_of m.words)
 phase_moves c m seat step.Reg h = ap (λ (t : Table). t.phase % 8) (reg_table c m seat)
 phase_moves c m seat (step.Tally n v) h = ap (λ (t : Table). t.phase % 8) (tally_table m.words n v)
 phase_moves c m seat step.Begin h = let e = phase_asked c m seat step.Begin h in omega arith
@@ -82,7 +83,8 @@ pub record IsUnreleased (p : ℕ) : Type 0 where
   pub least : 1 ≤ p
   pub most : p ≤ 3
 
-unreleased_step : (x : Step) (p : ℕ) → AsksPhase x p → IsUnreleased p → is_release x ≡ false → IsUnreleased (phase_behind x p) × (is_begin x ≡ false)
+unreleased_step : (x : Step) (p : ℕ) → AsksPhase x p → IsUnreleased p → is_release x ≡ false
+    → IsUnreleased (phase_behind x p) × (is_begin x ≡ false)
 unreleased_step step.Begin p asks m out = let least = m.least in absurd (omega arith)
 unreleased_step step.Want p asks m out = (record { least = omega arith; most = omega arith }, refl)
 unreleased_step step.Close p asks m out = (record { least = omega arith; most = omega arith }, refl)
@@ -100,7 +102,9 @@ both_out a b e f = ap (λ x. x || b) e ∙ f
 
 -- One event that is enabled: what its phases are.
 pub moves_phase : (c : Config) (w : World) (e : Event) (es : List Event) → AreEnabledFrom c w (e ∷ es)
-    → AsksPhase e.step (phase_of w.now.words) × (phase_of (world_behind c w e).now.words ≡ phase_behind e.step (phase_of w.now.words)) × AreEnabledFrom c (world_behind c w e) es
+    → AsksPhase e.step (phase_of w.now.words)
+    × (phase_of (world_behind c w e).now.words ≡ phase_behind e.step (phase_of w.now.words))
+    × AreEnabledFrom c (world_behind c w e) es
 unfolding AreEnabledFrom
 moves_phase c w e es on =
     let meets = enabled_meets c w.now e on.0 in
@@ -111,7 +115,8 @@ pub record MarkingGoesOn (c : Config) (w : World) (es : List Event) : Type 0 whe
   pub none_begins : list_any (λ (e : Event). is_begin e.step) es ≡ false
   pub none_releases : list_any (λ (e : Event). is_release e.step) es ≡ false
 
-pub marking_goes_on : (c : Config) (w : World) (es : List Event) → AreEnabledFrom c w es → IsMarking (phase_of w.now.words)
+pub marking_goes_on : (c : Config) (w : World) (es : List Event) → AreEnabledFrom c w es
+    → IsMarking (phase_of w.now.words)
     → list_any (λ (e : Event). is_close e.step) es ≡ false → MarkingGoesOn c w es
 unfolding left_from
 marking_goes_on c w [] on m none = record { phase = m; none_begins = refl; none_releases = refl }
@@ -130,7 +135,8 @@ pub record NoneIsReleased (c : Config) (w : World) (es : List Event) : Type 0 wh
   pub phase : IsUnreleased (phase_of (left_from c w es).now.words)
   pub none_begins : list_any (λ (e : Event). is_begin e.step) es ≡ false
 
-pub none_is_released : (c : Config) (w : World) (es : List Event) → AreEnabledFrom c w es → IsUnreleased (phase_of w.now.words)
+pub none_is_released : (c : Config) (w : World) (es : List Event) → AreEnabledFrom c w es
+    → IsUnreleased (phase_of w.now.words)
     → list_any (λ (e : Event). is_release e.step) es ≡ false → NoneIsReleased c w es
 unfolding left_from
 none_is_released c w [] on m none = record { phase = m; none_begins = refl }

@@ -37,7 +37,8 @@ changed_puts g xs i leaves u =
       unreleased = ap (λ (a : PlacedAllocation). a.released) at ∙ u;
     }
 
-put_step : (c : Config) (w : World) (seat : Seat) (x : Step) (i : ℕ) → is_release x ≡ false → (placed_at w.allocations i).released ≡ false
+put_step : (c : Config) (w : World) (seat : Seat) (x : Step) (i : ℕ) → is_release x ≡ false
+    → (placed_at w.allocations i).released ≡ false
     → StaysPut (placed_at w.allocations i) (placed_at (WorldBehind c w seat x).allocations i)
 put_step c w seat (step.Quar p n) i out u =
     changed_puts (freed_where_it_stands w.now.words (cell_freed c.pages w.now.words (flight_of w.now seat) p n)) w.allocations i
@@ -54,8 +55,10 @@ put_step c w seat step.Grant i out u =
 put_step c w seat step.Release i out u = cc
 put_step c w seat _ i out u = record { base = refl; ty = refl; unreleased = u }
 
-pub stays_put : (c : Config) (w : World) (es : List Event) (i : ℕ) → list_any (λ (e : Event). is_release e.step) es ≡ false
-    → (placed_at w.allocations i).released ≡ false → StaysPut (placed_at w.allocations i) (placed_at (left_from c w es).allocations i)
+pub stays_put : (c : Config) (w : World) (es : List Event) (i : ℕ)
+    → list_any (λ (e : Event). is_release e.step) es ≡ false
+    → (placed_at w.allocations i).released ≡ false
+    → StaysPut (placed_at w.allocations i) (placed_at (left_from c w es).allocations i)
 unfolding left_from
 stays_put c w [] i none u = record { base = refl; ty = refl; unreleased = u }
 stays_put c w (e ∷ es) i none u =

@@ -30,14 +30,17 @@ at_longer {kind} {es} at more =
       of_kind = at.of_kind;
     }
 
-abbrev next_longer : {kind : Step → Bool} {es : List Event} → Next kind es → (more : List Event) → Next kind (es ++ more)
+abbrev next_longer : {kind : Step → Bool} {es : List Event} → Next kind es → (more : List Event)
+    → Next kind (es ++ more)
 next_longer {kind} {es} next more = record { at = at_longer next.at more; none_before = next.none_before }
 
 abbrev marking_longer : {es : List Event} → Marking es → (more : List Event) → Marking (es ++ more)
 marking_longer {es} k more = record { begin = at_longer k.begin more; close = next_longer k.close more }
 
-none_longer : (test : Event → Bool) (es : List Event) (e : Event) → list_any test es ≡ false → test e ≡ false → list_any test (es ++ e ∷ []) ≡ false
-none_longer test es e none out = list_any-append test es (e ∷ []) ∙ ap (λ b. b || (test e || false)) none ∙ ap (λ b. b || false) out
+none_longer : (test : Event → Bool) (es : List Event) (e : Event) → list_any test es ≡ false → test e ≡ false
+    → list_any test (es ++ e ∷ []) ≡ false
+none_longer test es e none out = list_any-append test es (e ∷ []) ∙ ap (λ b. b || (test e || false)) none
+    ∙ ap (λ b. b || false) out
 
 -- While marking, a cycle is begun and not closed; where marks are closed, it isn't released.
 
@@ -97,7 +100,8 @@ so_far seat _ p es asks k =
     }
 
 -- behind each enabled list
-along : (c : Config) (done es : List Event) → AreEnabledFrom c (left c done) es → CycleSoFar (phase_of (left c done).now.words) done
+along : (c : Config) (done es : List Event) → AreEnabledFrom c (left c done) es
+    → CycleSoFar (phase_of (left c done).now.words) done
     → CycleSoFar (phase_of (left c (done ++ es)).now.words) (done ++ es)
 along c done [] on k = subst (λ (xs : List Event). CycleSoFar (phase_of (left c xs).now.words) xs) (sym (append-nil done)) k
 along c done (e ∷ es) on k =

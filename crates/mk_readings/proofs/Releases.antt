@@ -33,30 +33,37 @@ use Rattle.mk_readings.proofs.CyclePhases.{begin_is, close_is, marking_goes_on, 
 use Rattle.mk_readings.proofs.Snapshots.{enabled_at, unreleased_cycles}
 
 -- The parts of a list up to a cycle's `release`, nested as the cycle has them.
-pub up_to_release : {X : Type 0} (xs ys zs : List X) (b x : X) → ((xs ++ b ∷ []) ++ ys) ++ x ∷ zs ≡ xs ++ b ∷ (ys ++ x ∷ zs)
+pub up_to_release : {X : Type 0} (xs ys zs : List X) (b x : X)
+    → ((xs ++ b ∷ []) ++ ys) ++ x ∷ zs ≡ xs ++ b ∷ (ys ++ x ∷ zs)
 up_to_release xs ys zs b x = append_assoc (xs ++ b ∷ []) ys (x ∷ zs) ∙ append_assoc xs (b ∷ []) (ys ++ x ∷ zs)
 
-with_rest : {X : Type 0} (xs ys zs rest : List X) (b x : X) → (((xs ++ b ∷ []) ++ ys) ++ x ∷ zs) ++ rest ≡ xs ++ b ∷ (ys ++ x ∷ (zs ++ rest))
+with_rest : {X : Type 0} (xs ys zs rest : List X) (b x : X)
+    → (((xs ++ b ∷ []) ++ ys) ++ x ∷ zs) ++ rest ≡ xs ++ b ∷ (ys ++ x ∷ (zs ++ rest))
 with_rest {X} xs ys zs rest b x =
     ap (λ (all : List X). all ++ rest) (up_to_release xs ys zs b x) ∙ append_assoc xs (b ∷ (ys ++ x ∷ zs)) rest
     ∙ ap (λ (more : List X). xs ++ b ∷ more) (append_assoc ys (x ∷ zs) rest)
 
 -- No other cycle begins between a `begin` and its `release`.
-none_begins : (c : Config) (w : World) (b x : Event) (ys zs : List Event) → AreEnabledFrom c w (b ∷ (ys ++ x ∷ zs)) → is_begin b.step ≡ true
-    → list_any (λ (e : Event). is_close e.step) ys ≡ false → is_close x.step ≡ true → list_any (λ (e : Event). is_release e.step) zs ≡ false
+none_begins : (c : Config) (w : World) (b x : Event) (ys zs : List Event) → AreEnabledFrom c w (b ∷ (ys ++ x ∷ zs))
+    → is_begin b.step ≡ true
+    → list_any (λ (e : Event). is_close e.step) ys ≡ false → is_close x.step ≡ true
+    → list_any (λ (e : Event). is_release e.step) zs ≡ false
     → list_any (λ (e : Event). is_begin e.step) (ys ++ x ∷ zs) ≡ false
 none_begins c w b x ys zs on begins no_close closes no_release =
     let first = moves_phase c w b (ys ++ x ∷ zs) on in
-    let one : phase_of (world_behind c w b).now.words ≡ 1 = first.1 ∙ ap (λ (s : Step). phase_behind s (phase_of w.now.words)) (begin_is b.step begins) in
+    let one : phase_of (world_behind c w b).now.words ≡ 1 = first.1
+    ∙ ap (λ (s : Step). phase_behind s (phase_of w.now.words)) (begin_is b.step begins) in
     let parts = enabled_parts c (world_behind c w b) ys (x ∷ zs) first.2 in
     let marking = marking_goes_on c (world_behind c w b) ys parts.0 (record { least = omega arith; most = omega arith }) no_close in
     let v : World = left_from c (world_behind c w b) ys in
     let close = moves_phase c v x zs parts.1 in
-    let three : phase_of (world_behind c v x).now.words ≡ 3 = close.1 ∙ ap (λ (s : Step). phase_behind s (phase_of v.now.words)) (close_is x.step closes) in
+    let three : phase_of (world_behind c v x).now.words ≡ 3 = close.1
+    ∙ ap (λ (s : Step). phase_behind s (phase_of v.now.words)) (close_is x.step closes) in
     let rest = none_is_released c (world_behind c v x) zs close.2 (record { least = omega arith; most = omega arith }) no_release in
     list_any-append (λ (e : Event). is_begin e.step) ys (x ∷ zs)
     ∙ ap (λ b. b || list_any (λ (e : Event). is_begin e.step) (x ∷ zs)) marking.none_begins
-    ∙ ap (λ (s : Step). is_begin s || list_any (λ (e : Event). is_begin e.step) zs) (close_is x.step closes) ∙ rest.none_begins
+    ∙ ap (λ (s : Step). is_begin s || list_any (λ (e : Event). is_begin e.step) zs) (close_is x.step closes)
+    ∙ rest.none_begins
 
 -- A `release` decides no call.
 none_decided : (c : Config) (m : Moment) (e : Event) → e.step ≡ step.Release → call_decided c m e ≡ []
@@ -67,7 +74,8 @@ none_decided c m e is = ap (λ (x : Step). call_decided c m (record { seat = e.s
     by (Marker k) = refl
     by Host = refl
 
-never_stays : (c : Config) (es : List Event) (e : Event) → is_release e.step ≡ true → never_behind c (es ++ e ∷ []) ≡ never_behind c es
+never_stays : (c : Config) (es : List Event) (e : Event) → is_release e.step ≡ true
+    → never_behind c (es ++ e ∷ []) ≡ never_behind c es
 unfolding calls_from
 never_stays c es e is =
     never_in_parts c es (e ∷ [])
@@ -140,7 +148,8 @@ module _ (c : Config) (es : List Event) (h : IsHistory c es) (r : Releasing es) 
       let w : World = left c (before_release r) in
       let a : PlacedAllocation = placed_at w.allocations i in
       let s = allocations_stand c (before_release r) before_is_history i u in
-      let changed : (left c (before_release r ++ r.release.at.event ∷ [])).allocations ≡ map (with_released c w.now.words) w.allocations =
+      let changed : (left c (before_release r ++ r.release.at.event ∷ [])).allocations
+      ≡ map (with_released c w.now.words) w.allocations =
       ap (λ (v : World). v.allocations) (left_in_parts c (before_release r) (r.release.at.event ∷ []))
       ∙ ap (λ (x : Step). allocations_by c w.now (flight_of w.now r.release.at.event.seat) x w.allocations) (release_is r.release.at.event.step r.release.at.of_kind) in
       ap (λ (xs : List PlacedAllocation). (placed_at xs i).released) changed
@@ -166,7 +175,8 @@ module _ (c : Config) (es : List Event) (h : IsHistory c es) (r : Releasing es) 
     λ both. released_is i u ∙ and_from (in_snapshot i) (not (marked i)) both.0 (ap not both.1),
   )
 
-  pub none_reached : (number : ℕ) → IsReached (never_behind c (before_release r)) number → (allocation_behind c r number).released ≡ false
+  pub none_reached : (number : ℕ) → IsReached (never_behind c (before_release r)) number
+      → (allocation_behind c r number).released ≡ false
   none_reached number reached =
       reach_is_kept c (before_release r ++ r.release.at.event ∷ []) behind_is_history number
       (subst (λ (n : NeverState). IsReached n number) (sym (never_stays c (before_release r) r.release.at.event r.release.at.of_kind)) reached)

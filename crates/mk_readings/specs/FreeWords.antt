@@ -25,7 +25,8 @@ IsOfNoneMapped c xs n = (i : ℕ) → is_mapped c (placed_at xs i) ≡ true → 
 -- Such a word is 0,
 abbrev pub WordsOfNoneAreZero : Config → List Event → Type 0
 WordsOfNoneAreZero c es =
-    phase_of (left c es).now.words ≢ 4 → (n : ℕ) → IsOfNone c (left c es).allocations n → slice_index (left c es).now.words.heap n ≡ 0
+    phase_of (left c es).now.words ≢ 4 → (n : ℕ) → IsOfNone c (left c es).allocations n
+    → slice_index (left c es).now.words.heap n ≡ 0
 
 -- and, where no Free is unmapping or wiping its run, so is each word of no mapped allocation.
 abbrev pub UnmappedWordsAreZero : Config → List Event → Type 0
@@ -36,7 +37,8 @@ UnmappedWordsAreZero c es =
 -- So the words of a cell are 0 in which no unreleased allocation stands,
 abbrev pub FreeCellsAreZero : Config → List Event → Type 0
 FreeCellsAreZero c es =
-    phase_of (left c es).now.words ≢ 4 → (cell : Cell) → cell.index < cells_under (header_in (left c es).now.words cell.page)
+    phase_of (left c es).now.words ≢ 4 → (cell : Cell)
+    → cell.index < cells_under (header_in (left c es).now.words cell.page)
     → (IsTaken (left c es) cell → ⊥)
     → words_are_zero (left c es).now.words (first_word (left c es).now.words cell) (cell_words (left c es).now.words cell) ≡ true
 

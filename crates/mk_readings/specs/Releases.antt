@@ -28,7 +28,8 @@ ReleasesAreExact c es =
 -- and none that a program can get to.
 abbrev pub ReleasesNoneReached : Config → List Event → Type 0
 ReleasesNoneReached c es =
-    (r : Releasing es) (number : ℕ) → IsReached (never_behind c (before_release r)) number → (allocation_behind c r number).released ≡ false
+    (r : Releasing es) (number : ℕ) → IsReached (never_behind c (before_release r)) number
+    → (allocation_behind c r number).released ≡ false
 
 -- Each `release` is that of a cycle.
 abbrev pub ReleasesAreOfCycles : Config → List Event → Type 0
