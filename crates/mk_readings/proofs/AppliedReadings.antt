@@ -10,7 +10,7 @@ use Rattle.mk_core.specs.Allocations.{cell_of_allocation, placed_at, stands_in}
 use Rattle.mk_core.specs.Bounded.{all_below}
 use Rattle.mk_core.specs.Cells.{header_in, is_freed, is_in_snapshot, pointed_cell, run_headed, words_are_zero}
 use Rattle.mk_core.specs.Cycles.{At, Releasing, before_release, is_begin, is_quarantined}
-use Rattle.mk_core.specs.History.{IsHistory, calls_from, left, left_from}
+use Rattle.mk_core.specs.History.{IsHistory, World, calls_from, left, left_from}
 use Rattle.mk_core.specs.Readings.{IsTaken, SnapshotTells}
 use Rattle.mk_core.specs.StopConditions.{may_turn_black}
 use Rattle.mk_core.proofs.EvaluatedCycles.{cycle_of_blackened, first_cycle, in_first_snapshot, not_in_first_snapshot}
@@ -33,6 +33,17 @@ use Rattle.mk_readings.proofs.Releases.{releases_are_exact, releases_none_reache
 use Rattle.mk_readings.proofs.Snapshots as snapshots
 use Rattle.mk_readings.proofs.Stands.{headers_and_quarantine_tell}
 
+-- what the lists leave that several theorems are applied to
+
+abbrev pub marked : World
+marked = left small (take 47 stopped_cycle)
+
+abbrev pub back : World
+back = left one_page freed_after_begin
+
+abbrev pub wiped : World
+wiped = left three_pages (take 20 large_freed)
+
 -- Headers and freed bits.
 
 run_is_made : IsHistory three_pages (take 4 large_freed)
@@ -44,7 +55,8 @@ pub later_page_has_its_head : (run : RunPages)
     × (run_headed (header_in (left three_pages (take 4 large_freed)).now.words 0) 0 ≡ Some run) × (1 < run.count)
     × (1 ≤ 1)
 unfolding by c0 all_below pointed_cell three_pages large_freed left_from
-later_page_has_its_head = (headers_and_quarantine_tell three_pages (take 4 large_freed) run_is_made).later (λ e. eqb-false 0 4 refl e) 1 1 true refl
+later_page_has_its_head =
+    (headers_and_quarantine_tell three_pages (take 4 large_freed) run_is_made).later (λ e. eqb-false 0 4 refl e) 1 1 true refl
 
 three_is_history : IsHistory small three_objects
 unfolding begun_in_stop three_objects
@@ -54,7 +66,8 @@ three_is_history = earlier_part_is_history small three_objects (drop 24 stopped_
 pub freed_bit_is_of_a_freed_one : (a : IsTaken (left small three_objects) third_cell)
     × ((placed_at (left small three_objects).allocations a.number).freed ≡ true)
 unfolding left_from all_below pointed_cell three_objects
-freed_bit_is_of_a_freed_one = (headers_and_quarantine_tell small three_objects three_is_history).freed (λ e. eqb-false 0 4 refl e) third_cell third_is_freed
+freed_bit_is_of_a_freed_one =
+    (headers_and_quarantine_tell small three_objects three_is_history).freed (λ e. eqb-false 0 4 refl e) third_cell third_is_freed
 
 -- which has it.
 pub freed_one_has_its_bit : is_freed (left small three_objects).now.words third_cell ≡ true
@@ -76,7 +89,8 @@ told : SnapshotTells small begun
 unfolding begun_in_stop three_objects marked_in_stop event_number at_number
 told = snapshots.snapshots_tell small (take 47 stopped_cycle) marked_is_history begun refl
 
-pub third_in_snapshot : is_in_snapshot (left small (take 47 stopped_cycle)).now.words (cell_of_allocation small (placed_at (left small begun.before).allocations 2)) ≡ true
+pub third_in_snapshot : is_in_snapshot marked.now.words
+    (cell_of_allocation small (placed_at (left small begun.before).allocations 2)) ≡ true
 unfolding left_from all_below pointed_cell begun_in_stop three_objects marked_in_stop event_number at_number
 third_in_snapshot = told.has 2 refl
 
@@ -89,7 +103,8 @@ bit_is_of_a_quarantined_one = told.is third_cell refl
 
 pub first_is_released : (allocation_behind one_page first_cycle.releasing 0).released ≡ true
 unfolding by c0 host all_below pointed_cell one_page freed_after_begin left_from event_number at_number first_cycle
-first_is_released = (releases_are_exact one_page freed_after_begin freed_is_history first_cycle.releasing 0 refl).1 (in_first_snapshot, refl)
+first_is_released =
+    (releases_are_exact one_page freed_after_begin freed_is_history first_cycle.releasing 0 refl).1 (in_first_snapshot, refl)
 
 pub second_is_not_released : (allocation_behind one_page first_cycle.releasing 1).released ≡ true → ⊥
 unfolding by c0 host all_below pointed_cell one_page freed_after_begin left_from event_number at_number first_cycle
@@ -99,12 +114,15 @@ second_is_not_released gone =
 -- The other schedule's keeps a freed object to which a word leads: it is marked, and it is reached.
 
 pub marked_is_not_released : (allocation_behind pointer_page cycle_of_blackened.releasing 2).released ≡ true → ⊥
-unfolding by c0 m0 host all_below pointed_cell may_turn_black pointer_page blackened_before_the_move left_from event_number at_number cycle_of_blackened
+unfolding by c0 m0 host all_below pointed_cell may_turn_black pointer_page blackened_before_the_move left_from
+    event_number at_number cycle_of_blackened
 marked_is_not_released gone =
-    false≢true (sym ((releases_are_exact pointer_page blackened_before_the_move blackened_is_history cycle_of_blackened.releasing 2 refl).0 gone).1)
+    false≢true
+    (sym ((releases_are_exact pointer_page blackened_before_the_move blackened_is_history cycle_of_blackened.releasing 2 refl).0 gone).1)
 
 pub reached_is_not_released : (allocation_behind pointer_page cycle_of_blackened.releasing 2).released ≡ false
-unfolding by c0 m0 host all_below pointed_cell may_turn_black pointer_page blackened_before_the_move left_from calls_from event_number at_number cycle_of_blackened
+unfolding by c0 m0 host all_below pointed_cell may_turn_black pointer_page blackened_before_the_move left_from calls_from
+    event_number at_number cycle_of_blackened
 reached_is_not_released =
     releases_none_reached pointer_page blackened_before_the_move blackened_is_history cycle_of_blackened.releasing 2
     (by_word 0 0 2 (by_register 0 0 refl) (refl, refl))
@@ -112,7 +130,9 @@ reached_is_not_released =
 -- Each `release` has its cycle.
 pub release_has_its_cycle : (r : Releasing freed_after_begin) × (before_release r ≡ take 32 freed_after_begin)
 unfolding by c0 host freed_after_begin
-release_has_its_cycle = releases_are_of_cycles one_page freed_after_begin freed_is_history (take 32 freed_after_begin) (drop 33 freed_after_begin) seat.Host refl
+release_has_its_cycle =
+    releases_are_of_cycles one_page freed_after_begin freed_is_history (take 32 freed_after_begin) (drop 33 freed_after_begin)
+    seat.Host refl
 
 -- Words that are 0: those of the cell that was given back,
 
@@ -120,30 +140,32 @@ abbrev second_cell : Cell
 second_cell = record { page = 0; index = 1 }
 
 stands_there : (number : ℕ)
-    → stands_in (left one_page freed_after_begin).now.words second_cell (placed_at (left one_page freed_after_begin).allocations number) ≡ true → ⊥
+    → stands_in back.now.words second_cell (placed_at back.allocations number) ≡ true → ⊥
 unfolding by c0 host all_below pointed_cell one_page freed_after_begin left_from
 stands_there zero h = false≢true h
 stands_there (suc zero) h = false≢true h
 stands_there (suc (suc zero)) h = false≢true h
 stands_there (suc (suc (suc n))) h = false≢true h
 
-pub given_back_is_zero : words_are_zero (left one_page freed_after_begin).now.words 32 32 ≡ true
+pub given_back_is_zero : words_are_zero back.now.words 32 32 ≡ true
 unfolding by c0 host all_below pointed_cell one_page freed_after_begin left_from
 given_back_is_zero =
-    cells.free_cells_are_zero one_page freed_after_begin freed_is_history (λ e. eqb-false 0 4 refl e) second_cell (ltb-true 1 2 refl)
-    (λ a. stands_there a.number a.stands)
+    cells.free_cells_are_zero one_page freed_after_begin freed_is_history (λ e. eqb-false 0 4 refl e) second_cell
+    (ltb-true 1 2 refl) (λ a. stands_there a.number a.stands)
 
 -- one of the four behind ten cells of 6 words,
 pub behind_cells_is_zero : slice_index (left two_pages granted_while_marking).now.words.heap 126 ≡ 0
 unfolding by c0 all_below pointed_cell two_pages granted_while_marking left_from
 behind_cells_is_zero =
-    cells.words_behind_cells_are_zero two_pages granted_while_marking marking_is_history (λ e. eqb-false 1 4 refl e) 126 (leb-true 60 62 refl)
+    cells.words_behind_cells_are_zero two_pages granted_while_marking marking_is_history (λ e. eqb-false 1 4 refl e) 126
+    (leb-true 60 62 refl)
 
 -- one of a free page,
 pub free_page_is_zero : slice_index (left three_pages large_freed).now.words.heap 150 ≡ 0
 unfolding by c0 all_below pointed_cell three_pages large_freed left_from
 free_page_is_zero =
-    cells.words_behind_cells_are_zero three_pages large_freed large_is_history (λ e. eqb-false 0 4 refl e) 150 (leb-true 0 22 refl)
+    cells.words_behind_cells_are_zero three_pages large_freed large_is_history (λ e. eqb-false 0 4 refl e) 150
+    (leb-true 0 22 refl)
 
 -- and, once its run is wiped, the word that was written to of a freed large object.
 
@@ -151,11 +173,13 @@ wiped_is_history : IsHistory three_pages (take 20 large_freed)
 unfolding by c0 large_freed
 wiped_is_history = earlier_part_is_history three_pages (take 20 large_freed) (drop 20 large_freed) large_is_history
 
-none_is_mapped : (n : ℕ) → IsOfNoneMapped three_pages (left three_pages (take 20 large_freed)).allocations n
+none_is_mapped : (n : ℕ) → IsOfNoneMapped three_pages wiped.allocations n
 unfolding by c0 all_below pointed_cell three_pages large_freed left_from
 none_is_mapped n zero mapped word = false≢true mapped
 none_is_mapped n (suc i) mapped word = false≢true mapped
 
-pub wiped_is_zero : slice_index (left three_pages (take 20 large_freed)).now.words.heap 64 ≡ 0
+pub wiped_is_zero : slice_index wiped.now.words.heap 64 ≡ 0
 unfolding by c0 all_below pointed_cell three_pages large_freed left_from
-wiped_is_zero = unmapped_words_are_zero three_pages (take 20 large_freed) wiped_is_history (λ e. eqb-false 0 4 refl e) refl 64 (none_is_mapped 64)
+wiped_is_zero =
+    unmapped_words_are_zero three_pages (take 20 large_freed) wiped_is_history (λ e. eqb-false 0 4 refl e) refl 64
+    (none_is_mapped 64)

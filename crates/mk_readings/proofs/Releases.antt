@@ -167,7 +167,8 @@ module _ (c : Config) (es : List Event) (h : IsHistory c es) (r : Releasing es) 
 
   pub exact : (i : ℕ) → (allocation_before c r i).released ≡ false
       → ((allocation_behind c r i).released ≡ true)
-      ↔ (IsInSnapshot c r.marking i × (is_marked (left c (before_release r)).now.words (cell_of_allocation c (allocation_before c r i)) ≡ false))
+      ↔ (IsInSnapshot c r.marking i
+      × (is_marked (left c (before_release r)).now.words (cell_of_allocation c (allocation_before c r i)) ≡ false))
   exact i u = (
     λ gone.
         let parts = and_parts (in_snapshot i) (not (marked i)) (sym (released_is i u) ∙ gone) in

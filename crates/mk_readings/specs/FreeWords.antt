@@ -40,7 +40,8 @@ FreeCellsAreZero c es =
     phase_of (left c es).now.words ≢ 4 → (cell : Cell)
     → cell.index < cells_under (header_in (left c es).now.words cell.page)
     → (IsTaken (left c es) cell → ⊥)
-    → words_are_zero (left c es).now.words (first_word (left c es).now.words cell) (cell_words (left c es).now.words cell) ≡ true
+    → words_are_zero (left c es).now.words (first_word (left c es).now.words cell) (cell_words (left c es).now.words cell)
+    ≡ true
 
 -- how many of a page's words its cells take: of a free page none, and of a run's all
 abbrev pub words_in_cells : Option Header → ℕ

@@ -23,7 +23,8 @@ abbrev pub ReleasesAreExact : Config → List Event → Type 0
 ReleasesAreExact c es =
     (r : Releasing es) (i : ℕ) → (allocation_before c r i).released ≡ false
     → ((allocation_behind c r i).released ≡ true)
-    ↔ (IsInSnapshot c r.marking i × (is_marked (left c (before_release r)).now.words (cell_of_allocation c (allocation_before c r i)) ≡ false))
+    ↔ (IsInSnapshot c r.marking i
+    × (is_marked (left c (before_release r)).now.words (cell_of_allocation c (allocation_before c r i)) ≡ false))
 
 -- and none that a program can get to.
 abbrev pub ReleasesNoneReached : Config → List Event → Type 0
