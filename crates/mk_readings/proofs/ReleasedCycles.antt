@@ -58,41 +58,56 @@ pub record CycleSoFar (p : ℕ) (es : List Event) : Type 0 where
 
 begun_longer : (es : List Event) (e : Event) → is_close e.step ≡ false → HasBegun es → HasBegun (es ++ e ∷ [])
 begun_longer es e out b =
-    record { begin = at_longer b.begin (e ∷ []); open_yet = none_longer (λ (x : Event). is_close x.step) b.begin.behind e b.open_yet out }
+    record {
+      begin = at_longer b.begin (e ∷ []);
+      open_yet = none_longer (λ (x : Event). is_close x.step) b.begin.behind e b.open_yet out;
+    }
 
 closed_longer : (es : List Event) (e : Event) → is_release e.step ≡ false → HasClosed es → HasClosed (es ++ e ∷ [])
 closed_longer es e out b =
-    record { marking = marking_longer b.marking (e ∷ []); unreleased = none_longer (λ (x : Event). is_release x.step) b.marking.close.at.behind e b.unreleased out }
+    record {
+      marking = marking_longer b.marking (e ∷ []);
+      unreleased = none_longer (λ (x : Event). is_release x.step) b.marking.close.at.behind e b.unreleased out;
+    }
+
+abbrev at_end : {kind : Step → Bool} (es : List Event) (e : Event) → kind e.step ≡ true → At kind (es ++ e ∷ [])
+at_end es e is = record { before = es; event = e; behind = []; is = refl; of_kind = is }
 
 begun_here : (es : List Event) (e : Event) → is_begin e.step ≡ true → HasBegun (es ++ e ∷ [])
-begun_here es e is = record { begin = record { before = es; event = e; behind = []; is = refl; of_kind = is }; open_yet = refl }
+begun_here es e is = record { begin = at_end es e is; open_yet = refl }
 
 closed_here : (es : List Event) (e : Event) → is_close e.step ≡ true → HasBegun es → HasClosed (es ++ e ∷ [])
 closed_here es e is b =
     record {
       marking = record {
         begin = at_longer b.begin (e ∷ []);
-        close = record { at = record { before = b.begin.behind; event = e; behind = []; is = refl; of_kind = is }; none_before = b.open_yet };
+        close = record { at = at_end b.begin.behind e is; none_before = b.open_yet };
       };
       unreleased = refl;
     }
 
 so_far : (seat : Seat) (x : Step) (p : ℕ) (es : List Event) → AsksPhase x p → CycleSoFar p es
     → CycleSoFar (phase_behind x p) (es ++ record { seat = seat; step = x } ∷ [])
-so_far seat step.Begin p es asks k = record { begun = λ m. begun_here es (record { seat = seat; step = step.Begin }) refl; closed = λ e. absurd (omega arith) }
+so_far seat step.Begin p es asks k =
+    record { begun = λ m. begun_here es (record { seat = seat; step = step.Begin }) refl; closed = λ e. absurd (omega arith) }
 so_far seat step.Want p es asks k =
+    let m : IsMarking p = record { least = omega arith; most = omega arith } in
     record {
-      begun = λ m. begun_longer es (record { seat = seat; step = step.Want }) refl (k.begun (record { least = omega arith; most = omega arith }));
+      begun = λ n. begun_longer es (record { seat = seat; step = step.Want }) refl (k.begun m);
       closed = λ e. absurd (omega arith);
     }
 so_far seat step.Close p es asks k =
+    let m : IsMarking p = record { least = omega arith; most = omega arith } in
     record {
-      begun = λ m. let most = m.most in absurd (omega arith);
-      closed = λ e. closed_here es (record { seat = seat; step = step.Close }) refl (k.begun (record { least = omega arith; most = omega arith }));
+      begun = λ n. let most = n.most in absurd (omega arith);
+      closed = λ e. closed_here es (record { seat = seat; step = step.Close }) refl (k.begun m);
     }
-so_far seat step.Release p es asks k = record { begun = λ m. let most = m.most in absurd (omega arith); closed = λ e. absurd (omega arith) }
-so_far seat step.End p es asks k = record { begun = λ m. let least = m.least in absurd (omega arith); closed = λ e. absurd (omega arith) }
-so_far seat step.Over p es asks k = record { begun = λ m. let most = m.most in absurd (omega arith); closed = λ e. absurd (omega arith) }
+so_far seat step.Release p es asks k =
+    record { begun = λ n. let most = n.most in absurd (omega arith); closed = λ e. absurd (omega arith) }
+so_far seat step.End p es asks k =
+    record { begun = λ n. let least = n.least in absurd (omega arith); closed = λ e. absurd (omega arith) }
+so_far seat step.Over p es asks k =
+    record { begun = λ n. let most = n.most in absurd (omega arith); closed = λ e. absurd (omega arith) }
 so_far seat _ p es asks k =
     record {
       begun = λ m. begun_longer es _ refl (k.begun m);
@@ -103,13 +118,15 @@ so_far seat _ p es asks k =
 along : (c : Config) (done es : List Event) → AreEnabledFrom c (left c done) es
     → CycleSoFar (phase_of (left c done).now.words) done
     → CycleSoFar (phase_of (left c (done ++ es)).now.words) (done ++ es)
-along c done [] on k = subst (λ (xs : List Event). CycleSoFar (phase_of (left c xs).now.words) xs) (sym (append-nil done)) k
+along c done [] on k =
+    subst (λ (xs : List Event). CycleSoFar (phase_of (left c xs).now.words) xs) (sym (append-nil done)) k
 along c done (e ∷ es) on k =
     let w : World = left c done in
     let moves = moves_phase c w e es on in
     let next : left c (done ++ e ∷ []) ≡ world_behind c w e = left_more c (first_world c) done e in
     let one : CycleSoFar (phase_of (left c (done ++ e ∷ [])).now.words) (done ++ e ∷ []) =
-    subst (λ p. CycleSoFar p (done ++ e ∷ [])) (sym moves.1 ∙ ap (λ (v : World). phase_of v.now.words) (sym next)) (so_far e.seat e.step (phase_of w.now.words) done moves.0 k) in
+    subst (λ p. CycleSoFar p (done ++ e ∷ [])) (sym moves.1 ∙ ap (λ (v : World). phase_of v.now.words) (sym next))
+    (so_far e.seat e.step (phase_of w.now.words) done moves.0 k) in
     subst (λ (xs : List Event). CycleSoFar (phase_of (left c xs).now.words) xs) (append_assoc done (e ∷ []) es)
     (along c (done ++ e ∷ []) es (subst (λ (v : World). AreEnabledFrom c v es) (sym next) moves.2) one)
 
@@ -129,7 +146,13 @@ front_is {es} k =
 pub releases_are_of_cycles : OfHistories ReleasesAreOfCycles
 releases_are_of_cycles c es h front rest seat is =
     subst (λ (xs : List Event). (r : Releasing xs) × (before_release r ≡ front)) (sym is) (
-      record { marking = marking_longer k.marking (e ∷ rest); release = record { at = record { before = k.marking.close.at.behind; event = e; behind = rest; is = refl; of_kind = refl }; none_before = k.unreleased } },
+      record {
+        marking = marking_longer k.marking (e ∷ rest);
+        release = record {
+          at = record { before = k.marking.close.at.behind; event = e; behind = rest; is = refl; of_kind = refl };
+          none_before = k.unreleased;
+        };
+      },
       front_is k.marking,
     )
   where
