@@ -13,7 +13,7 @@ use Rattle.mk_core.specs.declared.config.Config.{Config}
 use Rattle.mk_core.specs.declared.seats.Object.{Object}
 use Rattle.mk_core.specs.Allocations.{PlacedAllocation, placed_at}
 use Rattle.mk_core.specs.Cells.{cell_words, cells_under, first_word, header_in, heads_run, words_are_zero, words_under}
-use Rattle.mk_core.specs.History.{World, left, never_behind}
+use Rattle.mk_core.specs.History.{World}
 use Rattle.mk_core.specs.NewPlaces.{class_made, is_small_object, pages_made}
 use Rattle.mk_core.specs.ObjectHeaders.{IsSized, OfBlock, OfLater, OfLeafBlock, OfLeafRun, OfRun, ShowsPart, words_made}
 use Rattle.mk_core.specs.Readings.{IsTaken}
@@ -25,13 +25,12 @@ use Rattle.mk_core.proofs.Sizes.{small_cells, small_words}
 use Rattle.mk_core.proofs.StandingAllocations.{run_begins, typed_size}
 use Rattle.mk_layout.specs.Scene.{run_count}
 use Rattle.mk_layout.proofs.StandingClaims.{ends_on_pages}
-use Rattle.mk_images.proofs.KnownWorlds.{KnownWorld, known_world}
+use Rattle.mk_images.proofs.KnownWorlds.{KnownWorld}
 use Rattle.mk_invariant.specs.Invariant.{Invariant}
 use Rattle.mk_invariant.specs.Theorems.{OfHistories}
 use Rattle.mk_invariant.proofs.ForImages.{standing}
-use Rattle.mk_invariant.proofs.Histories.{histories_keep_the_invariant}
-use Rattle.mk_readings.specs.FreeWords.{FreeCellsAreZero, WordsBehindCellsAreZero, words_in_cells}
-use Rattle.mk_readings.proofs.FreeWords.{IsOfOne, of_one}
+use Rattle.mk_readings.specs.FreeWords.{FreeCellsAreZero, Leaves, WordsBehindCellsAreZero, words_in_cells}
+use Rattle.mk_readings.proofs.FreeWords.{IsOfOne, of_one, of_worlds}
 
 -- A number is in one of equal parts alone.
 one_part : (size i j n : ℕ) → i * size ≤ n → n < i * size + size → j * size ≤ n → n < j * size + size → i ≡ j
@@ -120,7 +119,8 @@ small_within o base n b small at to =
     let words = small_words o small in
     let size : b.index * words_made o ≡ b.index * class_words_of (class_made o) = ap (λ k. b.index * k) words in
     let base_is = base_on_page o base b in
-    let most = mul-le (suc b.index) (class_words_of (class_made o)) (cells_of (class_made o)) (class_words_of (class_made o)) known (le_refl (class_words_of (class_made o))) in
+    let size_of : ℕ = class_words_of (class_made o) in
+    let most = mul-le (suc b.index) size_of (cells_of (class_made o)) size_of known (le_refl size_of) in
     omega arith
 
 -- What shows a page of an object has the object's words there within its cells.
@@ -183,7 +183,8 @@ module _ (c : Config) (w : World) (n : NeverState) (known : KnownWorld c w) (all
         | inl here ↦ begins_there w.now.words o base x cell.page cell.index on (omega arith) lt (omega arith) (omega arith)
         | inr far ↦
             let later = (all.order.runs cell.page heads).later (i / 64) (omega arith) (omega arith) in
-            let base_is = run_begins_there w.now.words o base x cell.page (i / 64) on (omega arith) (omega arith) (is_free_or_later later) in
+            let page = is_free_or_later later in
+            let base_is = run_begins_there w.now.words o base x cell.page (i / 64) on (omega arith) (omega arith) page in
             omega arith
       ]
 
@@ -206,7 +207,8 @@ module _ (c : Config) (w : World) (n : NeverState) (known : KnownWorld c w) (all
   cell_is_zero : phase_of w.now.words ≢ 4 → (cell : Cell) → cell.index < cells_under (header_in w.now.words cell.page)
       → (IsTaken w cell → ⊥) → (count : ℕ) → count ≤ cell_words w.now.words cell
       → words_are_zero w.now.words (first_word w.now.words cell) count ≡ true
-  cell_is_zero quiet cell lt free zero le = all_below_zero_is (λ i. slice_index w.now.words.heap (first_word w.now.words cell + i) == 0)
+  cell_is_zero quiet cell lt free zero le =
+      all_below_zero_is (λ i. slice_index w.now.words.heap (first_word w.now.words cell + i) == 0)
   cell_is_zero quiet cell lt free (suc count) le =
       let word : ℕ = slice_index w.now.words.heap (first_word w.now.words cell + count) in
       let is : word ≡ 0 = elim (cases_eq word 0) [
@@ -225,18 +227,17 @@ module _ (c : Config) (w : World) (n : NeverState) (known : KnownWorld c w) (all
         let one = of_one c w n known all quiet x some in
         let a : PlacedAllocation = placed_at w.allocations one.number in
         let on = on_page x one in
-        let lt = within_cells (object_placed c a) on.distance a.base x (header_in w.now.words (x / 64)) on.part on.begins (sym on.page) on.to in
+        let shown : Option Header = header_in w.now.words (x / 64) in
+        let lt = within_cells (object_placed c a) on.distance a.base x shown on.part on.begins (sym on.page) on.to in
         absurd (omega arith)
   ]
 
-pub free_cells_are_zero : OfHistories FreeCellsAreZero
-free_cells_are_zero c es h quiet cell lt free =
-    let known = known_world c es h.within_limits h.enabled in
-    let all = histories_keep_the_invariant c es h in
-    cell_is_zero c (left c es) (never_behind c es) known all quiet cell lt free
-    (cell_words (left c es).now.words cell) (le_refl (cell_words (left c es).now.words cell))
+  free_cells : FreeCellsAreZero c w
+  free_cells quiet cell lt free =
+      cell_is_zero quiet cell lt free (cell_words w.now.words cell) (le_refl (cell_words w.now.words cell))
 
-pub words_behind_cells_are_zero : OfHistories WordsBehindCellsAreZero
-words_behind_cells_are_zero c es h quiet x past =
-    let known = known_world c es h.within_limits h.enabled in
-    behind_is_zero c (left c es) (never_behind c es) known (histories_keep_the_invariant c es h) quiet x past
+pub free_cells_are_zero : OfHistories (Leaves FreeCellsAreZero)
+free_cells_are_zero = of_worlds free_cells
+
+pub words_behind_cells_are_zero : OfHistories (Leaves WordsBehindCellsAreZero)
+words_behind_cells_are_zero = of_worlds behind_is_zero

@@ -26,7 +26,7 @@ use Rattle.mk_invariant.specs.Theorems.{OfHistories}
 use Rattle.mk_invariant.proofs.ForImages.{standing}
 use Rattle.mk_invariant.proofs.Histories.{histories_keep_the_invariant}
 use Rattle.mk_invariant.proofs.Joined.{told_to_images}
-use Rattle.mk_readings.specs.FreeWords.{UnmappedWordsAreZero, WordsOfNoneAreZero}
+use Rattle.mk_readings.specs.FreeWords.{Leaves, UnmappedWordsAreZero, WordsOfNoneAreZero}
 use Rattle.mk_readings.proofs.Stands.{not_releasing}
 
 -- the unreleased allocation that has the word
@@ -46,7 +46,8 @@ in_run run x h =
     (leb-true run.page (x / 64) parts.0, ltb-true (x / 64 - run.page) run.count parts.1)
 
 -- in a run that is gone
-gone_word : (w : Words) (run : RunPages) (x : ℕ) → is_in_run run x ≡ true → is_run_gone w (Some run) ≡ true → slice_index w.heap x ≡ 0
+gone_word : (w : Words) (run : RunPages) (x : ℕ) → is_in_run run x ≡ true → is_run_gone w (Some run) ≡ true
+    → slice_index w.heap x ≡ 0
 gone_word w run x word gone =
     let parts = and_parts (is_run_unmapped w run) (words_are_zero w (64 * run.page) (64 * run.count)) gone in
     let at = in_run run x word in
@@ -74,7 +75,8 @@ module _ (c : Config) (w : World) (n : NeverState) (known : KnownWorld c w) (all
       }
 
   of_mapped : (x : ℕ) → IsMappedWord c w.allocations x → IsOfOne c w x
-  of_mapped x m = record { number = m.number; unreleased = mapped_stays c (placed_at w.allocations m.number) m.mapped; word = m.word }
+  of_mapped x m =
+      record { number = m.number; unreleased = mapped_stays c (placed_at w.allocations m.number) m.mapped; word = m.word }
 
   -- A word that isn't 0 is one of an unreleased allocation,
   pub of_one : phase_of w.now.words ≢ 4 → (x : ℕ) → slice_index w.now.words.heap x ≢ 0 → IsOfOne c w x
@@ -97,20 +99,26 @@ module _ (c : Config) (w : World) (n : NeverState) (known : KnownWorld c w) (all
           let there = ap (λ (r : Option RunPages). is_run_gone w.now.words r) (sym f.there) ∙ gone in
           absurd (some (gone_word w.now.words f.run x f.word there))
 
-pub words_of_none_are_zero : OfHistories WordsOfNoneAreZero
-words_of_none_are_zero c es h quiet x none = elim (cases_eq (slice_index (left c es).now.words.heap x) 0) [
-  | inl is ↦ is
-  | inr some ↦
-      let known = known_world c es h.within_limits h.enabled in
-      let one = of_one c (left c es) (never_behind c es) known (histories_keep_the_invariant c es h) quiet x some in
-      absurd (none one.number one.unreleased one.word)
-]
+  words_of_none : WordsOfNoneAreZero c w
+  words_of_none quiet x none = elim (cases_eq (slice_index w.now.words.heap x) 0) [
+    | inl is ↦ is
+    | inr some ↦ let one = of_one quiet x some in absurd (none one.number one.unreleased one.word)
+  ]
 
-pub unmapped_words_are_zero : OfHistories UnmappedWordsAreZero
-unmapped_words_are_zero c es h quiet gone x none = elim (cases_eq (slice_index (left c es).now.words.heap x) 0) [
-  | inl is ↦ is
-  | inr some ↦
-      let known = known_world c es h.within_limits h.enabled in
-      let one = of_one_mapped c (left c es) (never_behind c es) known (histories_keep_the_invariant c es h) quiet gone x some in
-      absurd (none one.number one.mapped one.word)
-]
+  unmapped_words : UnmappedWordsAreZero c w
+  unmapped_words quiet gone x none = elim (cases_eq (slice_index w.now.words.heap x) 0) [
+    | inl is ↦ is
+    | inr some ↦ let one = of_one_mapped quiet gone x some in absurd (none one.number one.mapped one.word)
+  ]
+
+-- Both of all histories; this is how the invariant is behind each.
+pub of_worlds : {claim : Config → World → Type 0}
+    → ((c : Config) (w : World) (n : NeverState) → KnownWorld c w → Invariant c w n → claim c w) → OfHistories (Leaves claim)
+of_worlds {claim} known c es h =
+    known c (left c es) (never_behind c es) (known_world c es h.within_limits h.enabled) (histories_keep_the_invariant c es h)
+
+pub words_of_none_are_zero : OfHistories (Leaves WordsOfNoneAreZero)
+words_of_none_are_zero = of_worlds words_of_none
+
+pub unmapped_words_are_zero : OfHistories (Leaves UnmappedWordsAreZero)
+unmapped_words_are_zero = of_worlds unmapped_words

@@ -51,7 +51,8 @@ module _ (c : Config) (w : World) (n : NeverState) (known : KnownWorld c w) (all
       by (inr r) = absurd (true≢false (sym r ∙ ap released_when (not_releasing w quiet)))
 
   later_page : phase_of w.now.words ≢ 4 → (p distance : ℕ) → HasItsHead w.now.words.pages (is_phase w.now.words 4) p distance
-      → (run : RunPages) × (run_headed (header_in w.now.words (p - distance)) (p - distance) ≡ Some run) × (distance < run.count) × (distance ≤ p)
+      → (run : RunPages) × (run_headed (header_in w.now.words (p - distance)) (p - distance) ≡ Some run)
+      × (distance < run.count) × (distance ≤ p)
   later_page quiet p distance has = elim has.1 [
     | inl lt ↦
         let r = run_there (header_in w.now.words (p - distance)) (p - distance) distance lt in

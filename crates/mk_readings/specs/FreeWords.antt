@@ -11,7 +11,7 @@ use Rattle.mk_core.specs.Words.{phase_of}
 use Rattle.mk_core.specs.Cells.{cell_words, cells_under, first_word, header_in, words_are_zero}
 use Rattle.mk_core.specs.NewPlaces.{is_run_gone}
 use Rattle.mk_core.specs.Allocations.{PlacedAllocation, placed_at, is_mapped, storage_of}
-use Rattle.mk_core.specs.History.{left}
+use Rattle.mk_core.specs.History.{World, left}
 use Rattle.mk_core.specs.Readings.{IsTaken}
 
 -- no unreleased allocation has the word, or no mapped one
@@ -23,25 +23,22 @@ abbrev pub IsOfNoneMapped : Config → List PlacedAllocation → ℕ → Type 0
 IsOfNoneMapped c xs n = (i : ℕ) → is_mapped c (placed_at xs i) ≡ true → IsWordOf (storage_of c (placed_at xs i)) n → ⊥
 
 -- Such a word is 0,
-abbrev pub WordsOfNoneAreZero : Config → List Event → Type 0
-WordsOfNoneAreZero c es =
-    phase_of (left c es).now.words ≢ 4 → (n : ℕ) → IsOfNone c (left c es).allocations n
-    → slice_index (left c es).now.words.heap n ≡ 0
+abbrev pub WordsOfNoneAreZero : Config → World → Type 0
+WordsOfNoneAreZero c w =
+    phase_of w.now.words ≢ 4 → (n : ℕ) → IsOfNone c w.allocations n → slice_index w.now.words.heap n ≡ 0
 
 -- and, where no Free is unmapping or wiping its run, so is each word of no mapped allocation.
-abbrev pub UnmappedWordsAreZero : Config → List Event → Type 0
-UnmappedWordsAreZero c es =
-    phase_of (left c es).now.words ≢ 4 → is_run_gone (left c es).now.words (left c es).now.seats.holding.freed ≡ true
-    → (n : ℕ) → IsOfNoneMapped c (left c es).allocations n → slice_index (left c es).now.words.heap n ≡ 0
+abbrev pub UnmappedWordsAreZero : Config → World → Type 0
+UnmappedWordsAreZero c w =
+    phase_of w.now.words ≢ 4 → is_run_gone w.now.words w.now.seats.holding.freed ≡ true
+    → (n : ℕ) → IsOfNoneMapped c w.allocations n → slice_index w.now.words.heap n ≡ 0
 
 -- So the words of a cell are 0 in which no unreleased allocation stands,
-abbrev pub FreeCellsAreZero : Config → List Event → Type 0
-FreeCellsAreZero c es =
-    phase_of (left c es).now.words ≢ 4 → (cell : Cell)
-    → cell.index < cells_under (header_in (left c es).now.words cell.page)
-    → (IsTaken (left c es) cell → ⊥)
-    → words_are_zero (left c es).now.words (first_word (left c es).now.words cell) (cell_words (left c es).now.words cell)
-    ≡ true
+abbrev pub FreeCellsAreZero : Config → World → Type 0
+FreeCellsAreZero c w =
+    phase_of w.now.words ≢ 4 → (cell : Cell) → cell.index < cells_under (header_in w.now.words cell.page)
+    → (IsTaken w cell → ⊥)
+    → words_are_zero w.now.words (first_word w.now.words cell) (cell_words w.now.words cell) ≡ true
 
 -- how many of a page's words its cells take: of a free page none, and of a run's all
 abbrev pub words_in_cells : Option Header → ℕ
@@ -51,7 +48,11 @@ words_in_cells (Some (LeafBlock class)) = cells_of class * class_words_of class
 words_in_cells _ = 64
 
 -- and those that a page has behind its cells.
-abbrev pub WordsBehindCellsAreZero : Config → List Event → Type 0
-WordsBehindCellsAreZero c es =
-    phase_of (left c es).now.words ≢ 4 → (n : ℕ) → words_in_cells (header_in (left c es).now.words (n / 64)) ≤ n % 64
-    → slice_index (left c es).now.words.heap n ≡ 0
+abbrev pub WordsBehindCellsAreZero : Config → World → Type 0
+WordsBehindCellsAreZero c w =
+    phase_of w.now.words ≢ 4 → (n : ℕ) → words_in_cells (header_in w.now.words (n / 64)) ≤ n % 64
+    → slice_index w.now.words.heap n ≡ 0
+
+-- It holds of what a list of events leaves.
+abbrev pub Leaves : (Config → World → Type 0) → Config → List Event → Type 0
+Leaves claim c es = claim c (left c es)

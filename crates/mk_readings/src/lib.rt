@@ -4,7 +4,7 @@
 
 ghost use Rattle.mk_core.specs.Readings.{SnapshotsTell};
 ghost use Rattle.mk_invariant.specs.Theorems.{OfHistories};
-ghost use Rattle.mk_readings.specs.FreeWords.{FreeCellsAreZero, UnmappedWordsAreZero, WordsBehindCellsAreZero, WordsOfNoneAreZero};
+ghost use Rattle.mk_readings.specs.FreeWords.{FreeCellsAreZero, Leaves, UnmappedWordsAreZero, WordsBehindCellsAreZero, WordsOfNoneAreZero};
 ghost use Rattle.mk_readings.specs.Readings.{HeadersAndQuarantineTell};
 ghost use Rattle.mk_readings.specs.Releases.{ReleasesAreExact, ReleasesAreOfCycles, ReleasesNoneReached};
 
@@ -28,8 +28,8 @@ pub fn releases_are_exact()
 /// While the phase isn't releasing, words are 0 in cells without an allocation, behind the cells of a page, and on
 /// free pages.
 pub fn free_cells_are_zero()
-    ensures of_none { OfHistories WordsOfNoneAreZero }
-    ensures unmapped { OfHistories UnmappedWordsAreZero }
-    ensures cells { OfHistories FreeCellsAreZero }
-    ensures behind_cells { OfHistories WordsBehindCellsAreZero }
+    ensures of_none { OfHistories (Leaves WordsOfNoneAreZero) }
+    ensures unmapped { OfHistories (Leaves UnmappedWordsAreZero) }
+    ensures cells { OfHistories (Leaves FreeCellsAreZero) }
+    ensures behind_cells { OfHistories (Leaves WordsBehindCellsAreZero) }
 {}
