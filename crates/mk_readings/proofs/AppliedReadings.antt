@@ -5,6 +5,7 @@ use Rattle.std.proofs.lemmas.Bool.{eqb-false, false≢true, leb-true, ltb-true}
 use Rattle.mk_never.specs.Reach.{by_register, by_word}
 use Rattle.mk_geom.specs.declared.addresses.Cell.{Cell}
 use Rattle.mk_core.specs.declared.events.Seat.TheVariants as seat
+use Rattle.mk_core.specs.declared.events.Step.TheVariants as step
 use Rattle.mk_core.specs.declared.seats.RunPages.{RunPages}
 use Rattle.mk_core.specs.Allocations.{cell_of_allocation, placed_at, stands_in}
 use Rattle.mk_core.specs.Bounded.{all_below}
@@ -29,7 +30,7 @@ use Rattle.mk_readings.specs.Releases.{allocation_behind}
 use Rattle.mk_readings.proofs.FreeCells as cells
 use Rattle.mk_readings.proofs.FreeWords.{unmapped_words_are_zero}
 use Rattle.mk_readings.proofs.ReleasedCycles.{releases_are_of_cycles}
-use Rattle.mk_readings.proofs.Releases.{releases_are_exact, releases_none_reached}
+use Rattle.mk_readings.proofs.Releases.{no_others_release, releases_are_exact, releases_none_reached}
 use Rattle.mk_readings.proofs.Snapshots as snapshots
 use Rattle.mk_readings.proofs.Stands.{headers_and_quarantine_tell}
 
@@ -126,6 +127,13 @@ unfolding by c0 m0 host all_below pointed_cell may_turn_black pointer_page black
 reached_is_not_released =
     releases_none_reached pointer_page blackened_before_the_move blackened_is_history cycle_of_blackened.releasing 2
     (by_word 0 0 2 (by_register 0 0 refl) (refl, refl))
+
+-- The `begin` of that cycle releases none.
+pub begin_releases_none : (placed_at (left one_page (take 16 freed_after_begin)).allocations 0).released ≡ false
+unfolding by c0 host all_below pointed_cell one_page freed_after_begin left_from
+begin_releases_none =
+    no_others_release one_page freed_after_begin freed_is_history (take 15 freed_after_begin) (drop 16 freed_after_begin)
+    (record { seat = c0; step = step.Begin }) refl refl 0 refl
 
 -- Each `release` has its cycle.
 pub release_has_its_cycle : (r : Releasing freed_after_begin) × (before_release r ≡ take 32 freed_after_begin)

@@ -29,8 +29,9 @@ use Rattle.mk_layout.specs.Quarantine.{has_bit_of}
 use Rattle.mk_invariant.specs.Theorems.{OfHistories}
 use Rattle.mk_invariant.proofs.Quarantines.{snapshot_is_the_cycles}
 use Rattle.mk_invariant.proofs.Theorems.{allocations_stand, reach_is_kept}
-use Rattle.mk_readings.specs.Releases.{ReleasesAreExact, ReleasesNoneReached, allocation_before, allocation_behind}
+use Rattle.mk_readings.specs.Releases.{NoOthersRelease, ReleasesAreExact, ReleasesNoneReached, allocation_before, allocation_behind}
 use Rattle.mk_readings.proofs.CyclePhases.{IsMarking, IsUnreleased, begin_is, close_is, marking_goes_on, moves_phase, none_is_released, phase_behind, release_is, AsksPhase}
+use Rattle.mk_readings.proofs.KeptPlaces.{stays_put}
 use Rattle.mk_readings.proofs.Snapshots.{enabled_at, unreleased_cycles}
 
 -- The parts of a list up to a cycle's `release`, nested as the cycle has them.
@@ -197,3 +198,9 @@ releases_are_exact c es h r = exact c es h r
 
 pub releases_none_reached : OfHistories ReleasesNoneReached
 releases_none_reached c es h r = none_reached c es h r
+
+pub no_others_release : OfHistories NoOthersRelease
+no_others_release c es h front rest e is other i u =
+    let none : list_any (λ (x : Event). is_release x.step) (e ∷ []) ≡ false = ap (λ b. b || false) other in
+    ap (λ (v : World). (placed_at v.allocations i).released) (left_in_parts c front (e ∷ []))
+    ∙ (stays_put c (left c front) (e ∷ []) i none u).unreleased

@@ -7,7 +7,7 @@ use Rattle.mk_core.specs.declared.events.Seat.{Seat}
 use Rattle.mk_core.specs.declared.events.Step.TheVariants as step
 use Rattle.mk_core.specs.Cells.{is_marked}
 use Rattle.mk_core.specs.Allocations.{PlacedAllocation, placed_at, cell_of_allocation}
-use Rattle.mk_core.specs.Cycles.{Releasing, IsInSnapshot, before_release}
+use Rattle.mk_core.specs.Cycles.{Releasing, IsInSnapshot, before_release, is_release}
 use Rattle.mk_core.specs.History.{left, never_behind}
 
 -- an allocation before a cycle's `release`, and behind it
@@ -31,6 +31,13 @@ abbrev pub ReleasesNoneReached : Config → List Event → Type 0
 ReleasesNoneReached c es =
     (r : Releasing es) (number : ℕ) → IsReached (never_behind c (before_release r)) number
     → (allocation_behind c r number).released ≡ false
+
+-- No other kind of event releases any.
+abbrev pub NoOthersRelease : Config → List Event → Type 0
+NoOthersRelease c es =
+    (front rest : List Event) (e : Event) → es ≡ front ++ e ∷ rest → is_release e.step ≡ false
+    → (i : ℕ) → (placed_at (left c front).allocations i).released ≡ false
+    → (placed_at (left c (front ++ e ∷ [])).allocations i).released ≡ false
 
 -- Each `release` is that of a cycle.
 abbrev pub ReleasesAreOfCycles : Config → List Event → Type 0

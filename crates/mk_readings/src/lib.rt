@@ -6,7 +6,7 @@ ghost use Rattle.mk_core.specs.Readings.{SnapshotsTell};
 ghost use Rattle.mk_invariant.specs.Theorems.{OfHistories};
 ghost use Rattle.mk_readings.specs.FreeWords.{FreeCellsAreZero, Leaves, UnmappedWordsAreZero, WordsBehindCellsAreZero, WordsOfNoneAreZero};
 ghost use Rattle.mk_readings.specs.Readings.{HeadersAndQuarantineTell};
-ghost use Rattle.mk_readings.specs.Releases.{ReleasesAreExact, ReleasesAreOfCycles, ReleasesNoneReached};
+ghost use Rattle.mk_readings.specs.Releases.{NoOthersRelease, ReleasesAreExact, ReleasesAreOfCycles, ReleasesNoneReached};
 
 /// What a look at a header word and at the freed bits of a quarantine word tells.
 pub fn words_tell_what_stands()
@@ -18,10 +18,12 @@ pub fn snapshots_tell()
     ensures { OfHistories SnapshotsTell }
 {}
 
-/// A `release` releases the allocations of its cycle's snapshot whose cells have no mark, and none that is reached.
+/// A `release` releases the allocations of its cycle's snapshot whose cells have no mark, and none that is reached;
+/// no other event releases any.
 pub fn releases_are_exact()
     ensures exact { OfHistories ReleasesAreExact }
     ensures none_reached { OfHistories ReleasesNoneReached }
+    ensures no_others { OfHistories NoOthersRelease }
     ensures of_cycles { OfHistories ReleasesAreOfCycles }
 {}
 
