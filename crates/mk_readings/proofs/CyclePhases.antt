@@ -1,8 +1,7 @@
 -- The phases of a cycle: which a step asks for and leaves, and between which steps they stand.
-use Rattle.std.proofs.Common.{◌≡◌, ℕ, ◌≤◌, ◌%◌, Bool, true, false, List, [], ◌∷◌, refl, sym, ◌∙◌, ap, subst, arith}
-use Rattle.std.specs.Prelude.{◌||◌}
+use Rattle.std.proofs.Common.{◌≡◌, ℕ, ◌≤◌, ◌%◌, true, false, List, [], ◌∷◌, refl, sym, ap, subst, arith}
 use Rattle.std.specs.List.{list_any}
-use Rattle.std.proofs.lemmas.Bool.{eqb-true}
+use Rattle.std.proofs.lemmas.Bool.{eqb-true, or_from, or_parts}
 use Rattle.mk_core.specs.declared.config.Config.{Config}
 use Rattle.mk_core.specs.declared.events.Event.{Event}
 use Rattle.mk_core.specs.declared.events.Seat.{Seat}
@@ -93,13 +92,6 @@ unreleased_step step.End p asks m out = let most = m.most in absurd (omega arith
 unreleased_step step.Over p asks m out = let least = m.least in absurd (omega arith)
 unreleased_step _ p asks m out = (m, refl)
 
-pub neither : (a b : Bool) → (a || b) ≡ false → (a ≡ false) × (b ≡ false)
-neither false b h = (refl, h)
-neither true b h = cc
-
-both_out : (a b : Bool) → a ≡ false → b ≡ false → (a || b) ≡ false
-both_out a b e f = ap (λ x. x || b) e ∙ f
-
 -- One event that is enabled: what its phases are.
 pub moves_phase : (c : Config) (w : World) (e : Event) (es : List Event) → AreEnabledFrom c w (e ∷ es)
     → AsksPhase e.step (phase_of w.now.words)
@@ -121,14 +113,14 @@ pub marking_goes_on : (c : Config) (w : World) (es : List Event) → AreEnabledF
 unfolding left_from
 marking_goes_on c w [] on m none = record { phase = m; none_begins = refl; none_releases = refl }
 marking_goes_on c w (e ∷ es) on m none =
-    let outs = neither (is_close e.step) (list_any (λ (x : Event). is_close x.step) es) none in
+    let outs = or_parts (is_close e.step) (list_any (λ (x : Event). is_close x.step) es) none in
     let moves = moves_phase c w e es on in
     let one = marking_step e.step (phase_of w.now.words) moves.0 m outs.0 in
     let rest = marking_goes_on c (world_behind c w e) es moves.2 (subst IsMarking (sym moves.1) one.0) outs.1 in
     record {
       phase = rest.phase;
-      none_begins = both_out (is_begin e.step) (list_any (λ (x : Event). is_begin x.step) es) one.1 rest.none_begins;
-      none_releases = both_out (is_release e.step) (list_any (λ (x : Event). is_release x.step) es) one.2 rest.none_releases;
+      none_begins = or_from (is_begin e.step) (list_any (λ (x : Event). is_begin x.step) es) one.1 rest.none_begins;
+      none_releases = or_from (is_release e.step) (list_any (λ (x : Event). is_release x.step) es) one.2 rest.none_releases;
     }
 
 pub record NoneIsReleased (c : Config) (w : World) (es : List Event) : Type 0 where
@@ -141,13 +133,13 @@ pub none_is_released : (c : Config) (w : World) (es : List Event) → AreEnabled
 unfolding left_from
 none_is_released c w [] on m none = record { phase = m; none_begins = refl }
 none_is_released c w (e ∷ es) on m none =
-    let outs = neither (is_release e.step) (list_any (λ (x : Event). is_release x.step) es) none in
+    let outs = or_parts (is_release e.step) (list_any (λ (x : Event). is_release x.step) es) none in
     let moves = moves_phase c w e es on in
     let one = unreleased_step e.step (phase_of w.now.words) moves.0 m outs.0 in
     let rest = none_is_released c (world_behind c w e) es moves.2 (subst IsUnreleased (sym moves.1) one.0) outs.1 in
     record {
       phase = rest.phase;
-      none_begins = both_out (is_begin e.step) (list_any (λ (x : Event). is_begin x.step) es) one.1 rest.none_begins;
+      none_begins = or_from (is_begin e.step) (list_any (λ (x : Event). is_begin x.step) es) one.1 rest.none_begins;
     }
 
 -- what the kinds are

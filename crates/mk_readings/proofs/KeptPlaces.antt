@@ -1,6 +1,7 @@
 -- An unreleased allocation keeps its place, and stays unreleased, up to a `release`.
 use Rattle.std.proofs.Common.{◌≡◌, ℕ, false, List, [], ◌∷◌, map, refl, ◌∙◌, ap}
 use Rattle.std.specs.List.{list_any}
+use Rattle.std.proofs.lemmas.Bool.{or_parts}
 use Rattle.mk_core.specs.declared.config.Config.{Config}
 use Rattle.mk_core.specs.declared.events.Event.{Event}
 use Rattle.mk_core.specs.declared.events.Seat.{Seat}
@@ -15,7 +16,6 @@ use Rattle.mk_core.proofs.ChangedAllocations.{LeavesPlaces, changed_at, freed_le
 use Rattle.mk_protocol.proofs.OthersMoves.{WorldBehind}
 use Rattle.mk_layout.proofs.Claims.{same_cell}
 use Rattle.mk_layout.proofs.Granted.{still_at}
-use Rattle.mk_readings.proofs.CyclePhases.{neither}
 
 pub record StaysPut (a b : PlacedAllocation) : Type 0 where
   pub base : b.base ≡ a.base
@@ -62,7 +62,7 @@ pub stays_put : (c : Config) (w : World) (es : List Event) (i : ℕ)
 unfolding left_from
 stays_put c w [] i none u = record { base = refl; ty = refl; unreleased = u }
 stays_put c w (e ∷ es) i none u =
-    let outs = neither (is_release e.step) (list_any (λ (x : Event). is_release x.step) es) none in
+    let outs = or_parts (is_release e.step) (list_any (λ (x : Event). is_release x.step) es) none in
     let one = put_step c w e.seat e.step i outs.0 u in
     let rest = stays_put c (world_behind c w e) es i outs.1 one.unreleased in
     record { base = rest.base ∙ one.base; ty = rest.ty ∙ one.ty; unreleased = rest.unreleased }

@@ -2,6 +2,7 @@
 use Rattle.std.proofs.Common.{◌≡◌, ℕ, Bool, true, false, List, [], ◌∷◌, ◌++◌, refl, sym, ◌∙◌, ap, subst, arith, append_assoc, append-nil}
 use Rattle.std.specs.Prelude.{◌||◌}
 use Rattle.std.specs.List.{list_any}
+use Rattle.std.proofs.lemmas.Bool.{or_from}
 use Rattle.std.proofs.lemmas.List.Folds.{list_any-append}
 use Rattle.mk_core.specs.declared.config.Config.{Config}
 use Rattle.mk_core.specs.declared.events.Event.{Event}
@@ -39,8 +40,8 @@ marking_longer {es} k more = record { begin = at_longer k.begin more; close = ne
 
 none_longer : (test : Event → Bool) (es : List Event) (e : Event) → list_any test es ≡ false → test e ≡ false
     → list_any test (es ++ e ∷ []) ≡ false
-none_longer test es e none out = list_any-append test es (e ∷ []) ∙ ap (λ b. b || (test e || false)) none
-    ∙ ap (λ b. b || false) out
+none_longer test es e none out =
+    list_any-append test es (e ∷ []) ∙ or_from (list_any test es) (test e || false) none (or_from (test e) false out refl)
 
 -- While marking, a cycle is begun and not closed; where marks are closed, it isn't released.
 

@@ -2,7 +2,7 @@
 use Rattle.std.proofs.Common.{◌≡◌, ◌≢◌, ℕ, Bool, true, false, List, [], ◌∷◌, ◌++◌, refl, sym, ◌∙◌, ap, subst, arith}
 use Rattle.std.specs.Prelude.{◌||◌, nat_le, not}
 use Rattle.std.specs.List.{list_any}
-use Rattle.std.proofs.lemmas.Bool.{and_from, and_parts, le-leb, not-true}
+use Rattle.std.proofs.lemmas.Bool.{and_from, and_parts, le-leb, not-true, or_parts}
 use Rattle.mk_geom.specs.declared.addresses.Cell.{Cell}
 use Rattle.mk_core.specs.declared.config.Config.{Config}
 use Rattle.mk_core.specs.declared.events.Event.{Event}
@@ -19,7 +19,7 @@ use Rattle.mk_layout.specs.Quarantine.{IsFreedCell, has_bit_of, is_cycling}
 use Rattle.mk_invariant.specs.Theorems.{KeepsTheInvariant, OfHistories}
 use Rattle.mk_invariant.proofs.Histories.{histories_keep_the_invariant}
 use Rattle.mk_invariant.proofs.Quarantines.{snapshot_is_the_cycles}
-use Rattle.mk_readings.proofs.CyclePhases.{IsUnreleased, NoneIsReleased, begin_is, moves_phase, neither, none_is_released, phase_behind}
+use Rattle.mk_readings.proofs.CyclePhases.{IsUnreleased, NoneIsReleased, begin_is, moves_phase, none_is_released, phase_behind}
 use Rattle.mk_readings.proofs.KeptPlaces.{StaysPut, keeps_cell, stays_put}
 use Rattle.mk_readings.proofs.Stands.{freed_cell}
 
@@ -56,8 +56,8 @@ either_kind : (es : List Event) → list_any (λ (e : Event). is_begin e.step ||
     → (list_any (λ (e : Event). is_begin e.step) es ≡ false) × (list_any (λ (e : Event). is_release e.step) es ≡ false)
 either_kind [] none = (refl, refl)
 either_kind (e ∷ es) none =
-    let parts = neither (is_begin e.step || is_release e.step) _ none in
-    let kinds = neither (is_begin e.step) (is_release e.step) parts.0 in
+    let parts = or_parts (is_begin e.step || is_release e.step) _ none in
+    let kinds = or_parts (is_begin e.step) (is_release e.step) parts.0 in
     let rest = either_kind es parts.1 in (
       ap (λ b. b || list_any (λ (x : Event). is_begin x.step) es) kinds.0 ∙ rest.0,
       ap (λ b. b || list_any (λ (x : Event). is_release x.step) es) kinds.1 ∙ rest.1,
