@@ -1,0 +1,6 @@
+pub mod Seats
+pub mod Tidy
+pub mod LongerLists
+pub mod Keeps
+pub mod Undecided
+pub mod Owed

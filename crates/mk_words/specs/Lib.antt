@@ -1,0 +1,5 @@
+pub mod Seats
+pub mod States
+pub mod Rule
+pub mod Passes
+pub mod Steps

@@ -1,0 +1,12 @@
+//! The shared words of a heap. Each access to them is one event of one history.
+#![tactic(auto)]
+
+mod indexes;
+mod passes;
+mod performing;
+mod rule;
+mod telling;
+mod words;
+
+pub use passes::Pass;
+pub use words::Words;
