@@ -4,3 +4,5 @@ pub mod LongerLists
 pub mod Keeps
 pub mod Undecided
 pub mod Owed
+pub mod Made
+pub mod CallSteps

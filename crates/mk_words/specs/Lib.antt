@@ -3,3 +3,4 @@ pub mod States
 pub mod Rule
 pub mod Passes
 pub mod Steps
+pub mod CallSteps

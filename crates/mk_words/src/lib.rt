@@ -1,6 +1,7 @@
 //! The shared words of a heap. Each access to them is one event of one history.
 #![tactic(auto)]
 
+mod call_steps;
 mod indexes;
 mod passes;
 mod performing;
@@ -8,5 +9,6 @@ mod rule;
 mod telling;
 mod words;
 
+pub use call_steps::Held;
 pub use passes::Pass;
 pub use words::Words;

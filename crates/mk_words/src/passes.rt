@@ -1,6 +1,6 @@
 //! Passes: who has one may make the steps of its seat.
 ghost use Rattle.std.specs.Prelude.{◌≡◌};
-ghost use Rattle.mk_core.specs.Accesses.{reached, access};
+ghost use Rattle.mk_core.specs.Accesses.{caller_number, reached, access};
 ghost use Rattle.mk_core.specs.History.{IsHistory};
 ghost use Rattle.mk_words.specs.Seats.{Has};
 ghost use Rattle.mk_words.specs.States.{now_of, event_of};
@@ -52,6 +52,17 @@ impl Pass {
         let _seat = &self.seat;
     }
 
+    /// The number of a caller, and 0 of another.
+    #[inline(always)]
+    pub(crate) fn caller(&self) -> u64
+        ensures { result ≡ caller_number self.now.seat }
+    {
+        match self.seat {
+            Seat::Caller(caller) => caller,
+            Seat::Marker(_) | Seat::Host => 0,
+        }
+    }
+
     #[inline(always)]
     fn perform_as<J: Making>(
         &mut self,
@@ -65,7 +76,9 @@ impl Pass {
         requires may { May self.old step }
         requires word { word ≡ reached self.old.table.config (now_of self.old) (event_of self.old step) }
         requires access { by ≡ access self.old.table.config (now_of self.old) (event_of self.old step) }
-        ensures { Tells self.old step result self.new }
+        ensures told { Tells self.old step result self.new }
+        ensures own { Has self.old.seats self.old.seat }
+        ensures history { IsHistory self.new.table.config self.new.seen }
     {
         let token = &mut self.token;
         let index = index_of(words.config.pages, word);
@@ -86,7 +99,9 @@ impl Pass {
         requires may { May self.old step }
         requires word { word ≡ reached self.old.table.config (now_of self.old) (event_of self.old step) }
         requires access { by ≡ access self.old.table.config (now_of self.old) (event_of self.old step) }
-        ensures { Tells self.old step result self.new }
+        ensures told { Tells self.old step result self.new }
+        ensures own { Has self.old.seats self.old.seat }
+        ensures history { IsHistory self.new.table.config self.new.seen }
     {
         self.perform_as::<Brand>(words, step, word, by)
     }

@@ -1,3 +1,6 @@
+use Rattle.std.proofs.Common.{subst}
+use Rattle.mk_words.specs.Seats.{Has}
+use Rattle.mk_words.specs.States.{PassState}
 use Rattle.mk_words.proofs.Owed.{same_id, names_word, perform_call, perform_learns, perform_keeps}
 use Rattle.mk_words.proofs.passes.Pass.perform_as.Goals as goal
 
@@ -24,8 +27,16 @@ access_as-requires-clause-allowed g c =
     w.table.shared.table_id.words w.table.shared.table_id.slots p.token.id c.args.step c.index_of-index.result c.args.word c.args.by g.J.Making.event
     c.self.invariant c.words.invariant.key c.words.invariant.words c.requires.picked c.requires.may c.requires.word c.requires.access c.index_of-index.ensures).1
 
-pub returns : goal.returns
-returns g c =
+pub returns-clause-told : goal.returns-clause-told
+returns-clause-told g c =
     let p = c.self.inside in
     perform_learns c.args.self.now p.token.table_id c.access_as.new.token.table_id p.token.me c.access_as.new.token.me p.seat c.args.step c.access_as.result g.J.Making.event
     c.self.view_is c.access_as.ensures.table c.requires.picked c.self.invariant c.access_as.ensures.told
+
+pub returns-clause-own : goal.returns-clause-own
+returns-clause-own g c = subst (λ (p : PassState). Has p.seats p.seat) c.self.view_is c.self.invariant.own
+
+pub returns-clause-history : goal.returns-clause-history
+returns-clause-history g c =
+    let p = c.self.inside in
+    (perform_keeps p.token.table_id p.token.me c.access_as.new.token.me p.seat c.args.step c.access_as.result g.J.Making.event c.self.invariant c.access_as.ensures.told).history

@@ -6,4 +6,4 @@ pub of_words-requires : goal.of_words-requires
 of_words-requires c = first_call c.args.config.now c.as_slice.result.now c.requires (c.as_slice.ensures.value ∙ c.in_ok-zeros.ensures)
 
 pub invariant_of-result-in-Ok : goal.invariant_of-result-in-Ok
-invariant_of-result-in-Ok c = let e = c.in-Ok.ensures in ?
+invariant_of-result-in-Ok c = let e = c.in-Ok.ensures in first_in_order c.args.config.now c.in-Ok.token.me c.requires e.4
