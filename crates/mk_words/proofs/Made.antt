@@ -4,6 +4,8 @@ use Rattle.mk_core.specs.declared.config.Config.{Config}
 use Rattle.mk_core.specs.declared.events.Seat.{Seat}
 use Rattle.mk_core.specs.declared.events.Step.{Step}
 use Rattle.mk_core.specs.declared.events.Event.{Event}
+use Rattle.mk_core.specs.Layout.{IsOfTable}
+use Rattle.mk_core.specs.Accesses.{reached}
 use Rattle.mk_core.specs.Enabled.{MeetsAll}
 use Rattle.mk_core.specs.History.{World, first_world, world_behind, left, IsHistory}
 use Rattle.mk_core.specs.Growing.{AreOfOthers}
@@ -15,6 +17,7 @@ use Rattle.mk_protocol.specs.Protocol.{Protocol}
 use Rattle.mk_protocol.proofs.Known.{Known, known_left}
 use Rattle.mk_protocol.proofs.Protocols.{protocol_of}
 use Rattle.mk_protocol.proofs.Frames.{others_leave}
+use Rattle.mk_protocol.proofs.Reaching.{events_reach_the_table}
 use Rattle.mk_words.specs.Seats.{Has}
 use Rattle.mk_words.specs.States.{PassState, world_of, event_of}
 use Rattle.mk_words.specs.Steps.{Makes}
@@ -29,6 +32,7 @@ pub record Made (p : PassState) (s : Step) (q : PassState) (m : Makes p s q) : T
   pub known : Known p.table.config (left p.table.config (p.seen ++ m.others)).now
   pub protocol : Protocol p.table.config (left p.table.config (p.seen ++ m.others)).now
   pub meets : MeetsAll p.table.config (left p.table.config (p.seen ++ m.others)).now (event_of p s)
+  pub of_table : IsOfTable p.table.config.pages (reached p.table.config (left p.table.config (p.seen ++ m.others)).now (event_of p s))
   pub world : world_of q ≡ world_behind p.table.config (left p.table.config (p.seen ++ m.others)) (event_of p s)
   pub seat : q.seat ≡ p.seat
 
@@ -41,6 +45,7 @@ made p s q m own history =
     let before : IsHistory c es = earlier_part_is_history c es (e ∷ []) whole in
     let others = others_own p.seats p.seat m.others own m.of_others in
     let known = known_left c es before.within_limits before.enabled in
+    let on = last_enabled c (first_world c) es e whole.enabled in
     record {
       others = others;
       history = before;
@@ -48,7 +53,8 @@ made p s q m own history =
       frame = others_leave c p.seen m.others p.seat before.within_limits before.enabled others;
       known = known;
       protocol = protocol_of c (left c es).now known;
-      meets = enabled_meets c (left c es).now e (last_enabled c (first_world c) es e whole.enabled);
+      meets = enabled_meets c (left c es).now e on;
+      of_table = events_reach_the_table c es e before.within_limits before.enabled on;
       world = ap (λ (r : PassState). world_of r) m.is ∙ left_more c (first_world c) es e;
       seat = ap (λ (r : PassState). r.seat) m.is;
     }
