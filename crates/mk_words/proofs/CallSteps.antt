@@ -172,7 +172,7 @@ module _ (p : PassState) (n : ℕ) (q : PassState) (t : Tells p step.Reg n q) (o
 
   module _ (loads : reg_access (call_of p) (call_of p).stage ≡ Load) where
     found_is : n ≡ found_by t.makes
-    found_is = t.tells ∙ ap (λ (a : Access). told_by a (found_by t.makes)) (reg_access_is p q t.makes Load same loads)
+    found_is = t.tells ∙ ap (λ (a : Access). told_by a (found_by t.makes)) loads
 
     pub load_finds : Finds p step.Reg n q
     load_finds = record { makes = t.makes; finds = found_is }
@@ -231,7 +231,7 @@ cas_goes f n found expected is old =
 
 -- `enter`
 
-begins : (f : Flight) (o : Op) (n found : ℕ) → n ≡ found → n ≡ 0 → begins_where_free f o found ≡ record { flight = begun o; answer = None }
+pub begins : (f : Flight) (o : Op) (n found : ℕ) → n ≡ found → n ≡ 0 → begins_where_free f o found ≡ record { flight = begun o; answer = None }
 begins f o n found is free = ap (λ (b : Bool). if b then record { flight = begun o; answer = None } else still f) (eq-eqb found 0 (sym is ∙ free))
 
 waits : (f : Flight) (o : Op) (n found : ℕ) → n ≡ found → n ≢ 0 → begins_where_free f o found ≡ still f

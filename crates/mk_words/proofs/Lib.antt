@@ -6,3 +6,4 @@ pub mod Undecided
 pub mod Owed
 pub mod Made
 pub mod CallSteps
+pub mod TurnSteps

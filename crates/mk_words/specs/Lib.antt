@@ -4,3 +4,4 @@ pub mod Rule
 pub mod Passes
 pub mod Steps
 pub mod CallSteps
+pub mod TurnSteps

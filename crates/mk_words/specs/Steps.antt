@@ -69,7 +69,7 @@ pub record Finds (p : PassState) (s : Step) (n : ℕ) (q : PassState) : Type 0 w
 -- It made the step, whose access told this number.
 pub record Tells (p : PassState) (s : Step) (n : ℕ) (q : PassState) : Type 0 where
   pub makes : Makes p s q
-  pub tells : n ≡ told_by (access p.table.config (moment_of makes) (event_of p s)) (found_by makes)
+  pub tells : n ≡ told_by (access p.table.config (now_of p) (event_of p s)) (found_by makes)
 
 -- It made a step of its call, which goes on so: what is next of the call, and the answer, if the step decides it.
 pub record Goes (p : PassState) (s : Step) (x : Progress) (q : PassState) : Type 0 where

@@ -7,8 +7,10 @@ mod passes;
 mod performing;
 mod rule;
 mod telling;
+mod turns;
 mod words;
 
 pub use call_steps::Held;
 pub use passes::Pass;
+pub use turns::{Busy, Turn};
 pub use words::Words;

@@ -2,6 +2,7 @@
 ghost use Rattle.std.specs.Prelude.{◌≡◌};
 ghost use Rattle.mk_core.specs.Accesses.{caller_number, reached, access};
 ghost use Rattle.mk_core.specs.History.{IsHistory};
+ghost use Rattle.mk_core.specs.Counts.{IsTidy};
 ghost use Rattle.mk_words.specs.Seats.{Has};
 ghost use Rattle.mk_words.specs.States.{now_of, event_of};
 ghost use Rattle.mk_words.specs.Steps.{May, Tells};
@@ -48,6 +49,7 @@ impl Pass {
     pub fn is_in_order(&self)
         ensures own { Has self.now.seats self.now.seat }
         ensures history { IsHistory self.now.table.config self.now.seen }
+        ensures tidy { IsTidy self.now.table.config self.now.seen }
     {
         let _seat = &self.seat;
     }

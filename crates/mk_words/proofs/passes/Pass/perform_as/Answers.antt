@@ -30,8 +30,8 @@ access_as-requires-clause-allowed g c =
 pub returns-clause-told : goal.returns-clause-told
 returns-clause-told g c =
     let p = c.self.inside in
-    perform_learns c.args.self.now p.token.table_id c.access_as.new.token.table_id p.token.me c.access_as.new.token.me p.seat c.args.step c.access_as.result g.J.Making.event
-    c.self.view_is c.access_as.ensures.table c.requires.picked c.self.invariant c.access_as.ensures.told
+    perform_learns c.args.self.now p.token.table_id c.access_as.new.token.table_id p.token.me c.access_as.new.token.me p.seat c.args.step c.args.by c.access_as.result g.J.Making.event
+    c.self.view_is c.access_as.ensures.table c.requires.picked c.requires.access c.self.invariant c.access_as.ensures.told
 
 pub returns-clause-own : goal.returns-clause-own
 returns-clause-own g c = subst (λ (p : PassState). Has p.seats p.seat) c.self.view_is c.self.invariant.own
@@ -39,4 +39,4 @@ returns-clause-own g c = subst (λ (p : PassState). Has p.seats p.seat) c.self.v
 pub returns-clause-history : goal.returns-clause-history
 returns-clause-history g c =
     let p = c.self.inside in
-    (perform_keeps p.token.table_id p.token.me c.access_as.new.token.me p.seat c.args.step c.access_as.result g.J.Making.event c.self.invariant c.access_as.ensures.told).history
+    (perform_keeps p.token.me c.access_as.new.token.me p.seat c.access_as.ensures.told.0 g.J.Making.event c.self.invariant c.access_as.ensures.told.1).history

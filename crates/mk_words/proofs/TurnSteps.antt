@@ -1,0 +1,263 @@
+-- What the steps of the turn's holder leave.
+use Rattle.std.proofs.Common.{◌≡◌, ◌≢◌, ℕ, zero, suc, ◌+◌, ◌<◌, ◌≤◌, Bool, true, false, List, [], ◌∷◌, ◌++◌, length, Option, refl, sym, ◌∙◌, ap, subst, arith}
+use Rattle.std.specs.Prelude.{slice_index, ◌==◌, Some, None, if◌then◌else◌, not, ◌&&◌}
+use Rattle.std.proofs.lemmas.Bool.{and_from, ltb-true, eq-eqb, ne_eqb, eqb-true, not-true}
+use Rattle.std.proofs.lemmas.List.{get_or-set_same}
+use Rattle.mk_never.specs.declared.operations.Op.{Op}
+use Rattle.mk_never.specs.declared.operations.Op.TheVariants as op
+use Rattle.mk_geom.specs.declared.addresses.Cell.{Cell}
+use Rattle.mk_core.specs.declared.config.Config.{Config}
+use Rattle.mk_core.specs.declared.events.Seat.{Seat}
+use Rattle.mk_core.specs.declared.events.Seat.TheVariants.{Caller, Marker, Host}
+use Rattle.mk_core.specs.declared.events.Step.{Step}
+use Rattle.mk_core.specs.declared.events.Step.TheVariants as step
+use Rattle.mk_core.specs.declared.seats.Stage.{Stage}
+use Rattle.mk_core.specs.declared.seats.Stage.TheVariants as stage
+use Rattle.mk_core.specs.declared.seats.Flight.{Flight}
+use Rattle.mk_core.specs.declared.seats.Progress.{Progress}
+use Rattle.mk_core.specs.declared.seats.Holding.{Holding}
+use Rattle.mk_core.specs.Bounded.{all_below}
+use Rattle.mk_core.specs.Words.{Words}
+use Rattle.mk_core.specs.Calls.{at_rest, begun, progress_q, progress_p, progress_reg, progress_read}
+use Rattle.mk_core.specs.Order.{seat_exists, is_in_order}
+use Rattle.mk_core.specs.Accesses.{found, register_met, reg_access, caller_number}
+use Rattle.mk_core.specs.Moments.{Moment, flight_of, holder_number, nothing_done, none_is_held, is_held}
+use Rattle.mk_core.specs.Effects.{progress, progress_freed, begins_where_free, moment_behind}
+use Rattle.mk_core.specs.TurnConditions.{cell_freed}
+use Rattle.mk_core.specs.Order.{comes_next_to_host, host_has_turn, is_open_to, group_of}
+use Rattle.mk_core.specs.Readings.{Holds}
+use Rattle.mk_core.specs.History.{World, left, IsHistory}
+use Rattle.mk_protocol.specs.Protocol.{Protocol}
+use Rattle.mk_protocol.proofs.NextSteps.{at_take, at_no_take}
+use Rattle.mk_protocol.proofs.SameWords.{Behind, reg_keeps, tally_keeps}
+use Rattle.mk_protocol.proofs.Protocols.{lists_keep_the_protocol}
+use Rattle.mk_words.specs.Seats.{Has}
+use Rattle.mk_words.specs.States.{PassState, now_of, call_of, world_of, event_of}
+use Rattle.mk_words.specs.Steps.{Makes, moment_of, found_by, Finds, Tells}
+use Rattle.mk_words.specs.TurnSteps.{op_for, IsTurn, begun_for, IsFresh, turn_stays, Acts}
+use Rattle.mk_words.proofs.Made.{Made, made}
+use Rattle.mk_words.proofs.CallSteps.{begins}
+
+-- who holds the turn, by the turn word
+
+holds_named : (c : Config) (m : Moment) (seat : Seat) → Protocol c m → Holds c m seat → m.words.turn ≡ 1 + holder_number c seat
+holds_named c m (Caller k) p h = (p.holder k h.0).1 h.1
+holds_named c m (Marker k) p h = absurd h
+holds_named c m Host p h = h
+
+abbrev is_marker : Seat → Bool
+is_marker (Marker k) = true
+is_marker _ = false
+
+named_holds : (c : Config) (m : Moment) (seat : Seat) → Protocol c m → seat_exists c seat ≡ true → is_marker seat ≡ false
+    → m.words.turn ≡ 1 + holder_number c seat → Holds c m seat
+named_holds c m (Caller k) p exists one named = let lt = ltb-true k c.callers exists in (lt, (p.holder k lt).0 named)
+named_holds c m (Marker k) p exists one named = cc
+named_holds c m Host p exists one named = named
+
+holder_is_no_marker : (c : Config) (m : Moment) (seat : Seat) → Holds c m seat → is_marker seat ≡ false
+holder_is_no_marker c m (Caller k) h = refl
+holder_is_no_marker c m (Marker k) h = absurd h
+holder_is_no_marker c m Host h = refl
+
+-- The turn word is another only behind `take` and `give`.
+turn_word_stays : (c : Config) (m : Moment) (seat : Seat) (s : Step) → turn_stays s ≡ true → (Behind c m seat s).words.turn ≡ m.words.turn
+turn_word_stays c m seat (step.Take o) h = cc
+turn_word_stays c m seat step.Give h = cc
+turn_word_stays c m seat step.Reg h =
+    (reg_keeps m.words (caller_number seat) (register_met (flight_of m seat) (flight_of m seat).stage) (reg_access (flight_of m seat) (flight_of m seat).stage)).turn
+turn_word_stays c m seat (step.Tally n v) h = (tally_keeps m.words n v).turn
+turn_word_stays c m seat _ h = refl
+
+-- A call keeps its operation up to its end.
+
+either_op : (b : Bool) (x y : Progress) (o : Op) → x.flight.op ≡ o → y.flight.op ≡ o → (if b then x else y).flight.op ≡ o
+either_op true x y o a b = a
+either_op false x y o a b = b
+
+q_op : (f : Flight) (o : Op) (n : ℕ) → (progress_q f o n).flight.op ≡ f.op
+q_op f (op.Move d q) n = refl
+q_op f (op.Same p q) n = refl
+q_op f _ n = either_op (n == 0) _ _ f.op refl refl
+
+p_op : (f : Flight) (o : Op) (n : ℕ) → (progress_p f o n).flight.op ≡ f.op
+p_op f (op.IsNull p) n = refl
+p_op f (op.Free p) n = either_op (n == 0) _ _ f.op refl refl
+p_op f _ n = refl
+
+reg_op : (f : Flight) (s : Stage) (n : ℕ) → (progress_reg f s n).flight.op ≡ f.op
+reg_op f stage.LoadQ n = q_op f f.op n
+reg_op f stage.LoadP n = p_op f f.op n
+reg_op f _ n = refl
+
+read_op : (f : Flight) (o : Op) (n : ℕ) → (progress_read f o n).flight.op ≡ f.op
+read_op f (op.GetPtr d q i) n = refl
+read_op f _ n = refl
+
+freed_op : (f : Flight) (x : Option Cell) → (progress_freed f x).flight.op ≡ f.op
+freed_op f (Some cell) = refl
+freed_op f None = refl
+
+op_stays : (c : Config) (m : Moment) (f : Flight) (n : ℕ) (s : Step) → turn_stays s ≡ true → (progress c m f n s).flight.op ≡ f.op
+op_stays c m f n (step.Enter o) h = cc
+op_stays c m f n (step.Take o) h = cc
+op_stays c m f n step.Leave h = cc
+op_stays c m f n step.Give h = cc
+op_stays c m f n step.Reg h = reg_op f f.stage n
+op_stays c m f n step.Probe h = either_op _ _ _ f.op refl refl
+op_stays c m f n step.Read h = read_op f f.op n
+op_stays c m f n (step.Look x) h = either_op _ _ _ f.op refl refl
+op_stays c m f n (step.Quar p v) h = freed_op f (cell_freed c.pages m.words f p v)
+op_stays c m f n _ h = refl
+
+op_behind : (c : Config) (m : Moment) (seat : Seat) (s : Step) → Protocol c m → seat_exists c seat ≡ true → turn_stays s ≡ true
+    → op_for seat (flight_of (Behind c m seat s) seat) ≡ op_for seat (flight_of m seat)
+op_behind c m (Caller k) s p exists h =
+    let lt : k < length m.seats.flights = subst (λ (i : ℕ). k < i) (sym p.callers) (ltb-true k c.callers exists) in
+    ap (λ (f : Flight). Some f.op) (get_or-set_same m.seats.flights k _ at_rest lt)
+    ∙ ap (λ (o : Op). Some o) (op_stays c m (flight_of m (Caller k)) _ s h)
+op_behind c m (Marker k) s p exists h = refl
+op_behind c m Host s p exists h = refl
+
+-- the step of whoever holds the turn
+module _ (p : PassState) (s : Step) (q : PassState) (m : Makes p s q) (own : Has p.seats p.seat) (history : IsHistory q.table.config q.seen) where
+  d : Made p s q m
+  d = made p s q m own history
+
+  pub protocol_now : Protocol p.table.config (world_of q).now
+  protocol_now =
+      subst (λ (r : PassState). Protocol p.table.config (world_of r).now) (sym m.is)
+      (lists_keep_the_protocol p.table.config _ d.whole.within_limits d.whole.enabled)
+
+  pub acts : Holds p.table.config (now_of p) p.seat → Acts p s q
+  acts h =
+      let turn = d.frame.turn h in
+      record {
+        makes = m;
+        own = d.frame.own;
+        holding = (d.frame.own.holding h).1;
+        turn = turn.0;
+        counts = turn.1;
+        stop = d.frame.stop;
+        world = d.world;
+      }
+
+  holds_then : Holds p.table.config (now_of p) p.seat → Holds p.table.config (moment_of m) p.seat
+  holds_then h = (d.frame.own.holding h).0
+
+  pub still_turn : (o : Option Op) → turn_stays s ≡ true → IsTurn p o → IsTurn q o
+  still_turn o stays t =
+      let c : Config = p.table.config in
+      let named : (world_of q).now.words.turn ≡ 1 + holder_number c p.seat =
+      ap (λ (w : World). w.now.words.turn) d.world ∙ turn_word_stays c (moment_of m) p.seat s stays ∙ holds_named c (moment_of m) p.seat d.protocol (holds_then t.holds) in
+      let holds : Holds c (world_of q).now p.seat = named_holds c (world_of q).now p.seat protocol_now d.meets.seat (holder_is_no_marker c (now_of p) p.seat t.holds) named in
+      let same : op_for p.seat (call_of p) ≡ op_for p.seat (flight_of (world_of q).now p.seat) =
+      sym (ap (λ (w : World). op_for p.seat (flight_of w.now p.seat)) d.world
+      ∙ op_behind c (moment_of m) p.seat s d.protocol d.meets.seat stays
+      ∙ ap (λ (f : Flight). op_for p.seat f) d.frame.own.flight) in
+      record {
+        holds = subst (λ (r : PassState). Holds r.table.config (world_of q).now r.seat) (sym m.is) holds;
+        op = t.op ∙ same ∙ ap (λ (t : Seat). op_for t (flight_of (world_of q).now t)) (sym d.seat);
+      }
+
+-- `take`
+
+all_from : (n : ℕ) (test : ℕ → Bool) → ((k : ℕ) → k < n → test k ≡ true) → all_below n test ≡ true
+unfolding all_below
+all_from zero test h = refl
+all_from (suc n) test h = and_from (all_below n test) (test n) (all_from n test (λ k lt. h k (omega arith))) (h n (omega arith))
+
+-- a seat that takes the turn where it finds it free
+
+takes_for : (c : Config) (m : Moment) (seat : Seat) (o : Option Op) → is_open_to seat (group_of (step.Take o)) ≡ true → is_in_order c m seat (step.Take o) ≡ true
+    → (is_marker seat ≡ false) × (op_for seat (begun_for o) ≡ o)
+takes_for c m (Caller k) (Some o) kind order = (refl, refl)
+takes_for c m (Caller k) None kind order = absurd (at_no_take (flight_of m (Caller k)).stage (flight_of m (Caller k)).op order)
+takes_for c m (Marker k) o kind order = cc
+takes_for c m Host None kind order = (refl, refl)
+takes_for c m Host (Some o) kind order = absurd (never (host_has_turn c m) order)
+  where
+    never : (b : Bool) → (b && false) ≡ true → ⊥
+    never true e = cc
+    never false e = cc
+
+takes_call : (c : Config) (m : Moment) (seat : Seat) (o : Option Op) → Protocol c m → seat_exists c seat ≡ true → is_open_to seat (group_of (step.Take o)) ≡ true
+    → is_in_order c m seat (step.Take o) ≡ true → m.words.turn ≡ 0 → flight_of (Behind c m seat (step.Take o)) seat ≡ begun_for o
+takes_call c m (Caller k) (Some o) p exists kind order free =
+    let lt : k < length m.seats.flights = subst (λ (i : ℕ). k < i) (sym p.callers) (ltb-true k c.callers exists) in
+    get_or-set_same m.seats.flights k _ at_rest lt
+    ∙ ap (λ (x : Progress). x.flight) (begins (flight_of m (Caller k)) o m.words.turn m.words.turn refl free)
+takes_call c m (Caller k) None p exists kind order free = absurd (at_no_take (flight_of m (Caller k)).stage (flight_of m (Caller k)).op order)
+takes_call c m (Marker k) o p exists kind order free = cc
+takes_call c m Host None p exists kind order free = refl
+takes_call c m Host (Some o) p exists kind order free = absurd (never (host_has_turn c m) order)
+  where
+    never : (b : Bool) → (b && false) ≡ true → ⊥
+    never true e = cc
+    never false e = cc
+
+-- no gate is held while nobody has the turn
+none_held_free : (c : Config) (m : Moment) → Protocol c m → m.words.turn ≡ 0 → none_is_held c.callers m.words ≡ true
+none_held_free c m p free =
+    all_from c.callers (λ j. not (is_held m.words j))
+    (λ k lt. ap not (ne_eqb (slice_index m.words.gates k) 2 (λ two. (p.held k lt two).0 free)))
+
+module _ (p : PassState) (o : Option Op) (n : ℕ) (q : PassState) (t : Tells p (step.Take o) n q) (own : Has p.seats p.seat) (history : IsHistory q.table.config q.seen) where
+  e : Made p (step.Take o) q t.makes
+  e = made p (step.Take o) q t.makes own history
+
+  pub take_finds : (found : ℕ) → n ≡ found → Finds p (step.Take o) found q
+  take_finds found is = record { makes = t.makes; finds = sym is ∙ t.tells }
+
+  module _ (none : n ≡ 0) where
+    free : (moment_of t.makes).words.turn ≡ 0
+    free = sym t.tells ∙ none
+
+    pub takes : IsTurn q o
+    takes =
+        let c : Config = p.table.config in
+        let m : Moment = moment_of t.makes in
+        let named : (world_of q).now.words.turn ≡ 1 + holder_number c p.seat =
+        ap (λ (w : World). w.now.words.turn) e.world ∙ ap (λ (b : Bool). if b then 1 + holder_number c p.seat else m.words.turn) (eq-eqb m.words.turn 0 free) in
+        let for = takes_for c m p.seat o e.meets.kind e.meets.order in
+        let holds : Holds c (world_of q).now p.seat =
+        named_holds c (world_of q).now p.seat (protocol_now p (step.Take o) q t.makes own history) e.meets.seat for.0 named in
+        let call : flight_of (world_of q).now p.seat ≡ begun_for o =
+        ap (λ (w : World). flight_of w.now p.seat) e.world ∙ takes_call c m p.seat o e.protocol e.meets.seat e.meets.kind e.meets.order free in
+        record {
+          holds = subst (λ (r : PassState). Holds r.table.config (world_of q).now r.seat) (sym t.makes.is) holds;
+          op =
+              sym for.1
+              ∙ ap (λ (f : Flight). op_for p.seat f) (sym call)
+              ∙ ap (λ (s : Seat). op_for s (flight_of (world_of q).now s)) (sym e.seat);
+        }
+
+    pub takes_fresh : IsFresh q o
+    takes_fresh =
+        let c : Config = p.table.config in
+        let m : Moment = moment_of t.makes in
+        record {
+          call =
+              ap (λ (s : Seat). flight_of (world_of q).now s) e.seat
+              ∙ ap (λ (w : World). flight_of w.now p.seat) e.world
+              ∙ takes_call c m p.seat o e.protocol e.meets.seat e.meets.kind e.meets.order free;
+          holding =
+              ap (λ (w : World). w.now.seats.holding) e.world
+              ∙ ap (λ (b : Bool). if b then nothing_done else m.seats.holding) (eq-eqb m.words.turn 0 free);
+          gates =
+              ap (λ (r : PassState). none_is_held r.table.config.callers (world_of q).now.words) t.makes.is
+              ∙ ap (λ (w : World). none_is_held c.callers w.now.words) e.world
+              ∙ none_held_free c m e.protocol free;
+        }
+
+-- `give`
+pub gives_rest : (p : PassState) (q : PassState) (m : Makes p step.Give q) → Has p.seats p.seat → IsHistory q.table.config q.seen → call_of q ≡ at_rest
+gives_rest p q m own history =
+    let d = made p step.Give q m own history in
+    ap (λ (s : Seat). flight_of (world_of q).now s) d.seat ∙ ap (λ (w : World). flight_of w.now p.seat) d.world ∙ by p.seat d.meets.seat d.protocol
+  where
+    by : (s : Seat) → seat_exists p.table.config s ≡ true → Protocol p.table.config (moment_of m) → flight_of (Behind p.table.config (moment_of m) s step.Give) s ≡ at_rest
+    by (Caller k) exists protocol =
+        get_or-set_same (moment_of m).seats.flights k _ at_rest (subst (λ (i : ℕ). k < i) (sym protocol.callers) (ltb-true k p.table.config.callers exists))
+    by (Marker k) exists protocol = refl
+    by Host exists protocol = refl

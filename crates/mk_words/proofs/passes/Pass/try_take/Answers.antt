@@ -1,0 +1,24 @@
+use Rattle.std.proofs.Common.{◌≢◌, arith}
+use Rattle.mk_words.proofs.TurnSteps.{takes, take_finds, takes_fresh}
+use Rattle.mk_words.proofs.passes.Pass.try_take.Goals as goal
+
+pub invariant_of-result : goal.invariant_of-result
+invariant_of-result c =
+    let f = c.perform-found in
+    takes c.args.self c.args.op f.result f.new.self f.ensures.told f.ensures.own f.ensures.history c.if-found-eq0.true
+
+pub returns-then-found-eq0-clause-made : goal.returns-then-found-eq0-clause-made
+returns-then-found-eq0-clause-made c =
+    let f = c.perform-found in
+    take_finds c.args.self c.args.op f.result f.new.self f.ensures.told f.ensures.own f.ensures.history 0 c.if-found-eq0.true
+
+pub returns-then-found-eq0-clause-fresh : goal.returns-then-found-eq0-clause-fresh
+returns-then-found-eq0-clause-fresh c =
+    let f = c.perform-found in
+    takes_fresh c.args.self c.args.op f.result f.new.self f.ensures.told f.ensures.own f.ensures.history c.if-found-eq0.true
+
+pub returns-else-found-eq0-clause-busy : goal.returns-else-found-eq0-clause-busy
+returns-else-found-eq0-clause-busy c =
+    let f = c.perform-found in
+    let some : c.perform-found.result ≢ 0 = c.if-found-eq0.false in
+    take_finds c.args.self c.args.op f.result f.new.self f.ensures.told f.ensures.own f.ensures.history _ (omega arith)

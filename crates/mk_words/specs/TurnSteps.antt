@@ -1,0 +1,59 @@
+-- What the steps of the turn's holder leave.
+use Rattle.std.specs.Prelude.{◌≡◌, ℕ, ◌++◌, Option, Some, None, Bool, true, false}
+use Rattle.mk_never.specs.declared.operations.Op.{Op}
+use Rattle.mk_core.specs.declared.events.Seat.{Seat}
+use Rattle.mk_core.specs.declared.events.Seat.TheVariants.{Caller, Marker, Host}
+use Rattle.mk_core.specs.declared.events.Step.{Step}
+use Rattle.mk_core.specs.declared.events.Step.TheVariants as step
+use Rattle.mk_core.specs.declared.seats.Flight.{Flight}
+use Rattle.mk_core.specs.declared.seats.Holding.{Holding}
+use Rattle.mk_core.specs.Calls.{at_rest, begun}
+use Rattle.mk_core.specs.Moments.{nothing_done, none_is_held}
+use Rattle.mk_core.specs.Readings.{Holds}
+use Rattle.mk_core.specs.History.{World, world_behind, left}
+use Rattle.mk_core.specs.Frames.{OwnIsLeft, HoldsAll, TurnIsLeft, CountsAreLeft, written_of}
+use Rattle.mk_words.specs.States.{PassState, world_of, now_of, call_of, event_of}
+use Rattle.mk_words.specs.Steps.{Makes}
+
+-- the operation for which a seat has the turn, whose call is this; the host has none
+abbrev pub op_for : Seat → Flight → Option Op
+op_for (Caller k) f = Some f.op
+op_for _ f = None
+
+-- The pass's seat holds the turn, for this operation.
+pub record IsTurn (p : PassState) (o : Option Op) : Type 0 where
+  pub holds : Holds p.table.config (now_of p) p.seat
+  pub op : o ≡ op_for p.seat (call_of p)
+
+-- the call that a `take` with this operation begins
+abbrev pub begun_for : Option Op → Flight
+begun_for (Some o) = begun o
+begun_for None = at_rest
+
+-- Directly behind its `take` a turn has done nothing, and no gate is held.
+pub record IsFresh (p : PassState) (o : Option Op) : Type 0 where
+  pub call : call_of p ≡ begun_for o
+  pub holding : (now_of p).seats.holding ≡ nothing_done
+  pub gates : none_is_held p.table.config.callers (now_of p).words ≡ true
+
+-- A turn goes on behind every step but these.
+abbrev pub turn_stays : Step → Bool
+turn_stays (step.Take o) = false
+turn_stays step.Give = false
+turn_stays (step.Enter o) = false
+turn_stays step.Leave = false
+turn_stays _ = true
+
+-- what is left where the step is made
+abbrev pub world_at : {p : PassState} {s : Step} {q : PassState} → Makes p s q → World
+world_at {p} m = left p.table.config (p.seen ++ m.others)
+
+-- The holder of the turn made the step. Others had left it its own up to then, and behind it stands what it does there.
+pub record Acts (p : PassState) (s : Step) (q : PassState) : Type 0 where
+  pub makes : Makes p s q
+  pub own : OwnIsLeft p.table.config p.seat (world_of p) (world_at makes)
+  pub holding : (world_at makes).now.seats.holding ≡ (now_of p).seats.holding
+  pub turn : TurnIsLeft (world_of p) (world_at makes)
+  pub counts : CountsAreLeft p.table.config p.seen (p.seen ++ makes.others)
+  pub stop : HoldsAll p.table.config (now_of p) p.seat → written_of (world_at makes) ≡ written_of (world_of p)
+  pub world : world_of q ≡ world_behind p.table.config (world_at makes) (event_of p s)
