@@ -8,3 +8,4 @@ pub mod Made
 pub mod CallSteps
 pub mod TurnSteps
 pub mod Closing
+pub mod Markers

@@ -6,3 +6,4 @@ pub mod Steps
 pub mod CallSteps
 pub mod TurnSteps
 pub mod Finals
+pub mod Markers

@@ -4,9 +4,11 @@
 mod call_steps;
 mod finals;
 mod indexes;
+mod marker_steps;
 mod passes;
 mod performing;
 mod rule;
+mod scans;
 mod stop_steps;
 mod stopped;
 mod telling;
