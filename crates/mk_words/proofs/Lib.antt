@@ -10,3 +10,4 @@ pub mod TurnSteps
 pub mod Closing
 pub mod Markers
 pub mod Opening
+pub mod Tallies

@@ -5,13 +5,14 @@ use Rattle.std.proofs.lemmas.Nat.{and_le_r, pow_pos}
 use Rattle.std.proofs.lemmas.Nat.Bits.{bit_at-trailing_zeros}
 use Rattle.std.specs.Prelude.{slice_index, slice_set, bit_and, nat_lt, ◌-◌, ◌%◌, ◌^◌, ◌||◌, ◌==◌, Some, None, if◌then◌else◌, not, ◌&&◌}
 use Rattle.std.proofs.lemmas.Bool.{and_from, and_parts, false_from_ne_true, lt-ltb, ltb-true, eq-eqb, ne_eqb, eqb-true, eqb-false, not-true}
-use Rattle.std.proofs.lemmas.List.{get_or-set_same}
+use Rattle.std.proofs.lemmas.List.{get_or-set_same, set-get_or}
 use Rattle.mk_never.specs.declared.operations.Op.{Op}
 use Rattle.mk_never.specs.declared.operations.Op.TheVariants as op
 use Rattle.mk_geom.specs.declared.addresses.Cell.{Cell}
 use Rattle.mk_core.specs.declared.config.Config.{Config}
 use Rattle.mk_core.specs.declared.events.Seat.{Seat}
 use Rattle.mk_core.specs.declared.events.Seat.TheVariants.{Caller, Marker, Host}
+use Rattle.mk_core.specs.declared.events.Event.{Event}
 use Rattle.mk_core.specs.declared.events.Step.{Step}
 use Rattle.mk_core.specs.declared.events.Step.TheVariants as step
 use Rattle.mk_core.specs.declared.accesses.Access.TheVariants.{Store}
@@ -44,7 +45,13 @@ use Rattle.mk_core.specs.History.{World, left, IsHistory}
 use Rattle.mk_core.specs.Frames.{HoldsAll, Written}
 use Rattle.mk_core.proofs.Lengths.{histories_keep_lengths}
 use Rattle.mk_protocol.specs.Protocol.{Protocol}
-use Rattle.mk_core.proofs.Conditions.{enabled_meets}
+use Rattle.mk_core.specs.Counts.{IsTidy, TalliesAreExact, TalliesAreTidy}
+use Rattle.mk_core.specs.Enabled.{IsEnabled}
+use Rattle.mk_core.proofs.Conditions.{enabled_meets, meets_enabled}
+use Rattle.mk_placement.proofs.TallySteps.{others_count_nothing}
+use Rattle.mk_placement.proofs.Tallies.{tallies_tell}
+use Rattle.mk_words.proofs.Tidy.{tidy_part}
+use Rattle.mk_words.proofs.Tallies.{exact_more, counts_tidy_more}
 use Rattle.mk_protocol.proofs.Actors.{grants_new}
 use Rattle.mk_protocol.proofs.Known.{known_left}
 use Rattle.mk_protocol.proofs.NextSteps.{at_take, at_no_take}
@@ -55,7 +62,7 @@ use Rattle.mk_words.specs.States.{PassState, now_of, call_of, world_of, event_of
 use Rattle.mk_words.specs.Steps.{IsEnabledTo, Makes, moment_of, found_by, Finds, Tells}
 use Rattle.mk_words.specs.TurnSteps.{op_for, IsTurn, begun_for, IsFresh, turn_stays, gates_stay, world_at, Acts, may_take_cell, KnowsCell, KeepsTurn, cell_behind, register_granted, cell_base}
 use Rattle.mk_words.proofs.Made.{Made, made}
-use Rattle.mk_words.proofs.CallSteps.{begins}
+use Rattle.mk_words.proofs.CallSteps.{begins, waits}
 
 -- who holds the turn, by the turn word
 
@@ -324,6 +331,57 @@ module _ (p : PassState) (o : Option Op) (n : ℕ) (q : PassState) (t : Tells p 
 
 pub fresh_knows : (p : PassState) (o : Option Op) → IsFresh p o → KnowsCell p None
 fresh_knows p o fresh x e = let no_place : Unplaced ≡ Used x = ap (λ (h : Holding). h.placing) (sym fresh.holding) ∙ e in cc
+
+-- a `take` that finds another holder leaves all as it was
+
+same_flights : (c : Config) (m : Moment) (k : ℕ) (o : Op) (n : ℕ) → n ≢ 0 → slice_set m.seats.flights k (begins_where_free (flight_of m (Caller k)) o n).flight ≡ m.seats.flights
+same_flights c m k o n some =
+    ap (λ (x : Progress). slice_set m.seats.flights k x.flight) (waits (flight_of m (Caller k)) o n n refl some) ∙ set-get_or m.seats.flights k at_rest
+
+missed : (c : Config) (m : Moment) (seat : Seat) (o : Option Op) → is_open_to seat (group_of (step.Take o)) ≡ true → is_in_order c m seat (step.Take o) ≡ true
+    → m.words.turn ≢ 0 → Behind c m seat (step.Take o) ≡ m
+missed c m seat o kind order some =
+    ap (λ (t : ℕ). record { words = record m.words { turn = t }; seats = (Behind c m seat (step.Take o)).seats; fresh_words = m.fresh_words })
+    (ap (λ (b : Bool). if b then 1 + holder_number c seat else m.words.turn) (ne_eqb m.words.turn 0 some))
+    ∙ ap (λ (h : Holding). record { words = m.words; seats = record (Behind c m seat (step.Take o)).seats { holding = h }; fresh_words = m.fresh_words })
+    (ap (λ (b : Bool). if b then nothing_done else m.seats.holding) (ne_eqb m.words.turn 0 some))
+    ∙ by seat o kind order
+  where
+    by : (seat : Seat) (o : Option Op) → is_open_to seat (group_of (step.Take o)) ≡ true → is_in_order c m seat (step.Take o) ≡ true
+        → record { words = m.words; seats = record (Behind c m seat (step.Take o)).seats { holding = m.seats.holding }; fresh_words = m.fresh_words } ≡ m
+    by (Caller k) (Some o) kind order =
+        ap (λ (fs : List Flight). record { words = m.words; seats = record m.seats { flights = fs }; fresh_words = m.fresh_words }) (same_flights c m k o m.words.turn some)
+    by (Caller k) None kind order = absurd (at_no_take (flight_of m (Caller k)).stage (flight_of m (Caller k)).op order)
+    by (Marker k) o kind order = cc
+    by Host o kind order = refl
+
+pub take_waits : (p : PassState) (o : Option Op) (n : ℕ) (q : PassState) → Tells p (step.Take o) n q → Has p.seats p.seat → IsHistory q.table.config q.seen → n ≢ 0
+    → (call_of q ≡ call_of p) × IsEnabledTo q (step.Take o)
+take_waits p o n q t own history some =
+    let c : Config = p.table.config in
+    let x = made p (step.Take o) q t.makes own history in
+    let m : Moment = moment_of t.makes in
+    let other : m.words.turn ≢ 0 = λ z. some (t.tells ∙ z) in
+    let same : now_of q ≡ m = ap (λ (w : World). w.now) x.world ∙ missed c m p.seat o x.meets.kind x.meets.order other in (
+      ap (λ (s : Seat). flight_of (now_of q) s) x.seat ∙ ap (λ (y : Moment). flight_of y p.seat) same ∙ x.frame.own.flight,
+      subst (λ (r : PassState). IsEnabled r.table.config (now_of q) (event_of r (step.Take o))) (sym t.makes.is)
+          (subst (λ (y : Moment). IsEnabled c y (event_of p (step.Take o))) (sym same) (meets_enabled c m (event_of p (step.Take o)) x.meets)),
+    )
+
+-- where the turn is taken, the tallies are those of the counts
+pub take_counts : (p : PassState) (o : Option Op) (n : ℕ) (q : PassState) → Tells p (step.Take o) n q → Has p.seats p.seat → IsHistory q.table.config q.seen
+    → IsTidy q.table.config q.seen → n ≡ 0 → TalliesAreExact q.table.config q.seen × TalliesAreTidy q.table.config q.seen
+take_counts p o n q t own history tidy none =
+    let c : Config = p.table.config in
+    let es : List Event = p.seen ++ t.makes.others in
+    let e : Event = event_of p (step.Take o) in
+    let x = made p (step.Take o) q t.makes own history in
+    let free : (left c es).now.words.turn ≡ 0 = sym t.tells ∙ none in
+    let told = tallies_tell c es x.history free in
+    let nothing = others_count_nothing c (left c es) e x.known x.meets free in
+    let whole_tidy : IsTidy c (es ++ e ∷ []) = subst (λ (r : PassState). IsTidy r.table.config r.seen) t.makes.is tidy in
+    subst (λ (r : PassState). TalliesAreExact r.table.config r.seen × TalliesAreTidy r.table.config r.seen) (sym t.makes.is)
+    (exact_more c es e nothing told.0, counts_tidy_more c es e nothing (told.1 (tidy_part c es (e ∷ []) whole_tidy)))
 
 -- `give`
 pub gives_rest : (p : PassState) (q : PassState) (m : Makes p step.Give q) → Has p.seats p.seat → IsHistory q.table.config q.seen → call_of q ≡ at_rest

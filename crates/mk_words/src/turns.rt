@@ -3,7 +3,7 @@ ghost use Rattle.std.specs.Prelude.{◌≡◌, ◌+◌, IfOk, IfErr, true, false
 ghost use Rattle.mk_core.specs.declared.events.Step.TheVariants as step;
 ghost use Rattle.mk_core.specs.Accesses.{reached, access};
 ghost use Rattle.mk_core.specs.Calls.{at_rest};
-ghost use Rattle.mk_core.specs.Counts.{TalliesAreTidy, IsTidy};
+ghost use Rattle.mk_core.specs.Counts.{TalliesAreExact, TalliesAreTidy, IsTidy};
 ghost use Rattle.mk_core.specs.History.{IsHistory};
 ghost use Rattle.mk_core.specs.Moments.{holder_number};
 ghost use Rattle.mk_core.specs.Order.{seat_exists};
@@ -68,7 +68,11 @@ impl Pass {
         ensures made { IfOk result (λ turn. Finds self (step.Take op) 0 turn.pass) }
         ensures op { IfOk result (λ turn. turn.op ≡ op) }
         ensures fresh { IfOk result (λ turn. IsFresh turn.pass op) }
+        ensures exact { IfOk result (λ turn. TalliesAreExact turn.pass.table.config turn.pass.seen) }
+        ensures tidy { IfOk result (λ turn. TalliesAreTidy turn.pass.table.config turn.pass.seen) }
         ensures busy { IfErr result (λ back. Finds self (step.Take op) (1 + back.1.holder) back.0) }
+        ensures stays { IfErr result (λ back. call_of back.0 ≡ call_of self) }
+        ensures again { IfErr result (λ back. IsEnabledTo back.0 (step.Take op)) }
     {
         let number = self.turn_word(words);
         let found = self.perform(
@@ -80,6 +84,7 @@ impl Pass {
                 new: number,
             },
         );
+        self.is_in_order();
         if found == 0 {
             Ok(Turn {
                 pass: self,
