@@ -32,7 +32,7 @@ use Rattle.mk_core.specs.Order.{seat_exists, is_in_order}
 use Rattle.mk_core.specs.Accesses.{access, found, register_met, reg_access, caller_number, granted_base}
 use Rattle.mk_core.specs.Moments.{Moment, flight_of, holder_number, nothing_done, none_is_held, is_held, is_number_of, is_phase, others_are_held}
 use Rattle.mk_core.specs.Effects.{progress, progress_freed, begins_where_free, chosen, taken, holding_behind, moment_behind}
-use Rattle.mk_core.specs.TurnConditions.{cell_freed, place_now, is_used_once, takes_cell, gives_back, are_wiped}
+use Rattle.mk_core.specs.TurnConditions.{cell_freed, words_held, place_now, is_used_once, takes_cell, gives_back, are_wiped}
 use Rattle.mk_core.specs.Cells.{are_left_unmarked}
 use Rattle.mk_core.specs.Bits.{has_bit}
 use Rattle.mk_core.specs.NewPlaces.{object_made, place_stands, is_undecided_new}
@@ -51,7 +51,7 @@ use Rattle.mk_core.proofs.Conditions.{enabled_meets, meets_enabled}
 use Rattle.mk_placement.proofs.TallySteps.{others_count_nothing}
 use Rattle.mk_placement.proofs.Tallies.{tallies_tell}
 use Rattle.mk_words.proofs.Tidy.{tidy_part}
-use Rattle.mk_words.proofs.Tallies.{exact_more, counts_tidy_more}
+use Rattle.mk_words.proofs.Tallies.{exact_more, counts_tidy_more, free_tallies}
 use Rattle.mk_protocol.proofs.Actors.{grants_new}
 use Rattle.mk_protocol.proofs.Known.{known_left}
 use Rattle.mk_protocol.proofs.NextSteps.{at_take, at_no_take}
@@ -327,6 +327,8 @@ module _ (p : PassState) (o : Option Op) (n : ℕ) (q : PassState) (t : Tells p 
               ap (λ (r : PassState). none_is_held r.table.config.callers (world_of q).now.words) t.makes.is
               ∙ ap (λ (w : World). none_is_held c.callers w.now.words) e.world
               ∙ none_held_free c m e.protocol free;
+          held = ap (λ (w : World). w.now.words.held) e.world ∙ (free_tallies c (p.seen ++ t.makes.others) e.history e.protocol free).0 ∙ sym (ap (λ (w : World). words_held w.now.words) e.world);
+          fresh = ap (λ (w : World). w.now.words.fresh) e.world ∙ (free_tallies c (p.seen ++ t.makes.others) e.history e.protocol free).1 ∙ sym (ap (λ (w : World). w.now.fresh_words) e.world);
         }
 
 pub fresh_knows : (p : PassState) (o : Option Op) → IsFresh p o → KnowsCell p None

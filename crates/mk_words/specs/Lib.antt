@@ -8,3 +8,4 @@ pub mod TurnSteps
 pub mod Finals
 pub mod Markers
 pub mod Opening
+pub mod Laws

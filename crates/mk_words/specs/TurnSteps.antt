@@ -17,6 +17,7 @@ use Rattle.mk_core.specs.declared.seats.Flight.{Flight}
 use Rattle.mk_core.specs.declared.seats.Holding.{Holding}
 use Rattle.mk_core.specs.Calls.{at_rest, begun, d_of}
 use Rattle.mk_core.specs.Moments.{nothing_done, none_is_held, others_are_held}
+use Rattle.mk_core.specs.TurnConditions.{words_held}
 use Rattle.mk_core.specs.Readings.{Holds}
 use Rattle.mk_core.specs.History.{World, world_behind, left}
 use Rattle.mk_core.specs.Frames.{OwnIsLeft, HoldsAll, TurnIsLeft, CountsAreLeft, written_of}
@@ -38,11 +39,13 @@ abbrev pub begun_for : Option Op → Flight
 begun_for (Some o) = begun o
 begun_for None = at_rest
 
--- Directly behind its `take` a turn has done nothing, and no gate is held.
+-- Directly behind its `take` a turn has done nothing, no gate is held, and the tallies are what a `give` asks.
 pub record IsFresh (p : PassState) (o : Option Op) : Type 0 where
   pub call : call_of p ≡ begun_for o
   pub holding : (now_of p).seats.holding ≡ nothing_done
   pub gates : none_is_held p.table.config.callers (now_of p).words ≡ true
+  pub held : (now_of p).words.held ≡ words_held (now_of p).words
+  pub fresh : (now_of p).words.fresh ≡ (now_of p).fresh_words
 
 -- A turn goes on behind every step but these.
 abbrev pub turn_stays : Step → Bool
