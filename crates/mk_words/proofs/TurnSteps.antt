@@ -26,7 +26,8 @@ use Rattle.mk_core.specs.declared.seats.Placing.{Placing}
 use Rattle.mk_core.specs.declared.seats.Placing.TheVariants.{Unplaced, Chosen, Used, Granted}
 use Rattle.mk_geom.specs.declared.pages.Place.{Place}
 use Rattle.mk_core.specs.Bounded.{all_below}
-use Rattle.mk_core.specs.Words.{Words, used_at}
+use Rattle.mk_core.specs.Words.{Words, used_at, phase_of}
+use Rattle.mk_core.specs.Ranges.{has_phase}
 use Rattle.mk_core.specs.Calls.{at_rest, has_type, q_of, p_of, r_of, d_of, g_of, begun, progress_q, progress_p, progress_reg, progress_read}
 use Rattle.mk_core.specs.Order.{seat_exists, is_in_order}
 use Rattle.mk_core.specs.Accesses.{access, found, register_met, reg_access, caller_number, granted_base}
@@ -281,6 +282,19 @@ none_held_free c m p free =
     all_from c.callers (λ j. not (is_held m.words j))
     (λ k lt. ap not (ne_eqb (slice_index m.words.gates k) 2 (λ two. (p.held k lt two).0 free)))
 
+-- nor is a stop on
+free_phase : (c : Config) (m : Moment) → Protocol c m → m.words.turn ≡ 0 → has_phase (phase_of m.words) step.Give ≡ true
+free_phase c m p free = by (phase_of m.words) p.low (λ (two : 2 ≤ phase_of m.words) (four : phase_of m.words ≤ 4). p.cycle two four free)
+  where
+    by : (n : ℕ) → n ≤ 5 → (2 ≤ n → n ≤ 4 → ⊥) → ((n == 0) || (n == 1) || (n == 5)) ≡ true
+    by zero low out = refl
+    by (suc zero) low out = refl
+    by (suc (suc zero)) low out = absurd (out (omega arith) (omega arith))
+    by (suc (suc (suc zero))) low out = absurd (out (omega arith) (omega arith))
+    by (suc (suc (suc (suc zero)))) low out = absurd (out (omega arith) (omega arith))
+    by (suc (suc (suc (suc (suc zero))))) low out = refl
+    by (suc (suc (suc (suc (suc (suc n)))))) low out = absurd (omega arith)
+
 module _ (p : PassState) (o : Option Op) (n : ℕ) (q : PassState) (t : Tells p (step.Take o) n q) (own : Has p.seats p.seat) (history : IsHistory q.table.config q.seen) where
   e : Made p (step.Take o) q t.makes
   e = made p (step.Take o) q t.makes own history
@@ -327,6 +341,7 @@ module _ (p : PassState) (o : Option Op) (n : ℕ) (q : PassState) (t : Tells p 
               ap (λ (r : PassState). none_is_held r.table.config.callers (world_of q).now.words) t.makes.is
               ∙ ap (λ (w : World). none_is_held c.callers w.now.words) e.world
               ∙ none_held_free c m e.protocol free;
+          phase = ap (λ (w : World). has_phase (phase_of w.now.words) step.Give) e.world ∙ free_phase c m e.protocol free;
           held = ap (λ (w : World). w.now.words.held) e.world ∙ (free_tallies c (p.seen ++ t.makes.others) e.history e.protocol free).0 ∙ sym (ap (λ (w : World). words_held w.now.words) e.world);
           fresh = ap (λ (w : World). w.now.words.fresh) e.world ∙ (free_tallies c (p.seen ++ t.makes.others) e.history e.protocol free).1 ∙ sym (ap (λ (w : World). w.now.fresh_words) e.world);
         }

@@ -17,6 +17,8 @@ use Rattle.mk_core.specs.declared.seats.Flight.{Flight}
 use Rattle.mk_core.specs.declared.seats.Holding.{Holding}
 use Rattle.mk_core.specs.Calls.{at_rest, begun, d_of}
 use Rattle.mk_core.specs.Moments.{nothing_done, none_is_held, others_are_held}
+use Rattle.mk_core.specs.Words.{phase_of}
+use Rattle.mk_core.specs.Ranges.{has_phase}
 use Rattle.mk_core.specs.TurnConditions.{words_held}
 use Rattle.mk_core.specs.Readings.{Holds}
 use Rattle.mk_core.specs.History.{World, world_behind, left}
@@ -39,11 +41,12 @@ abbrev pub begun_for : Option Op → Flight
 begun_for (Some o) = begun o
 begun_for None = at_rest
 
--- Directly behind its `take` a turn has done nothing, no gate is held, and the tallies are what a `give` asks.
+-- Directly behind its `take` a turn has done nothing, no gate is held, and the phase and the tallies are what a `give` asks.
 pub record IsFresh (p : PassState) (o : Option Op) : Type 0 where
   pub call : call_of p ≡ begun_for o
   pub holding : (now_of p).seats.holding ≡ nothing_done
   pub gates : none_is_held p.table.config.callers (now_of p).words ≡ true
+  pub phase : has_phase (phase_of (now_of p).words) step.Give ≡ true
   pub held : (now_of p).words.held ≡ words_held (now_of p).words
   pub fresh : (now_of p).words.fresh ≡ (now_of p).fresh_words
 
