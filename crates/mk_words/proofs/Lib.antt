@@ -1,0 +1,13 @@
+pub mod Seats
+pub mod Tidy
+pub mod LongerLists
+pub mod Keeps
+pub mod Undecided
+pub mod Owed
+pub mod Made
+pub mod CallSteps
+pub mod TurnSteps
+pub mod Closing
+pub mod Markers
+pub mod Opening
+pub mod Tallies

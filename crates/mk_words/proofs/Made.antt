@@ -1,0 +1,74 @@
+-- What is known of a step that was made, of whatever kind.
+use Rattle.std.proofs.Common.{◌≡◌, ℕ, true, List, [], ◌∷◌, ◌++◌, refl, sym, ◌∙◌, ap, subst}
+use Rattle.mk_core.specs.declared.config.Config.{Config}
+use Rattle.mk_core.specs.declared.events.Seat.{Seat}
+use Rattle.mk_core.specs.declared.events.Step.{Step}
+use Rattle.mk_core.specs.declared.events.Event.{Event}
+use Rattle.mk_core.specs.Layout.{IsOfTable}
+use Rattle.mk_core.specs.Accesses.{reached}
+use Rattle.mk_core.specs.Enabled.{MeetsAll}
+use Rattle.mk_core.specs.History.{World, first_world, world_behind, left, IsHistory}
+use Rattle.mk_core.specs.Growing.{AreOfOthers}
+use Rattle.mk_core.specs.Frames.{IsLeft}
+use Rattle.mk_core.proofs.Conditions.{enabled_meets}
+use Rattle.mk_core.proofs.Histories.{left_more, last_enabled}
+use Rattle.mk_core.proofs.HistoryParts.{earlier_part_is_history}
+use Rattle.mk_protocol.specs.Protocol.{Protocol}
+use Rattle.mk_protocol.proofs.Known.{Known, known_left}
+use Rattle.mk_protocol.proofs.Protocols.{protocol_of}
+use Rattle.mk_protocol.proofs.Frames.{others_leave}
+use Rattle.mk_protocol.proofs.Reaching.{events_reach_the_table}
+use Rattle.mk_words.specs.Seats.{Has}
+use Rattle.mk_words.specs.States.{PassState, world_of, event_of}
+use Rattle.mk_words.specs.Steps.{Makes}
+use Rattle.mk_words.specs.Laws.{StepsStandBehindOthers}
+use Rattle.mk_frames.proofs.Frames.{admitted_others_leave}
+use Rattle.mk_words.proofs.Seats.{others_own}
+
+-- The events of others leave the seat its own; the event met its conditions behind them, and the new list leaves what it leaves there.
+pub record Made (p : PassState) (s : Step) (q : PassState) (m : Makes p s q) : Type 0 where
+  pub others : AreOfOthers (p.seat ∷ []) m.others
+  pub history : IsHistory p.table.config (p.seen ++ m.others)
+  pub whole : IsHistory p.table.config (p.seen ++ m.others ++ event_of p s ∷ [])
+  pub frame : IsLeft p.table.config p.seat p.seen (p.seen ++ m.others)
+  pub known : Known p.table.config (left p.table.config (p.seen ++ m.others)).now
+  pub protocol : Protocol p.table.config (left p.table.config (p.seen ++ m.others)).now
+  pub meets : MeetsAll p.table.config (left p.table.config (p.seen ++ m.others)).now (event_of p s)
+  pub of_table : IsOfTable p.table.config.pages (reached p.table.config (left p.table.config (p.seen ++ m.others)).now (event_of p s))
+  pub world : world_of q ≡ world_behind p.table.config (left p.table.config (p.seen ++ m.others)) (event_of p s)
+  pub seat : q.seat ≡ p.seat
+
+pub made : (p : PassState) (s : Step) (q : PassState) (m : Makes p s q) → Has p.seats p.seat → IsHistory q.table.config q.seen → Made p s q m
+made p s q m own history =
+    let c : Config = p.table.config in
+    let es : List Event = p.seen ++ m.others in
+    let e : Event = event_of p s in
+    let whole : IsHistory c (es ++ e ∷ []) = subst (λ (r : PassState). IsHistory r.table.config r.seen) m.is history in
+    let before : IsHistory c es = earlier_part_is_history c es (e ∷ []) whole in
+    let others = others_own p.seats p.seat m.others own m.of_others in
+    let known = known_left c es before.within_limits before.enabled in
+    let on = last_enabled c (first_world c) es e whole.enabled in
+    record {
+      others = others;
+      history = before;
+      whole = whole;
+      frame = others_leave c p.seen m.others p.seat before.within_limits before.enabled others;
+      known = known;
+      protocol = protocol_of c (left c es).now known;
+      meets = enabled_meets c (left c es).now e on;
+      of_table = events_reach_the_table c es e before.within_limits before.enabled on;
+      world = ap (λ (r : PassState). world_of r) m.is ∙ left_more c (first_world c) es e;
+      seat = ap (λ (r : PassState). r.seat) m.is;
+    }
+
+pub stands_behind_others : StepsStandBehindOthers
+stands_behind_others p q s m own history =
+    let d = made p s q m own history in
+    record {
+      others = d.others;
+      history = d.history;
+      left = d.frame;
+      admitted = admitted_others_leave p.table.config p.seen m.others p.seat d.history d.others;
+      meets = d.meets;
+      world = d.world;
+    }

@@ -1,0 +1,16 @@
+use Rattle.std.proofs.Common.{refl, sym, ap}
+use Rattle.std.specs.Prelude.{ℕ}
+use Rattle.mk_core.specs.declared.events.Step.TheVariants as step
+use Rattle.mk_words.specs.States.{call_of}
+use Rattle.mk_words.proofs.CallSteps.{goes_on, keeps}
+use Rattle.mk_words.proofs.passes.Pass.leave.Goals as goal
+
+pub returns-clause-goes : goal.returns-clause-goes
+returns-clause-goes c =
+    let f = c.perform in
+    goes_on c.args.self.now step.Leave f.result f.new.self f.ensures.told f.ensures.own f.ensures.history refl _ refl
+
+pub returns-clause-registers : goal.returns-clause-registers
+returns-clause-registers c =
+    let f = c.perform in
+    keeps c.args.self.now step.Leave f.result f.new.self f.ensures.told f.ensures.own f.ensures.history refl refl

@@ -1,0 +1,26 @@
+-- What the steps of a caller's call find and leave.
+use Rattle.std.specs.Prelude.{◌≡◌, ◌≢◌, ℕ, ◌<◌, true, ◌++◌}
+use Rattle.mk_never.specs.declared.operations.Op.{Op}
+use Rattle.mk_core.specs.declared.events.Step.TheVariants as step
+use Rattle.mk_core.specs.Words.{register_word}
+use Rattle.mk_core.specs.Accesses.{caller_number}
+use Rattle.mk_core.specs.HeldGates.{is_gate_held}
+use Rattle.mk_words.specs.States.{PassState, now_of}
+use Rattle.mk_words.specs.Steps.{Makes, found_by}
+
+-- a register of the pass's seat
+abbrev pub register_of : PassState → ℕ → ℕ
+register_of p r = register_word (now_of p).words (caller_number p.seat) r
+
+abbrev pub KeepsRegisters : PassState → PassState → Type 0
+KeepsRegisters p q = (r : ℕ) → r < 8 → register_of q r ≡ register_of p r
+
+-- but for one
+abbrev pub KeepsOtherRegisters : ℕ → PassState → PassState → Type 0
+KeepsOtherRegisters stored p q = (r : ℕ) → r < 8 → r ≢ stored → register_of q r ≡ register_of p r
+
+-- `enter` found the gate held.
+pub record FindsHeld (p : PassState) (o : Op) (q : PassState) : Type 0 where
+  pub makes : Makes p (step.Enter o) q
+  pub found : found_by makes ≡ 2
+  pub held : is_gate_held p.table.config (caller_number p.seat) (p.seen ++ makes.others) ≡ true

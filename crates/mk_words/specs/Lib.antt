@@ -1,0 +1,11 @@
+pub mod Seats
+pub mod States
+pub mod Rule
+pub mod Passes
+pub mod Steps
+pub mod CallSteps
+pub mod TurnSteps
+pub mod Finals
+pub mod Markers
+pub mod Opening
+pub mod Laws

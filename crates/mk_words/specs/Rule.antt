@@ -1,0 +1,116 @@
+-- The rule of the table, and what each step tells of it.
+use Rattle.std.specs.Prelude.{◌≡◌, ℕ, Bool, true, List, [], ◌∷◌, ◌++◌}
+use mathlib.Core.Option.{some, none}
+use lib.ListN.{get_elem?}
+use Rattle.atomic_table.specs.Table.{State, Me, Step as TableStep, step}
+use Rattle.mk_core.specs.declared.config.Config.{Config}
+use Rattle.mk_core.specs.declared.events.Seat.{Seat}
+use Rattle.mk_core.specs.declared.events.Seat.TheVariants.{Host}
+use Rattle.mk_core.specs.declared.events.Step.TheVariants.{Leave}
+use Rattle.mk_core.specs.declared.events.Event.{Event}
+use Rattle.mk_core.specs.declared.accesses.Access.{Access}
+use Rattle.mk_core.specs.declared.accesses.Access.TheVariants.{Store}
+use Rattle.mk_core.specs.Layout.{in_order}
+use Rattle.mk_core.specs.Accesses.{found}
+use Rattle.mk_core.specs.History.{left, IsHistory}
+use Rattle.mk_core.specs.Counts.{IsTidy}
+use Rattle.mk_core.specs.Growing.{AreOfOthers, Grows}
+use Rattle.mk_words.specs.declared.rule.Part.{Part}
+use Rattle.mk_words.specs.declared.rule.View.{View}
+use Rattle.mk_words.specs.Seats.{Has, without_seat, all_seats}
+
+abbrev pub part : List Seat → List Event → Part
+part seats seen = record { seats = seats; seen = seen }
+
+abbrev pub no_part : Part
+no_part = part [] []
+
+abbrev pub view : Config → List Seat → List Event → View
+view c seats seen = record { config = c; own = part seats seen; came = no_part }
+
+-- the first pass has all seats
+abbrev pub first_view : Config → View
+first_view c = view c (all_seats c) []
+
+abbrev pub no_config : Config
+no_config = record { pages = 0; resident = 0; callers = 0; markers = 0; types = []; globals = [] }
+
+-- the view of a seat that was joined to another
+abbrev pub nobody : View
+nobody = view no_config [] []
+
+abbrev pub seats_of : View → List Seat
+seats_of v = v.own.seats ++ v.came.seats
+
+-- The history begins with what was seen, and goes on with events of others.
+abbrev pub Sees : List Event → Part → Type 0
+Sees es p = Grows p.seats p.seen es
+
+-- There is one history, which is tidy and leaves the words. Each view has seen a beginning of it that has all events of
+-- the view's seats, and no seat is in two views.
+pub record Kept (c : Config) (s : State (Unit {0}) View) : Type 0 where
+  pub events : List Event
+  pub history : IsHistory c events
+  pub tidy : IsTidy c events
+  pub words : s.words ≡ in_order (left c events).now.words
+  pub sees : (id : ℕ) (v : View) → get_elem? s.views id ≡ some v → Sees events v.own × Sees events v.came
+  pub apart : (i j : ℕ) (v w : View) (x : Seat) → get_elem? s.views i ≡ some v → get_elem? s.views j ≡ some w
+      → Has (seats_of v) x → Has (seats_of w) x → i ≡ j
+
+abbrev pub Mine : Type 0
+Mine = Me (Unit {0}) View
+
+-- what an access tells where it finds that number: a store tells what it stores
+abbrev pub told_by : Access → ℕ → ℕ
+told_by (Store value) n = value
+told_by _ n = n
+
+-- The event stands in the history behind all that the view had seen and events of others, and finds this number there.
+pub record Adds (e : Event) (v : View) (n : ℕ) (w : View) : Type 0 where
+  pub others : List Event
+  pub of_others : AreOfOthers v.own.seats others
+  pub is : w ≡ record v { own = part v.own.seats (v.own.seen ++ others ++ e ∷ []) }
+  pub history : IsHistory v.config (v.own.seen ++ others ++ e ∷ [])
+  pub tidy : IsTidy v.config (v.own.seen ++ others ++ e ∷ [])
+  pub finds : n ≡ found v.config (left v.config (v.own.seen ++ others)).now e
+
+-- what a step tells doesn't read the table's account of it
+abbrev pub no_step : TableStep (Unit {0})
+no_step = step 0 0 0 0 none
+
+abbrev pub adds : Event → TableStep (Unit {0}) → Mine → ℕ → Mine → Type 0
+adds e st m found n = (n.1 ≡ m.1) × Adds e m.0 found n.0
+
+-- A store isn't told what it finds.
+abbrev pub stores : Event → TableStep (Unit {0}) → Mine → ℕ → Mine → Type 0
+stores e st m stored n = (found : ℕ) × adds e st m found n
+
+-- A look takes in what came by a join, and all events so far.
+pub record Settles (v w : View) : Type 0 where
+  pub is : w ≡ view v.config (seats_of v) w.own.seen
+  pub own : Grows v.own.seats v.own.seen w.own.seen
+  pub came : Grows v.came.seats v.came.seen w.own.seen
+  pub history : IsHistory v.config w.own.seen
+  pub tidy : IsTidy v.config w.own.seen
+
+abbrev pub settles : TableStep (Unit {0}) → Mine → ℕ → Mine → Type 0
+settles st m found n = (n.1 ≡ m.1) × Settles m.0 n.0
+
+-- a view is cut: one seat goes with a new one, which has seen as much
+
+abbrev pub stays_with : Seat → View → View
+stays_with x v = record v { own = part (without_seat x v.own.seats) v.own.seen }
+
+abbrev pub goes_with : Seat → View → View
+goes_with x v = view v.config (x ∷ []) v.own.seen
+
+-- or no seat goes
+abbrev pub copy_of : View → View
+copy_of v = view v.config [] v.own.seen
+
+-- two views beside each other, up to the next look
+abbrev pub beside : View → View → View
+beside v w = record v { came = w.own }
+
+abbrev pub no_event : Event
+no_event = record { seat = Host; step = Leave }

@@ -1,0 +1,43 @@
+-- What contracts see of the shared words, of a pass and of a turn.
+use Rattle.std.specs.Prelude.{ℕ, List, Option}
+use Rattle.atomic_table.specs.Seated.{TableId}
+use Rattle.mk_never.specs.declared.operations.Op.{Op}
+use Rattle.mk_core.specs.declared.config.Config.{Config}
+use Rattle.mk_core.specs.declared.events.Seat.{Seat}
+use Rattle.mk_core.specs.declared.events.Step.{Step}
+use Rattle.mk_core.specs.declared.events.Event.{Event}
+use Rattle.mk_core.specs.declared.seats.Flight.{Flight}
+use Rattle.mk_core.specs.Moments.{Moment, flight_of}
+use Rattle.mk_core.specs.History.{World, left}
+
+-- which table it is, and the configuration that it was made for
+pub record WordsState : Type 0 where
+  pub id : TableId
+  pub config : Config
+
+-- A pass is of one table and one seat. It has seen a list of events, which has all events of these seats.
+pub record PassState : Type 0 where
+  pub table : WordsState
+  pub seat : Seat
+  pub seats : List Seat
+  pub seen : List Event
+
+-- A turn has its holder's pass, and the operation that its `take` carried.
+pub record TurnState : Type 0 where
+  pub pass : PassState
+  pub op : Option Op
+
+-- what is left behind all that a pass has seen
+abbrev pub world_of : PassState → World
+world_of p = left p.table.config p.seen
+
+abbrev pub now_of : PassState → Moment
+now_of p = (world_of p).now
+
+-- the call of its seat
+abbrev pub call_of : PassState → Flight
+call_of p = flight_of (now_of p) p.seat
+
+-- a step of its seat
+abbrev pub event_of : PassState → Step → Event
+event_of p s = record { seat = p.seat; step = s }

@@ -1,0 +1,78 @@
+-- What the calls ask and what they ensure, of any kind of step.
+use Rattle.std.specs.Prelude.{◌≡◌, ℕ, Bool, true, false, List, [], ◌∷◌, ◌++◌, Option}
+use Rattle.mk_core.specs.declared.config.Config.{Config}
+use Rattle.mk_core.specs.declared.events.Answer.{Answer}
+use Rattle.mk_core.specs.declared.events.Word.{Word}
+use Rattle.mk_core.specs.declared.events.Word.TheVariants as word
+use Rattle.mk_core.specs.declared.events.Step.{Step}
+use Rattle.mk_core.specs.declared.events.Step.TheVariants as step
+use Rattle.mk_core.specs.declared.events.Event.{Event}
+use Rattle.mk_core.specs.declared.seats.Flight.{Flight}
+use Rattle.mk_core.specs.declared.seats.Progress.{Progress}
+use Rattle.mk_core.specs.Accesses.{access, found}
+use Rattle.mk_core.specs.Moments.{Moment}
+use Rattle.mk_core.specs.Effects.{answer_decided}
+use Rattle.mk_core.specs.History.{left, IsEnabledBehind, IsAdmittedBehind}
+use Rattle.mk_core.specs.Cycles.{is_give}
+use Rattle.mk_core.specs.Counts.{TalliesAreTidy}
+use Rattle.mk_core.specs.Growing.{AreOfOthers}
+use Rattle.mk_words.specs.States.{PassState, now_of, call_of, event_of}
+use Rattle.mk_words.specs.Rule.{told_by}
+
+-- the kinds by which a call may be decided
+abbrev pub may_decide : Step → Bool
+may_decide step.Reg = true
+may_decide step.Probe = true
+may_decide step.Read = true
+may_decide step.Write = true
+may_decide step.Cas = true
+may_decide step.Getg = true
+may_decide step.Setg = true
+may_decide (step.Look (word.Quar p)) = true
+may_decide (step.Quar p v) = true
+may_decide step.Grant = true
+may_decide step.Full = true
+may_decide _ = false
+
+-- Behind what the pass has seen the step is enabled, and admitted.
+
+abbrev pub IsEnabledTo : PassState → Step → Type 0
+IsEnabledTo p s = IsEnabledBehind p.table.config p.seen (event_of p s)
+
+abbrev pub IsAdmittedTo : PassState → Step → Type 0
+IsAdmittedTo p s = IsAdmittedBehind p.table.config p.seen (event_of p s)
+
+-- A pass may make a step that is enabled and, where the step may decide a call, admitted. A `give` leaves its list tidy.
+pub record May (p : PassState) (s : Step) : Type 0 where
+  pub enabled : IsEnabledTo p s
+  pub admitted : may_decide s ≡ true → IsAdmittedTo p s
+  pub tidy : is_give s ≡ true → TalliesAreTidy p.table.config p.seen
+
+-- The pass made the step, behind all that it had seen and events of others.
+pub record Makes (p : PassState) (s : Step) (q : PassState) : Type 0 where
+  pub others : List Event
+  pub of_others : AreOfOthers p.seats others
+  pub is : q ≡ record p { seen = p.seen ++ others ++ event_of p s ∷ [] }
+
+-- the moment at which it was made
+abbrev pub moment_of : {p : PassState} {s : Step} {q : PassState} → Makes p s q → Moment
+moment_of {p} m = (left p.table.config (p.seen ++ m.others)).now
+
+abbrev pub found_by : {p : PassState} {s : Step} {q : PassState} → Makes p s q → ℕ
+found_by {p} {s} m = found p.table.config (moment_of m) (event_of p s)
+
+-- It made the step, whose access found this number.
+pub record Finds (p : PassState) (s : Step) (n : ℕ) (q : PassState) : Type 0 where
+  pub makes : Makes p s q
+  pub finds : n ≡ found_by makes
+
+-- It made the step, whose access told this number.
+pub record Tells (p : PassState) (s : Step) (n : ℕ) (q : PassState) : Type 0 where
+  pub makes : Makes p s q
+  pub tells : n ≡ told_by (access p.table.config (now_of p) (event_of p s)) (found_by makes)
+
+-- It made a step of its call, which goes on so: what is next of the call, and the answer, if the step decides it.
+pub record Goes (p : PassState) (s : Step) (x : Progress) (q : PassState) : Type 0 where
+  pub makes : Makes p s q
+  pub call : call_of q ≡ x.flight
+  pub answer : answer_decided p.table.config (moment_of makes) (event_of p s) ≡ x.answer

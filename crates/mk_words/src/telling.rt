@@ -1,0 +1,97 @@
+//! What each step of the table tells. The calls pick the event, and the seat of a split.
+
+use crate::rule::View;
+use atomic_table::{Join, Play, Split};
+use std::marker::{Brand, PhantomData};
+
+/// The event that a step makes.
+pub trait Making {
+    ghost use Rattle.mk_core.specs.declared.events.Event.{Event};
+
+    ghost event: { Event };
+}
+
+impl Making for Brand {
+    ghost use Rattle.mk_words.specs.Rule.{no_event};
+
+    ghost event = { no_event };
+}
+
+/// A step that is an event.
+pub struct Make<J> {
+    of: PhantomData<J>,
+}
+
+impl<J: Making> Play<(), View> for Make<J> {
+    ghost use Rattle.mk_words.specs.Rule.{adds};
+
+    ghost then = { adds J.event };
+}
+
+/// A store that is an event.
+pub struct Put<J> {
+    of: PhantomData<J>,
+}
+
+impl<J: Making> Play<(), View> for Put<J> {
+    ghost use Rattle.mk_words.specs.Rule.{stores};
+
+    ghost then = { stores J.event };
+}
+
+/// A look that takes in what came by a join.
+pub struct Settle;
+
+impl Play<(), View> for Settle {
+    ghost use Rattle.mk_words.specs.Rule.{settles};
+
+    ghost then = { settles };
+}
+
+/// The seat that a split hands over.
+pub trait Handing {
+    ghost use Rattle.mk_core.specs.declared.events.Seat.{Seat};
+
+    ghost seat: { Seat };
+}
+
+impl Handing for Brand {
+    ghost use Rattle.mk_core.specs.declared.events.Seat.TheVariants.{Host};
+
+    ghost seat = { Host };
+}
+
+/// One seat goes with a new pass.
+pub struct HandOver<J> {
+    of: PhantomData<J>,
+}
+
+impl<J: Handing> Split<View> for HandOver<J> {
+    ghost use Rattle.mk_words.specs.Rule.{stays_with, goes_with};
+
+    ghost left = { stays_with J.seat };
+
+    ghost right = { goes_with J.seat };
+}
+
+/// No seat goes.
+pub struct Remember;
+
+impl Split<View> for Remember {
+    ghost use Rattle.mk_words.specs.Rule.{copy_of};
+
+    ghost left = { λ v. v };
+
+    ghost right = { copy_of };
+}
+
+/// Two passes become one.
+pub struct Together;
+
+impl Join<View> for Together {
+    ghost use Rattle.mk_words.specs.Rule.{beside, nobody};
+
+    ghost both = { beside };
+
+    ghost spent = { nobody };
+}

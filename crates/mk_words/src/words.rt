@@ -1,0 +1,192 @@
+//! The shared words, and the passes to them.
+ghost use Rattle.std.specs.Prelude.{◌≡◌, [], ◌∷◌, ◌++◌, IfOk, false, replicate, true};
+ghost use Rattle.mk_core.specs.declared.events.Seat.TheVariants.{Host};
+ghost use Rattle.mk_core.specs.Config.{IsWithinLimits};
+ghost use Rattle.mk_core.specs.Growing.{Grows, is_same_seat};
+ghost use Rattle.mk_core.specs.Moments.{marker_at, outside};
+ghost use Rattle.mk_words.specs.Seats.{Has, HasAll, all_seats, without_seat, is_caller, has_over};
+ghost use Rattle.mk_words.specs.States.{now_of};
+ghost use Rattle.mk_words.specs.Finals.{history_of, config_of, HasTallies};
+
+use crate::passes::{OUTSIDE, Pass};
+use crate::rule::{OneHistory, View};
+use crate::finals::{Final, freed_bits};
+use crate::telling::{HandOver, Handing, Remember, Settle, Together};
+use atomic_table::Table;
+use mk_core::{Config, Seat};
+use mk_never::{NoMemory, TypeTable};
+use std::alloc::Global;
+use std::marker::{Brand, Model};
+
+/// The words of a heap, which threads share. Who has a pass may access them.
+#[derive(Drop)]
+pub struct Words {
+    pub(crate) table: Table<(), View, Config, OneHistory, Global>,
+    pub(crate) config: Config,
+}
+
+impl Model for Words {
+    ghost use Rattle.std.specs.Prelude.{◌≡◌};
+    ghost use Rattle.mk_words.specs.States.{WordsState};
+    ghost use Rattle.mk_core.specs.Config.{IsWithinLimits};
+    ghost use Rattle.mk_core.specs.Layout.{count_of_words};
+
+    ghost Value = { WordsState };
+
+    ghost view = { λ w. record { id = w.table.shared.table_id; config = w.config } };
+
+    ghost invariant = { λ w. record { key : w.table.shared.key ≡ w.config; words : w.table.shared.table_id.words ≡ count_of_words w.config.pages; slots : w.table.shared.table_id.slots ≡ 0; limits : IsWithinLimits w.config } };
+}
+
+/// So many zeros.
+fn zeros(alloc: Global, count: usize) -> Result<Vec<u64>, NoMemory>
+    ensures { IfOk result (λ list. list.items ≡ replicate count 0) }
+{
+    Vec::from_elem(alloc, 0, count).map_err(|_| NoMemory)
+}
+
+impl Words {
+    /// How many pages there are.
+    pub fn pages(&self) -> u64
+        ensures { result ≡ self.now.config.pages }
+    {
+        self.config.pages
+    }
+
+    /// How many of them may be resident.
+    pub fn resident(&self) -> u64
+        ensures { result ≡ self.now.config.resident }
+    {
+        self.config.resident
+    }
+
+    /// How many callers there are.
+    pub fn callers(&self) -> u64
+        ensures { result ≡ self.now.config.callers }
+    {
+        self.config.callers
+    }
+
+    /// The types of the program.
+    pub fn types(&self) -> &TypeTable
+        ensures { result.now ≡ self.now.config.types }
+    {
+        &self.config.types
+    }
+
+    /// The configuration is within the limits. It does nothing.
+    #[inline(always)]
+    pub fn is_within_limits(&self)
+        ensures { IsWithinLimits self.now.config }
+    {
+        let _config = &self.config;
+    }
+
+    /// Words that are all 0, and the host's pass, which has all seats.
+    pub fn new(alloc: Global, config: &Config) -> Result<(Words, Pass), NoMemory>
+        requires { IsWithinLimits config.now }
+        ensures config { IfOk result (λ made. made.0.config ≡ config.now) }
+        ensures pass { IfOk result (λ made. made.1 ≡ record { table = made.0; seat = Host; seats = all_seats config.now; seen = [] }) }
+    {
+        let count = 640 + 70 * config.pages as usize;
+        let zeros = zeros(alloc, count)?;
+        let copy = config.try_clone(alloc)?;
+        match Table::of_words(alloc, zeros.as_slice(), config) {
+            Ok((table, token)) => Ok((
+                Words {
+                    table,
+                    config: copy,
+                },
+                Pass {
+                    token,
+                    seat: Seat::Host,
+                    marker: OUTSIDE,
+                },
+            )),
+            Err(_) => Err(NoMemory),
+        }
+    }
+
+    /// The pass of a seat that the host's pass has, which then has it no more. A marker's is out, and a caller gets none
+    /// behind an `over`.
+    pub fn split(words: &Words, pass: &mut Pass, seat: Seat) -> Pass
+        requires one_table { pass.old.table ≡ words.now }
+        requires host { pass.old.seat ≡ Host }
+        requires another { is_same_seat seat Host ≡ false }
+        requires here { Has pass.old.seats seat }
+        requires out { marker_at (now_of pass.old) seat ≡ outside }
+        requires before_over { is_caller seat ≡ true → has_over pass.old.seen ≡ false }
+        ensures pass { pass.new ≡ record pass.old { seats = without_seat seat pass.old.seats } }
+        ensures made { result ≡ record pass.old { seat = seat; seats = seat ∷ [] } }
+    {
+        Words::split_as::<Brand>(words, pass, seat)
+    }
+
+    fn split_as<J: Handing>(words: &Words, pass: &mut Pass, seat: Seat) -> Pass
+        requires picked { J.seat ≡ seat }
+        requires one_table { pass.old.table ≡ words.now }
+        requires host { pass.old.seat ≡ Host }
+        requires another { is_same_seat seat Host ≡ false }
+        requires here { Has pass.old.seats seat }
+        requires out { marker_at (now_of pass.old) seat ≡ outside }
+        ensures pass { pass.new ≡ record pass.old { seats = without_seat seat pass.old.seats } }
+        ensures made { result ≡ record pass.old { seat = seat; seats = seat ∷ [] } }
+    {
+        let token = &mut pass.token;
+        let shared = &words.table.shared;
+        Pass {
+            token: shared.split_seat::<HandOver<J>>(token),
+            seat,
+            marker: OUTSIDE,
+        }
+    }
+
+    /// One pass with the seats of both, which has seen all that either has seen.
+    pub fn join(words: &Words, into: &mut Pass, from: Pass)
+        requires into { into.old.table ≡ words.now }
+        requires from { from.table ≡ words.now }
+        ensures pass { into.new ≡ record into.old { seats = into.old.seats ++ from.seats; seen = into.new.seen } }
+        ensures own { Grows into.old.seats into.old.seen into.new.seen }
+        ensures came { Grows from.seats from.seen into.new.seen }
+    {
+        let Pass { token, .. } = from;
+        let own = &mut into.token;
+        let shared = &words.table.shared;
+        shared.join_seat::<Together>(own, token);
+        shared.load::<Settle>(own, 0);
+    }
+
+    /// Whether the turn looks free. It is no event, and promises nothing of the answer: who waits for the turn asks
+    /// it between two tries.
+    pub fn is_turn_free(&self, pass: &mut Pass) -> bool
+        ensures { pass.new ≡ pass.old }
+    {
+        self.table.shared.peek(16) == 0
+    }
+
+    /// Ends the table. The pass has all seats, so what it has seen is the whole history.
+    pub fn close(words: Words, pass: Pass) -> Final
+        requires one_table { pass.table ≡ words }
+        requires home { HasAll words.config pass.seats }
+        ensures history { history_of result ≡ pass.seen }
+        ensures config { config_of result ≡ words.config }
+        ensures tallies { HasTallies (now_of pass).words words.config.pages result }
+    {
+        let Words { table, config } = words;
+        let Pass { mut token, .. } = pass;
+        let memory = table.shared.split_seat::<Remember>(&mut token);
+        let closed = table.close_with(token);
+        let quarantined = freed_bits(&closed, config.pages);
+        let last = Final {
+            held: closed.word(32),
+            fresh: closed.word(33),
+            quarantined,
+            cycles: closed.word(34),
+            released: closed.word(35),
+            full: closed.word(36),
+            memory,
+        };
+        closed.free();
+        last
+    }
+}
