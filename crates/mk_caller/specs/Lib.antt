@@ -1,0 +1,4 @@
+pub mod States
+pub mod Called
+pub mod Causes
+pub mod Moves

@@ -1,0 +1,7 @@
+//! The calls of a script's thread.
+#![tactic(auto)]
+
+mod refusals;
+mod steps;
+
+pub use refusals::Refusal;
