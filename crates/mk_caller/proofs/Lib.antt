@@ -6,3 +6,4 @@ pub mod WordsMet
 pub mod Onward
 pub mod Entering
 pub mod Stepping
+pub mod Probing

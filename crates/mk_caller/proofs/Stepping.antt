@@ -1,6 +1,6 @@
 -- Each step of a call, from what is known of a call on its way: it may be made, and the call goes on.
-use Rattle.std.proofs.Common.{◌≡◌, ℕ, ◌+◌, ◌*◌, ◌/◌, ◌<◌, Bool, true, false, refl, sym, ◌∙◌, ap, subst, arith}
-use Rattle.std.specs.Prelude.{◌↔◌, Some, None, nat_lt, nat_le}
+use Rattle.std.proofs.Common.{◌≡◌, ℕ, ◌+◌, ◌-◌, ◌*◌, ◌/◌, ◌<◌, ◌≤◌, Bool, true, false, refl, sym, ◌∙◌, ap, subst, arith}
+use Rattle.std.specs.Prelude.{◌↔◌, Some, None, nat_lt, nat_le, if◌then◌else◌}
 use Rattle.std.proofs.lemmas.Bool.{and_parts, ltb-true, leb-true}
 use Rattle.mk_never.specs.declared.operations.Op.{Op}
 use Rattle.mk_never.specs.declared.values.Value.TheVariants.{Null}
@@ -11,7 +11,11 @@ use Rattle.mk_core.specs.declared.seats.Stage.{Stage}
 use Rattle.mk_core.specs.declared.seats.Stage.TheVariants as stage
 use Rattle.mk_core.specs.declared.seats.Progress.{Progress}
 use Rattle.mk_core.specs.Accesses.{register_met}
-use Rattle.mk_core.specs.Calls.{word_met, page_met, progress_reg}
+use Rattle.mk_core.specs.Calls.{word_met, i_of, refused, onward}
+use Rattle.mk_core.specs.Cells.{is_unmapped_header}
+use Rattle.mk_core.specs.Effects.{progress_probe}
+use Rattle.mk_geom.specs.Headers.{header_of}
+use Rattle.mk_core.specs.declared.events.Answer.TheVariants as answer
 use Rattle.mk_core.specs.History.{IsHistory}
 use Rattle.mk_core.specs.Order.{group_of, comes_next}
 use Rattle.mk_core.specs.Ranges.{is_in_range, is_word_met}
@@ -90,3 +94,27 @@ module _ (p : PassState) (u : IsUnderway p) (h : IsHistory p.table.config p.seen
   pub may_setg : (call_of p).stage ≡ stage.Setg → IsAdmittedTo p step.Setg
   may_setg at =
       admitted_step step.Setg (ap (λ (x : Stage). is_decided x) at) (enabled_step step.Setg refl (ap (λ (x : Stage). comes_next x (call_of p).op step.Setg) at) refl)
+
+  -- what the word is
+  pub met_bounds : (value offset : ℕ) → value ≡ (call_of p).q → offset ≡ i_of (call_of p).op → is_word_met p.table.config (call_of p) ≡ true
+      → (65536 ≤ value) × (word_met (call_of p) < 64 * p.table.config.pages) × ((value - 65536) / 8 + offset ≡ word_met (call_of p))
+  met_bounds value offset v i is =
+      let parts = and_parts (nat_le 65536 (call_of p).q) (nat_lt (word_met (call_of p)) (64 * p.table.config.pages)) is in
+      let low = leb-true 65536 (call_of p).q parts.0 in (
+        omega arith,
+        ltb-true (word_met (call_of p)) (64 * p.table.config.pages) parts.1,
+        ap (λ x. (x - 65536) / 8 + offset) v ∙ ap (λ x. ((call_of p).q - 65536) / 8 + x) i,
+      )
+
+probe_by : (p q : PassState) (n : ℕ) (b : Bool) → is_unmapped_header (header_of n) ≡ b → Moves p (call_of p).op step.Probe (progress_probe (call_of p) n) q
+    → Moves p (call_of p).op step.Probe (if b then refused (call_of p) answer.Fault else onward (call_of p) None) q
+probe_by p q n b is m =
+    subst (λ (x : Bool). Moves p (call_of p).op step.Probe (if x then refused (call_of p) answer.Fault else onward (call_of p) None) q) is m
+
+pub probe_refused : (p q : PassState) (n : ℕ) → is_unmapped_header (header_of n) ≡ true → Moves p (call_of p).op step.Probe (progress_probe (call_of p) n) q
+    → Moves p (call_of p).op step.Probe (refused (call_of p) answer.Fault) q
+probe_refused p q n is m = probe_by p q n true is m
+
+pub probe_passed : (p q : PassState) (n : ℕ) → is_unmapped_header (header_of n) ≡ false → Moves p (call_of p).op step.Probe (progress_probe (call_of p) n) q
+    → Moves p (call_of p).op step.Probe (onward (call_of p) None) q
+probe_passed p q n is m = probe_by p q n false is m

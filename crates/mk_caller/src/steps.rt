@@ -1,17 +1,21 @@
 //! The steps of a call, each with what is known of the call behind it.
-ghost use Rattle.std.specs.Prelude.{◌≡◌, ◌↔◌, OnOk, OnErr, Some, None, true, ◌+◌, ◌-◌, ◌*◌, ◌/◌, ◌%◌, ◌^◌, if◌then◌else◌};
+ghost use Rattle.std.specs.Prelude.{◌≡◌, ◌↔◌, OnOk, OnErr, IfSome, IfNone, Some, None, true, ◌+◌, ◌-◌, ◌*◌, ◌/◌, ◌%◌, ◌^◌, if◌then◌else◌};
 ghost use Rattle.mk_never.specs.declared.values.Value.TheVariants.{Null};
 ghost use Rattle.mk_core.specs.declared.accesses.Access.TheVariants.{Load, Store};
 ghost use Rattle.mk_core.specs.declared.events.Answer.TheVariants as answer;
 ghost use Rattle.mk_core.specs.declared.events.Step.TheVariants as step;
 ghost use Rattle.mk_core.specs.declared.seats.Stage.TheVariants as stage;
 ghost use Rattle.mk_core.specs.Accesses.{register_met, reg_access};
-ghost use Rattle.mk_core.specs.Calls.{at_rest, begun, onward, refused, g_of, value_written, one_if, page_met, word_met, progress_reg, progress_read, progress_getg};
+ghost use Rattle.mk_core.specs.Calls.{at_rest, begun, onward, refused, g_of, i_of, value_written, one_if, page_met, word_met, progress_reg, progress_read, progress_getg};
 ghost use Rattle.mk_words.specs.States.{call_of};
 ghost use Rattle.mk_caller.specs.States.{value_of};
-ghost use Rattle.mk_caller.specs.Causes.{FindsGateHeld};
+ghost use Rattle.mk_geom.specs.Headers.{header_of};
+ghost use Rattle.mk_never.specs.declared.values.Target.TheVariants.{Unmapped};
+ghost use Rattle.mk_core.specs.Cells.{is_unmapped_header};
+ghost use Rattle.mk_caller.specs.Causes.{FindsGateHeld, Probes, ProbesAWord};
 ghost use Rattle.mk_caller.specs.Moves.{IsReady, IsUnderway, Moves, is_access, is_load, is_store};
 
+use mk_geom::{Header, decode};
 use mk_never::Op;
 use mk_words::{Held, Pass, Words};
 
@@ -165,4 +169,40 @@ pub(crate) fn global_store(words: &Words, pass: &mut Pass, g: u8, v: u64)
     pass.is_in_order();
     pass.global_store(words, g, v);
     pass.is_in_order();
+}
+
+/// Whether a header is that of a page of an unmapped run.
+#[inline(always)]
+fn is_unmapped(header: u64) -> bool
+    ensures { result ≡ is_unmapped_header (header_of header) }
+{
+    match decode(header) {
+        Some(Header::Run { pages: _, mapped }) => !mapped,
+        Some(Header::Later { distance: _, mapped }) => !mapped,
+        _ => false,
+    }
+}
+
+/// Loads the header of the page of the word that the call accesses, through the value `u` and `i` words on. Answers the
+/// word, and none where its page is unmapped.
+#[inline(always)]
+pub(crate) fn probe(words: &Words, pass: &mut Pass, u: u64, i: u64) -> Option<u64>
+    requires one_table { pass.old.table ≡ words.now }
+    requires underway { IsUnderway pass.old }
+    requires stage { (call_of pass.old).stage ≡ stage.Probe }
+    requires access { is_access (call_of pass.old).op ≡ true }
+    requires value { u ≡ (call_of pass.old).q }
+    requires offset { i ≡ i_of (call_of pass.old).op }
+    ensures moves { IfSome result (λ word. Moves pass.old (call_of pass.old).op step.Probe (onward (call_of pass.old) None) pass.new) }
+    ensures word { IfSome result (λ word. word ≡ word_met (call_of pass.old)) }
+    ensures reached { IfSome result (λ word. ProbesAWord pass.old (call_of pass.old).op pass.new) }
+    ensures refused { IfNone result (Moves pass.old (call_of pass.old).op step.Probe (refused (call_of pass.old) answer.Fault) pass.new) }
+    ensures unmapped { IfNone result (Probes pass.old (call_of pass.old).op pass.new Unmapped) }
+{
+    pass.is_in_order();
+    words.is_within_limits();
+    let word = (u - 65536) / 8 + i;
+    let header = pass.probe(words, word / 64);
+    pass.is_in_order();
+    if is_unmapped(header) { None } else { Some(word) }
 }
