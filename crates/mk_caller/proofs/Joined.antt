@@ -81,8 +81,8 @@ is_joined : (p r : PassState) (m1 m2 : List Event) → r ≡ record p { seen = (
 is_joined p r m1 m2 is = is ∙ ap (λ (l : List Event). record p { seen = l }) (append_assoc p.seen m1 m2)
 
 -- steps that decide nothing, and then others
-pub then : (p : PassState) (o : Op) (ss ts : List Step) (a : Option Answer) (q r : PassState) → Makes p o ss None q → Makes q o ts a r → Makes p o (ss ++ ts) a r
-then p o ss ts a q r first second = by first.more first.steps first.entry first.decided (subst (λ (x : PassState). Makes x o ts a r) first.is second)
+pub joined : (p : PassState) (o : Op) (ss ts : List Step) (a : Option Answer) (q r : PassState) → Makes p o ss None q → Makes q o ts a r → Makes p o (ss ++ ts) a r
+joined p o ss ts a q r first second = by first.more first.steps first.entry first.decided (subst (λ (x : PassState). Makes x o ts a r) first.is second)
   where
     by : (m1 : List Event) → own_steps p m1 ≡ ss → own_calls p (p.seen ++ m1) ≡ own_calls p p.seen ++ []
         → KeepsRegisters (number_of p) (never_of p) (never_behind p.table.config (p.seen ++ m1)) → Makes (seen_more p m1) o ts a r → Makes p o (ss ++ ts) a r
@@ -98,8 +98,8 @@ then p o ss ts a q r first second = by first.more first.steps first.entry first.
         }
 
 -- steps that decide the call, and then others
-pub then_on : (p : PassState) (o : Op) (ss ts : List Step) (a : Answer) (q r : PassState) → Makes p o ss (Some a) q → Makes q o ts None r → Makes p o (ss ++ ts) (Some a) r
-then_on p o ss ts a q r first second = by first.more first.steps first.entry first.decided (subst (λ (x : PassState). Makes x o ts None r) first.is second)
+pub joined_on : (p : PassState) (o : Op) (ss ts : List Step) (a : Answer) (q r : PassState) → Makes p o ss (Some a) q → Makes q o ts None r → Makes p o (ss ++ ts) (Some a) r
+joined_on p o ss ts a q r first second = by first.more first.steps first.entry first.decided (subst (λ (x : PassState). Makes x o ts None r) first.is second)
   where
     by : (m1 : List Event) → own_steps p m1 ≡ ss → own_calls p (p.seen ++ m1) ≡ own_calls p p.seen ++ entry_of (number_of p) o (Some a)
         → IsDecidedIn p o a m1 → Makes (seen_more p m1) o ts None r → Makes p o (ss ++ ts) (Some a) r

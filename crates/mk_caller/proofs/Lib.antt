@@ -7,3 +7,6 @@ pub mod Onward
 pub mod Entering
 pub mod Stepping
 pub mod Probing
+pub mod Chains
+pub mod Accessing
+pub mod Telling

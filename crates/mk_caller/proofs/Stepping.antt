@@ -1,9 +1,10 @@
 -- Each step of a call, from what is known of a call on its way: it may be made, and the call goes on.
-use Rattle.std.proofs.Common.{◌≡◌, ℕ, ◌+◌, ◌-◌, ◌*◌, ◌/◌, ◌<◌, ◌≤◌, Bool, true, false, refl, sym, ◌∙◌, ap, subst, arith}
+use Rattle.std.proofs.Common.{◌≡◌, ℕ, ◌+◌, ◌-◌, ◌*◌, ◌/◌, ◌^◌, ◌<◌, ◌≤◌, Bool, true, false, refl, sym, ◌∙◌, ap, subst, arith}
 use Rattle.std.specs.Prelude.{◌↔◌, Some, None, nat_lt, nat_le, if◌then◌else◌}
 use Rattle.std.proofs.lemmas.Bool.{and_parts, ltb-true, leb-true}
 use Rattle.mk_never.specs.declared.operations.Op.{Op}
 use Rattle.mk_never.specs.declared.values.Value.TheVariants.{Null}
+use Rattle.mk_core.specs.declared.config.Config.{Config}
 use Rattle.mk_core.specs.declared.events.Group.TheVariants as group
 use Rattle.mk_core.specs.declared.events.Step.{Step}
 use Rattle.mk_core.specs.declared.events.Step.TheVariants as step
@@ -118,3 +119,17 @@ probe_refused p q n is m = probe_by p q n true is m
 pub probe_passed : (p q : PassState) (n : ℕ) → is_unmapped_header (header_of n) ≡ false → Moves p (call_of p).op step.Probe (progress_probe (call_of p) n) q
     → Moves p (call_of p).op step.Probe (onward (call_of p) None) q
 probe_passed p q n is m = probe_by p q n false is m
+
+-- A pointer that is moved on stays within its allocation.
+pub moved_within : (p : PassState) (u : IsUnderway p) (h : IsHistory p.table.config p.seen) (value offset : ℕ) (config : Config)
+    → (call_of p).stage ≡ stage.Store → is_access (call_of p).op ≡ true → has_q stage.Store (call_of p).op ≡ true → has_some_q stage.Store (call_of p).op ≡ true
+    → value ≡ (call_of p).q → offset ≡ i_of (call_of p).op → p.table.config ≡ config → config.pages ≤ 4096
+    → value + 8 * offset < 2 ^ 64
+moved_within p u h value offset config at access has some v i table pages =
+    let m = met p u h stage.Store at access refl has some in
+    let b = met_bounds p u h value offset v i m in
+    let same : p.table.config.pages ≡ config.pages = ap (λ (c : Config). c.pages) table in
+    let low = b.0 in
+    let word = b.1 in
+    let is = b.2 in
+    omega arith

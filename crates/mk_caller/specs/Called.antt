@@ -80,3 +80,8 @@ pub record Called (p : PassState) (o : Op) (a : Answer) (q : PassState) : Type 0
   pub entry : own_calls p (p.seen ++ more) ≡ own_calls p p.seen ++ entry_of (number_of p) o (Some a)
   pub decided : IsDecidedIn p o a more
   pub rest : call_of q ≡ at_rest
+
+-- It was answered by a pointer, or null: which one says the reply of the heap that never reuses storage.
+pub record IsAnswered (p : PassState) (o : Op) (q : PassState) : Type 0 where
+  pub word : ℕ
+  pub called : Called p o (answer.Word word) q

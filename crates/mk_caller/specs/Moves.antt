@@ -1,5 +1,5 @@
 -- A call on its way, from one of its steps to the next.
-use Rattle.std.specs.Prelude.{◌≡◌, ℕ, ◌<◌, Bool, true, false, List, [], ◌∷◌, ◌++◌, Option, Some, None}
+use Rattle.std.specs.Prelude.{◌≡◌, ℕ, ◌<◌, Bool, true, false, List, [], ◌∷◌, ◌++◌, map, Option, Some, None}
 use Rattle.mk_never.specs.declared.operations.Op.{Op}
 use Rattle.mk_never.specs.declared.operations.Op.TheVariants as op
 use Rattle.mk_never.specs.Laws.{KeepsRegisters}
@@ -9,14 +9,15 @@ use Rattle.mk_core.specs.declared.events.Seat.TheVariants.{Caller}
 use Rattle.mk_core.specs.declared.events.Step.{Step}
 use Rattle.mk_core.specs.declared.seats.Stage.{Stage}
 use Rattle.mk_core.specs.declared.seats.Stage.TheVariants as stage
+use Rattle.mk_core.specs.declared.seats.Flight.{Flight}
 use Rattle.mk_core.specs.declared.seats.Progress.{Progress}
-use Rattle.mk_core.specs.Calls.{at_rest, is_under_turn}
+use Rattle.mk_core.specs.Calls.{at_rest, begun, onward, is_under_turn, stage_refused}
 use Rattle.mk_core.specs.Decided.{entry_of}
 use Rattle.mk_core.specs.History.{never_behind}
 use Rattle.mk_core.specs.Ranges.{is_word_met}
 use Rattle.mk_words.specs.States.{PassState, call_of}
 use Rattle.mk_caller.specs.States.{number_of, never_of, Admits}
-use Rattle.mk_caller.specs.Called.{own_steps, own_calls, IsDecidedIn}
+use Rattle.mk_caller.specs.Called.{step_at, refused_from, own_steps, own_calls, IsDecidedIn}
 
 -- what is behind the deciding step
 abbrev pub is_decided : Stage → Bool
@@ -90,8 +91,20 @@ pub record Makes (p : PassState) (o : Op) (ss : List Step) (a : Option Answer) (
   pub entry : own_calls p (p.seen ++ more) ≡ own_calls p p.seen ++ entry_of (number_of p) o a
   pub decided : IsDecidedAs p o a more
 
--- It made one step, and its call went on so.
-pub record Moves (p : PassState) (o : Op) (s : Step) (x : Progress) (q : PassState) : Type 0 where
-  pub makes : Makes p o (s ∷ []) x.answer q
-  pub call : call_of q ≡ x.flight
+-- It made these steps of a call, which decided this answer or none, and its call is this one then.
+pub record At (p : PassState) (o : Op) (ss : List Step) (a : Option Answer) (f : Flight) (q : PassState) : Type 0 where
+  pub makes : Makes p o ss a q
+  pub call : call_of q ≡ f
   pub underway : IsUnderway q
+
+-- It made one step, and its call went on so.
+abbrev pub Moves : PassState → Op → Step → Progress → PassState → Type 0
+Moves p o s x q = At p o (s ∷ []) x.answer x.flight q
+
+-- The steps of a call that are left behind a refusal: up to its end.
+abbrev pub refused_steps : Op → List Step
+refused_steps o = map step_at (refused_from (stage_refused o))
+
+-- the call behind the load of q
+abbrev pub behind_q : Op → ℕ → Flight
+behind_q o u = (onward (record (begun o) { q = u }) None).flight

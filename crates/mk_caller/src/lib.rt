@@ -1,6 +1,8 @@
 //! The calls of a script's thread.
 #![tactic(auto)]
 
+mod accesses;
+mod calls;
 mod refusals;
 mod steps;
 

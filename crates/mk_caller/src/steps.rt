@@ -8,6 +8,7 @@ ghost use Rattle.mk_core.specs.declared.seats.Stage.TheVariants as stage;
 ghost use Rattle.mk_core.specs.Accesses.{register_met, reg_access};
 ghost use Rattle.mk_core.specs.Calls.{at_rest, begun, onward, refused, g_of, i_of, value_written, one_if, page_met, word_met, progress_reg, progress_read, progress_getg};
 ghost use Rattle.mk_words.specs.States.{call_of};
+ghost use Rattle.mk_images.specs.Images.{has_q, has_some_q};
 ghost use Rattle.mk_caller.specs.States.{value_of};
 ghost use Rattle.mk_geom.specs.Headers.{header_of};
 ghost use Rattle.mk_never.specs.declared.values.Target.TheVariants.{Unmapped};
@@ -205,4 +206,22 @@ pub(crate) fn probe(words: &Words, pass: &mut Pass, u: u64, i: u64) -> Option<u6
     let header = pass.probe(words, word / 64);
     pass.is_in_order();
     if is_unmapped(header) { None } else { Some(word) }
+}
+
+/// The value `i` words behind the value that the call has loaded.
+#[inline(always)]
+pub(crate) fn moved_on(words: &Words, pass: &Pass, u: u64, i: u64) -> u64
+    requires one_table { pass.now.table ≡ words.now }
+    requires underway { IsUnderway pass.now }
+    requires stage { (call_of pass.now).stage ≡ stage.Store }
+    requires access { is_access (call_of pass.now).op ≡ true }
+    requires loaded { has_q stage.Store (call_of pass.now).op ≡ true }
+    requires some { has_some_q stage.Store (call_of pass.now).op ≡ true }
+    requires value { u ≡ (call_of pass.now).q }
+    requires offset { i ≡ i_of (call_of pass.now).op }
+    ensures { result ≡ (u + 8 * i) % 2 ^ 64 }
+{
+    pass.is_in_order();
+    words.is_within_limits();
+    u + 8 * i
 }
