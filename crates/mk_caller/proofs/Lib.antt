@@ -10,3 +10,4 @@ pub mod Probing
 pub mod Chains
 pub mod Accessing
 pub mod Telling
+pub mod Idle

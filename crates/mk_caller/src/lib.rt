@@ -2,8 +2,10 @@
 #![tactic(auto)]
 
 mod accesses;
+mod callers;
 mod calls;
 mod refusals;
 mod steps;
 
+pub use callers::Caller;
 pub use refusals::Refusal;
