@@ -2,3 +2,4 @@ pub mod States
 pub mod Called
 pub mod Causes
 pub mod Moves
+pub mod Laws

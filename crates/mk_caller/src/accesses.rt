@@ -67,7 +67,13 @@ pub(crate) fn mark_and_leave(words: &Words, pass: &mut Pass, word: u64)
 
 /// Begins a call that accesses through register q, and loads that. A call through null is refused, and ends.
 #[inline(always)]
-pub(crate) fn begin_access(words: &Words, pass: &mut Pass, op: Op, d: Option<u8>, q: u8) -> Result<u64, Refusal>
+pub(crate) fn begin_access(
+    words: &Words,
+    pass: &mut Pass,
+    op: Op,
+    d: Option<u8>,
+    q: u8,
+) -> Result<u64, Refusal>
     requires one_table { pass.old.table ≡ words.now }
     requires ready { IsReady pass.old op }
     requires access { is_access op ≡ true }
@@ -94,7 +100,13 @@ pub(crate) fn begin_access(words: &Words, pass: &mut Pass, op: Op, d: Option<u8>
 /// Probes the page of the word that a call accesses, and answers the word. A call to an unmapped page is refused, and
 /// ends.
 #[inline(always)]
-pub(crate) fn probe_access(words: &Words, pass: &mut Pass, d: Option<u8>, u: u64, i: u64) -> Option<u64>
+pub(crate) fn probe_access(
+    words: &Words,
+    pass: &mut Pass,
+    d: Option<u8>,
+    u: u64,
+    i: u64,
+) -> Option<u64>
     requires one_table { pass.old.table ≡ words.now }
     requires underway { IsUnderway pass.old }
     requires stage { (call_of pass.old).stage ≡ stage.Probe }

@@ -5,6 +5,8 @@ ghost use Rattle.mk_never.specs.declared.values.Value.TheVariants.{Null};
 ghost use Rattle.mk_never.specs.NeverHeap.{is_same};
 ghost use Rattle.mk_core.specs.declared.events.Answer.TheVariants as answer;
 ghost use Rattle.mk_core.specs.Calls.{at_rest, one_if};
+ghost use Rattle.mk_core.specs.History.{IsHistory};
+ghost use Rattle.mk_words.specs.Seats.{Has};
 ghost use Rattle.mk_words.specs.States.{call_of};
 ghost use Rattle.mk_caller.specs.declared.refusals.Refusal.TheVariants as refusal;
 ghost use Rattle.mk_caller.specs.States.{at_home, lent, number_of, value_of, Admits, IsIdleCaller};
@@ -71,9 +73,14 @@ impl<'h> Caller<'h> {
     #[inline(always)]
     pub fn is_idle(&self)
         requires home { self.now.home ≡ true }
-        ensures { IsIdleCaller self.now.pass }
+        ensures idle { IsIdleCaller self.now.pass }
+        ensures own { Has self.now.pass.seats self.now.pass.seat }
+        ensures history { IsHistory self.now.pass.table.config self.now.pass.seen }
     {
-        let _number = self.number;
+        match &self.pass {
+            Some(pass) => pass.is_in_order(),
+            None => unreachable!(),
+        }
     }
 
     /// Hands the pass out, for calls under the turn.

@@ -183,7 +183,14 @@ pub(crate) fn set_ptr(words: &Words, pass: &mut Pass, q: u8, i: u64, p: u8) -> R
 }
 
 #[inline(always)]
-pub(crate) fn cas_ptr(words: &Words, pass: &mut Pass, q: u8, i: u64, p: u8, r: u8) -> Result<bool, Refusal>
+pub(crate) fn cas_ptr(
+    words: &Words,
+    pass: &mut Pass,
+    q: u8,
+    i: u64,
+    p: u8,
+    r: u8,
+) -> Result<bool, Refusal>
     requires one_table { pass.old.table ≡ words.now }
     requires ready { IsReady pass.old (op.CasPtr q i p r) }
     ensures called { IfOk result (λ exchanged. Called pass.old (op.CasPtr q i p r) (answer.Num (one_if exchanged)) pass.new) }

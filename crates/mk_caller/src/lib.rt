@@ -4,8 +4,10 @@
 mod accesses;
 mod callers;
 mod calls;
+mod laws;
 mod refusals;
 mod steps;
 
 pub use callers::Caller;
+pub use laws::calls_leave_other_registers;
 pub use refusals::Refusal;

@@ -179,7 +179,12 @@ fn is_unmapped(header: u64) -> bool
 {
     match decode(header) {
         Some(Header::Run { pages: _, mapped }) => !mapped,
-        Some(Header::Later { distance: _, mapped }) => !mapped,
+        Some(
+            Header::Later {
+                distance: _,
+                mapped,
+            },
+        ) => !mapped,
         _ => false,
     }
 }
@@ -205,7 +210,11 @@ pub(crate) fn probe(words: &Words, pass: &mut Pass, u: u64, i: u64) -> Option<u6
     let word = (u - 65536) / 8 + i;
     let header = pass.probe(words, word / 64);
     pass.is_in_order();
-    if is_unmapped(header) { None } else { Some(word) }
+    if is_unmapped(header) {
+        None
+    } else {
+        Some(word)
+    }
 }
 
 /// The value `i` words behind the value that the call has loaded.

@@ -7,4 +7,3 @@ pub returns-clause-called : goal.returns-clause-called
 returns-clause-called c =
     let one = go c.in_ok-enter.ensures.moves (loads c.load-value.result) refl c.load-value.ensures.moves in
     called (go_on one end refl refl c.leave.ensures.moves) refl
-

@@ -8,4 +8,3 @@ returns-clause-called c =
     let one = go c.in_ok-enter.ensures.moves (loads c.load-one.result) refl c.load-one.ensures.moves in
     let other = go one (loads c.load-other.result) refl c.load-other.ensures.moves in
     called (go_on other end refl refl c.leave.ensures.moves) refl
-
