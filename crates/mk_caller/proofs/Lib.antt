@@ -1,0 +1,14 @@
+pub mod OwnSteps
+pub mod OneStep
+pub mod Joined
+pub mod Enabling
+pub mod WordsMet
+pub mod Onward
+pub mod Entering
+pub mod Stepping
+pub mod Probing
+pub mod Chains
+pub mod Accessing
+pub mod Telling
+pub mod Idle
+pub mod After

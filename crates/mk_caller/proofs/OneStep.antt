@@ -1,0 +1,175 @@
+-- One step of a call: what it adds to the list, to the calls and to the heap that never reuses storage.
+use Rattle.std.proofs.Common.{◌≡◌, ℕ, ◌<◌, true, false, List, [], ◌∷◌, ◌++◌, refl, sym, ◌∙◌, ap, subst, append-nil, append_assoc}
+use Rattle.std.specs.Prelude.{Option, Some, None}
+use Rattle.mk_never.specs.declared.operations.Op.{Op}
+use Rattle.mk_never.specs.declared.operations.Op.TheVariants as op
+use Rattle.mk_never.specs.NeverHeap.{NeverState, register_at, after_calls, reply_of, after_op, replies_of}
+use Rattle.mk_never.specs.Laws.{KeepsRegisters}
+use Rattle.mk_core.specs.declared.config.Config.{Config}
+use Rattle.mk_core.specs.declared.events.Answer.{Answer}
+use Rattle.mk_core.specs.declared.events.Answer.TheVariants as answer
+use Rattle.mk_core.specs.declared.events.Event.{Event}
+use Rattle.mk_core.specs.declared.events.Seat.{Seat}
+use Rattle.mk_core.specs.declared.events.Seat.TheVariants.{Caller}
+use Rattle.mk_core.specs.declared.events.Step.{Step}
+use Rattle.mk_core.specs.declared.seats.Flight.{Flight}
+use Rattle.mk_core.specs.declared.seats.Stage.{Stage}
+use Rattle.mk_core.specs.declared.seats.Stage.TheVariants as stage
+use Rattle.mk_core.specs.declared.seats.Progress.{Progress}
+use Rattle.mk_core.specs.Accesses.{caller_number}
+use Rattle.mk_core.specs.Calls.{is_under_turn}
+use Rattle.mk_core.specs.Decided.{Decided, asked, answered, entry_of, flagged}
+use Rattle.mk_core.specs.Effects.{answer_decided}
+use Rattle.mk_core.specs.Growing.{AreOfOthers}
+use Rattle.mk_core.specs.History.{World, first_world, world_behind, left, left_from, calls, call_decided, never_behind, bases_of, IsHistory}
+use Rattle.mk_core.specs.Image.{answer_of, answers_of}
+use Rattle.mk_core.specs.Moments.{flight_of}
+use Rattle.mk_core.specs.Ranges.{is_word_met}
+use Rattle.mk_core.proofs.Histories.{calls_more}
+use Rattle.mk_core.proofs.HistoryParts.{left_in_parts}
+use Rattle.mk_images.proofs.OneEvent.{one_event}
+use Rattle.mk_invariant.proofs.Joined.{told_to_images}
+use Rattle.mk_frames.proofs.AdmittedStill.{call_on}
+use Rattle.mk_frames.proofs.LastEvents.{stands, comes_last}
+use Rattle.mk_frames.proofs.OtherCalls.{registers_are_left, never_continues}
+use Rattle.mk_words.specs.Seats.{Has}
+use Rattle.mk_words.specs.States.{PassState, call_of, event_of, now_of}
+use Rattle.mk_words.specs.Steps.{Goes, Makes as MakesStep, moment_of}
+use Rattle.mk_words.proofs.Made.{Made, made}
+use Rattle.mk_caller.specs.States.{number_of, never_of, Admits}
+use Rattle.mk_caller.specs.Called.{own_steps, own_calls, IsDecidedIn}
+use Rattle.mk_caller.specs.Moves.{IsDecidedAs, Makes, Moves, IsUnderway, is_decided}
+use Rattle.mk_caller.proofs.OwnSteps.{steps_append, own_step, by_append, own_entry, others_add_none, calls_by}
+
+-- An operation that isn't a New has no flag.
+pub flagged_same : (o : Op) (a : Answer) → is_under_turn o ≡ false → flagged o a ≡ o
+flagged_same (op.New d ty full) a h = cc
+flagged_same _ a h = refl
+
+pub keeps_both : (k : ℕ) (n m l : NeverState) → KeepsRegisters k n m → KeepsRegisters k m l → KeepsRegisters k n l
+keeps_both k n m l f g r lt = g r lt ∙ f r lt
+
+-- What is admitted for an operation is admitted, whatever it is answered.
+pub own_seat : (p : PassState) (k : ℕ) → p.seat ≡ Caller k → p.seat ≡ Caller (number_of p)
+own_seat p k is = is ∙ ap (λ j. Caller j) (sym (ap (λ (s : Seat). caller_number s) is))
+
+module _ (p : PassState) (o : Op) (s : Step) (x : Progress) (q : PassState) (k : ℕ) (seat : p.seat ≡ Caller k) (own : Has p.seats p.seat)
+    (history : IsHistory q.table.config q.seen) (g : Goes p s x q) (entered : is_under_turn o ≡ false)
+    (same_op : entry_of (number_of p) (call_of p).op x.answer ≡ entry_of (number_of p) o x.answer) where
+  abbrev c : Config
+  c = p.table.config
+
+  abbrev others : List Event
+  others = g.makes.others
+
+  abbrev e : Event
+  e = event_of p s
+
+  abbrev es : List Event
+  es = p.seen ++ others
+
+  d : Made p s q g.makes
+  d = made p s q g.makes own history
+
+  of_others : AreOfOthers (Caller (number_of p) ∷ []) others
+  of_others = subst (λ (t : Seat). AreOfOthers (t ∷ []) others) (own_seat p k seat) d.others
+
+  decides : call_decided c (left c es).now e ≡ entry_of (number_of p) o x.answer
+  decides =
+      ap (λ (f : Flight). entry_of (number_of p) f.op (answer_decided c (left c es).now e)) d.frame.own.flight
+      ∙ ap (λ (a : Option Answer). entry_of (number_of p) (call_of p).op a) g.answer
+      ∙ same_op
+
+  joint : p.seen ++ (others ++ e ∷ []) ≡ es ++ e ∷ []
+  joint = sym (append_assoc p.seen others (e ∷ []))
+
+  never : never_behind c (p.seen ++ (others ++ e ∷ [])) ≡ after_calls (never_behind c es) (asked (entry_of (number_of p) o x.answer))
+  never =
+      ap (λ (l : List Event). never_behind c l) joint
+      ∙ (comes_last c es e d.whole).never
+      ∙ ap (λ (l : List Decided). after_calls (never_behind c es) (asked l)) decides
+
+  before : KeepsRegisters (number_of p) (never_of p) (never_behind c es)
+  before = registers_are_left c p.seen others (number_of p) d.history of_others
+
+  right : answered (entry_of (number_of p) o x.answer) ≡ answers_of (bases_of (left c (es ++ e ∷ [])).allocations) (replies_of (never_behind c es) (asked (entry_of (number_of p) o x.answer)))
+  right =
+      let last = comes_last c es e d.whole in
+      let st = stands c es d.history in
+      let f = one_event c (left c es) (never_behind c es) e st.known (told_to_images c (left c es) (never_behind c es) st.known st.all) st.all.mirrors last.on last.admitted in
+      sym (ap (λ (l : List Decided). answered l) decides)
+      ∙ f.right []
+      ∙ ap (λ (bs : List ℕ). answers_of bs (replies_of (never_behind c es) (asked (call_decided c (left c es).now e)))) (append-nil (bases_of (world_behind c (left c es) e).allocations))
+      ∙ ap (λ (w : World). answers_of (bases_of w.allocations) (replies_of (never_behind c es) (asked (call_decided c (left c es).now e)))) (sym last.leaves)
+      ∙ ap (λ (l : List Decided). answers_of (bases_of (left c (es ++ e ∷ [])).allocations) (replies_of (never_behind c es) (asked l))) decides
+
+  decided_as : (a : Option Answer) → x.answer ≡ a → IsDecidedAs p o a (others ++ e ∷ [])
+  decided_as None is =
+      subst (λ (n : NeverState). KeepsRegisters (number_of p) (never_of p) n)
+      (sym (never ∙ ap (λ (a : Option Answer). after_calls (never_behind c es) (asked (entry_of (number_of p) o a))) is)) before
+  decided_as (Some a) is =
+      let flag = flagged_same o a entered in
+      let one : (a ∷ []) ≡ answer_of (bases_of (left c (es ++ e ∷ [])).allocations) (reply_of (never_behind c es) (number_of p) (flagged o a)) ∷ [] =
+      subst (λ (b : Option Answer). answered (entry_of (number_of p) o b) ≡ answers_of (bases_of (left c (es ++ e ∷ [])).allocations) (replies_of (never_behind c es) (asked (entry_of (number_of p) o b)))) is right in
+      record {
+        before = others;
+        event = e;
+        behind = [];
+        is = refl;
+        decides = decides ∙ ap (λ (b : Option Answer). entry_of (number_of p) o b) is;
+        reply = subst (λ (y : Op). a ≡ answer_of (bases_of (left c (es ++ e ∷ [])).allocations) (reply_of (never_behind c es) (number_of p) y)) flag (cc one);
+        known = before;
+        left_so =
+            let after : never_behind c (p.seen ++ (others ++ e ∷ [])) ≡ after_op (never_behind c es) (number_of p) o =
+            never ∙ ap (λ (b : Option Answer). after_calls (never_behind c es) (asked (entry_of (number_of p) o b))) is
+            ∙ ap (λ (y : Op). after_op (never_behind c es) (number_of p) y) flag in
+            λ r lt. ap (λ (n : NeverState). register_at n (number_of p) r) after;
+      }
+
+  is_more : q ≡ record p { seen = p.seen ++ (others ++ e ∷ []) }
+  is_more = g.makes.is ∙ ap (λ (l : List Event). record p { seen = l }) (sym joint)
+
+  pub one_step : Makes p o (s ∷ []) x.answer q
+  one_step =
+      record {
+        more = others ++ e ∷ [];
+        is = is_more;
+        steps = own_step c p.seat (left c p.seen) others s d.others;
+        entry =
+            ap (λ (l : List Event). own_calls p l) joint
+            ∙ ap (λ (l : List Decided). calls_by (number_of p) l) (calls_more c (first_world c) es e)
+            ∙ by_append (number_of p) (calls c es) (call_decided c (left c es).now e)
+            ∙ ap (λ (l : List Decided). l ++ calls_by (number_of p) (call_decided c (left c es).now e)) (others_add_none c (number_of p) p.seen others of_others)
+            ∙ ap (λ (l : List Decided). own_calls p p.seen ++ calls_by (number_of p) l) decides
+            ∙ ap (λ (l : List Decided). own_calls p p.seen ++ l) (own_entry (number_of p) o x.answer);
+        decided = decided_as x.answer refl;
+      }
+
+  -- and that the call may go on
+  pub goes_underway : k < p.table.config.callers → IsHistory p.table.config p.seen → is_under_turn x.flight.op ≡ false
+      → (is_decided x.flight.stage ≡ false → (x.answer ≡ None) × Admits p x.flight.op)
+      → (x.flight.stage ≡ stage.Dirty → is_word_met p.table.config x.flight ≡ true) → IsUnderway q
+  goes_underway exists known goes_on next page =
+      let back : (P : PassState → Type 0) → P (record p { seen = p.seen ++ (others ++ e ∷ []) }) → P q =
+      λ P h. subst P (sym is_more) h in
+      let whole : IsHistory c (p.seen ++ (others ++ e ∷ [])) = subst (λ (l : List Event). IsHistory c l) (sym joint) d.whole in
+      let at_last : (h : (x.answer ≡ None) × Admits p x.flight.op) → Admits (record p { seen = p.seen ++ (others ++ e ∷ []) }) x.flight.op =
+      λ h.
+      let keeps : KeepsRegisters (number_of p) (never_of p) (never_behind c (p.seen ++ (others ++ e ∷ []))) = decided_as None h.0 in
+      let st = stands c p.seen known in
+      let flag = flagged_same x.flight.op answer.Done goes_on in
+      subst (λ (y : Op). Admits (record p { seen = p.seen ++ (others ++ e ∷ []) }) y) flag
+      (call_on c.globals (never_of p) (never_behind c (p.seen ++ (others ++ e ∷ []))) (number_of p) (never_continues c p.seen (others ++ e ∷ [])) keeps
+      st.all.mirrors.typed x.flight.op (Some answer.Done) (subst (λ (y : Op). Admits p y) (sym flag) h.1, tt)).0 in
+      record {
+        caller = k;
+        seat = back (λ r. r.seat ≡ Caller k) seat;
+        exists = back (λ r. k < r.table.config.callers) exists;
+        entered = ap (λ (f : Flight). is_under_turn f.op) g.call ∙ goes_on;
+        admits = λ undecided.
+            subst (λ (f : Flight). Admits q f.op) (sym g.call)
+            (back (λ r. Admits r x.flight.op) (at_last (next (ap (λ (f : Flight). is_decided f.stage) (sym g.call) ∙ undecided))));
+        page = λ dirty.
+            subst (λ (f : Flight). is_word_met q.table.config f ≡ true) (sym g.call)
+            (back (λ r. is_word_met r.table.config x.flight ≡ true) (page (ap (λ (f : Flight). f.stage) (sym g.call) ∙ dirty)));
+      }

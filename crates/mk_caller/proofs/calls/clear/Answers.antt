@@ -1,0 +1,8 @@
+use Rattle.std.proofs.Common.{refl}
+use Rattle.mk_core.specs.declared.seats.Flight.{Flight}
+use Rattle.mk_caller.proofs.Chains.{called, end, go, go_on, loads, stores}
+use Rattle.mk_caller.proofs.calls.clear.Goals as goal
+
+pub returns-clause-called : goal.returns-clause-called
+returns-clause-called c =
+    called (go c.in_ok-enter.ensures.moves (stores 0) refl c.store_and_leave.ensures) refl

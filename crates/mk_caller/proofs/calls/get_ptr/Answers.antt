@@ -1,0 +1,18 @@
+use Rattle.std.proofs.Common.{refl}
+use Rattle.mk_caller.proofs.Chains.{called, go, go_on, probes, faults, reached, goes_on, goes_further, reads, stores}
+use Rattle.mk_caller.proofs.calls.get_ptr.Goals as goal
+
+pub returns-in_default-clause-refused : goal.returns-in_default-clause-refused
+returns-in_default-clause-refused c =
+    let d = c.in_default.ensures in
+    faults c.requires.ready refl c.in_ok-u.ensures.begun refl refl d.refused d.unmapped
+
+pub returns-clause-called : goal.returns-clause-called
+returns-clause-called c =
+    let probed = go c.in_ok-u.ensures.begun probes refl c.in-Some.ensures.moves in
+    let read = go probed (reads c.read-value.result) refl c.read-value.ensures.moves in
+    record { word = c.read-value.result; called = called (go_on read (stores c.read-value.result) refl refl c.store_and_leave.ensures) refl }
+
+pub returns-clause-reached : goal.returns-clause-reached
+returns-clause-reached c =
+    reached c.requires.ready refl c.in_ok-u.ensures.begun refl c.in-Some.ensures.reached (goes_further (goes_on c.read-value.ensures.moves) c.store_and_leave.ensures)

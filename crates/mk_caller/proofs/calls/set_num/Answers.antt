@@ -1,0 +1,18 @@
+use Rattle.std.proofs.Common.{refl}
+use Rattle.mk_caller.proofs.Chains.{called, go, go_on, probes, faults, reached, goes_on, goes_further, writes, end}
+use Rattle.mk_caller.proofs.calls.set_num.Goals as goal
+
+pub returns-in_default-clause-refused : goal.returns-in_default-clause-refused
+returns-in_default-clause-refused c =
+    let d = c.in_default.ensures in
+    faults c.requires.ready refl c.in_ok-u.ensures.begun refl refl d.refused d.unmapped
+
+pub returns-clause-called : goal.returns-clause-called
+returns-clause-called c =
+    let probed = go c.in_ok-u.ensures.begun probes refl c.in-Some.ensures.moves in
+    let written = go probed writes refl c.write.ensures.moves in
+    called (go_on written end refl refl c.mark_and_leave.ensures) refl
+
+pub returns-clause-reached : goal.returns-clause-reached
+returns-clause-reached c =
+    reached c.requires.ready refl c.in_ok-u.ensures.begun refl c.in-Some.ensures.reached (goes_further (goes_on c.write.ensures.moves) c.mark_and_leave.ensures)

@@ -1,0 +1,16 @@
+use Rattle.std.specs.Prelude.{Some, None}
+use Rattle.mk_core.specs.declared.events.Answer.TheVariants as answer
+use Rattle.mk_core.specs.declared.events.Step.TheVariants as step
+use Rattle.mk_core.specs.Calls.{onward}
+use Rattle.mk_words.specs.States.{call_of}
+use Rattle.mk_caller.proofs.Onward.{moves, dirty_next}
+use Rattle.mk_caller.proofs.steps.dirty.Goals as goal
+
+pub returns : goal.returns
+returns c =
+    let f = c.dirty in
+    let p = c.args.pass.now in
+    record {
+      moves = moves p step.Dirty (onward (call_of p) None) f.new.self c.requires.underway c.is_in_order.ensures.own c.is_in_order.ensures.history c.is_in_order-2.ensures.history f.ensures.goes
+          (dirty_next p.table.config (call_of p) c.requires.stage);
+    }

@@ -1,0 +1,87 @@
+-- A call of a caller, in the history: the one clause of all calls.
+use Rattle.std.specs.Prelude.{◌≡◌, ℕ, ◌==◌, List, [], ◌∷◌, ◌++◌, map, filter, Some, if◌then◌else◌}
+use Rattle.mk_never.specs.declared.operations.Op.{Op}
+use Rattle.mk_never.specs.NeverHeap.{reply_of, after_op}
+use Rattle.mk_never.specs.Laws.{KeepsRegisters}
+use Rattle.mk_core.specs.declared.events.Answer.{Answer}
+use Rattle.mk_core.specs.declared.events.Answer.TheVariants as answer
+use Rattle.mk_core.specs.declared.events.Event.{Event}
+use Rattle.mk_core.specs.declared.events.Step.{Step}
+use Rattle.mk_core.specs.declared.events.Step.TheVariants as step
+use Rattle.mk_core.specs.declared.seats.Stage.{Stage}
+use Rattle.mk_core.specs.declared.seats.Stage.TheVariants as stage
+use Rattle.mk_core.specs.Calls.{at_rest, steps_of, is_same_stage, stage_refused}
+use Rattle.mk_core.specs.Decided.{Decided, entry_of}
+use Rattle.mk_core.specs.Growing.{Finding, in_this_call}
+use Rattle.mk_core.specs.History.{left, calls, call_decided, never_behind, bases_of}
+use Rattle.mk_core.specs.Image.{answer_of}
+use Rattle.mk_words.specs.States.{PassState, call_of}
+use Rattle.mk_caller.specs.States.{number_of, never_of}
+
+-- the step at a stage of a call
+abbrev pub step_at : Stage → Step
+step_at stage.Probe = step.Probe
+step_at stage.Read = step.Read
+step_at stage.Write = step.Write
+step_at stage.Cas = step.Cas
+step_at stage.Getg = step.Getg
+step_at stage.Setg = step.Setg
+step_at stage.Dirty = step.Dirty
+step_at stage.Leave = step.Leave
+step_at _ = step.Reg
+
+-- the stages up to this one, and with it
+abbrev pub up_to : Stage → List Stage → List Stage
+up_to s [] = []
+up_to s (x ∷ xs) = x ∷ (if is_same_stage x s then [] else up_to s xs)
+
+-- the stages behind a refusal, from the first one on
+abbrev pub refused_from : Stage → List Stage
+refused_from stage.Put = stage.Put ∷ stage.Leave ∷ []
+refused_from _ = stage.Leave ∷ []
+
+-- the stages of a call that is answered so: Null comes at the load of q, and Fault at the probe
+abbrev pub stages_made : Op → Answer → List Stage
+stages_made o answer.Null = up_to stage.LoadQ (steps_of o) ++ refused_from (stage_refused o)
+stages_made o answer.Fault = up_to stage.Probe (steps_of o) ++ refused_from (stage_refused o)
+stages_made o _ = steps_of o
+
+abbrev pub steps_made : Op → Answer → List Step
+steps_made o a = step.Enter o ∷ map step_at (stages_made o a)
+
+-- the steps of the pass's seat among the events that came behind what it had seen
+abbrev pub own_steps : PassState → List Event → List Step
+own_steps p more = map (λ (x : Finding). x.event.step) (in_this_call p.table.config p.seat p.seen more)
+
+-- the calls of its caller in a history
+abbrev pub own_calls : PassState → List Event → List Decided
+own_calls p es = filter (λ (x : Decided). x.caller == number_of p) (calls p.table.config es)
+
+-- The event among these that decides the call. Its answer is the image of what the heap that never reuses storage replies
+-- there, to the values that the caller's registers had before the call; and what they are then, they are behind the call.
+pub record IsDecidedIn (p : PassState) (o : Op) (a : Answer) (more : List Event) : Type 0 where
+  pub before : List Event
+  pub event : Event
+  pub behind : List Event
+  pub is : more ≡ before ++ event ∷ behind
+  pub decides : call_decided p.table.config (left p.table.config (p.seen ++ before)).now event ≡ entry_of (number_of p) o (Some a)
+  pub reply : a ≡ answer_of (bases_of (left p.table.config (p.seen ++ before ++ event ∷ [])).allocations)
+      (reply_of (never_behind p.table.config (p.seen ++ before)) (number_of p) o)
+  pub known : KeepsRegisters (number_of p) (never_of p) (never_behind p.table.config (p.seen ++ before))
+  pub left_so : KeepsRegisters (number_of p) (after_op (never_behind p.table.config (p.seen ++ before)) (number_of p) o)
+      (never_behind p.table.config (p.seen ++ more))
+
+-- The pass did this operation and was answered so. What it has seen begins with what it had seen; its own steps since are
+-- those of this call, in their order; its caller has one entry more; and it has no call in flight.
+pub record Called (p : PassState) (o : Op) (a : Answer) (q : PassState) : Type 0 where
+  pub more : List Event
+  pub is : q ≡ record p { seen = p.seen ++ more }
+  pub steps : own_steps p more ≡ steps_made o a
+  pub entry : own_calls p (p.seen ++ more) ≡ own_calls p p.seen ++ entry_of (number_of p) o (Some a)
+  pub decided : IsDecidedIn p o a more
+  pub rest : call_of q ≡ at_rest
+
+-- It was answered by a pointer, or null: which one says the reply of the heap that never reuses storage.
+pub record IsAnswered (p : PassState) (o : Op) (q : PassState) : Type 0 where
+  pub word : ℕ
+  pub called : Called p o (answer.Word word) q

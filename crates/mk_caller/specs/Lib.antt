@@ -1,0 +1,5 @@
+pub mod States
+pub mod Called
+pub mod Causes
+pub mod Moves
+pub mod Laws

@@ -1,0 +1,110 @@
+-- A call on its way, from one of its steps to the next.
+use Rattle.std.specs.Prelude.{◌≡◌, ℕ, ◌<◌, Bool, true, false, List, [], ◌∷◌, ◌++◌, map, Option, Some, None}
+use Rattle.mk_never.specs.declared.operations.Op.{Op}
+use Rattle.mk_never.specs.declared.operations.Op.TheVariants as op
+use Rattle.mk_never.specs.Laws.{KeepsRegisters}
+use Rattle.mk_core.specs.declared.events.Answer.{Answer}
+use Rattle.mk_core.specs.declared.events.Event.{Event}
+use Rattle.mk_core.specs.declared.events.Seat.TheVariants.{Caller}
+use Rattle.mk_core.specs.declared.events.Step.{Step}
+use Rattle.mk_core.specs.declared.seats.Stage.{Stage}
+use Rattle.mk_core.specs.declared.seats.Stage.TheVariants as stage
+use Rattle.mk_core.specs.declared.seats.Flight.{Flight}
+use Rattle.mk_core.specs.declared.seats.Progress.{Progress}
+use Rattle.mk_core.specs.Calls.{at_rest, begun, onward, is_under_turn, stage_refused}
+use Rattle.mk_core.specs.Decided.{entry_of}
+use Rattle.mk_core.specs.History.{never_behind}
+use Rattle.mk_core.specs.Ranges.{is_word_met}
+use Rattle.mk_words.specs.States.{PassState, call_of}
+use Rattle.mk_caller.specs.States.{number_of, never_of, Admits}
+use Rattle.mk_caller.specs.Called.{step_at, refused_from, own_steps, own_calls, IsDecidedIn}
+
+-- what is behind the deciding step
+abbrev pub is_decided : Stage → Bool
+is_decided stage.Put = true
+is_decided stage.Dirty = true
+is_decided stage.Leave = true
+is_decided stage.Idle = true
+is_decided _ = false
+
+-- a stage at which a register is loaded
+abbrev pub is_load : Stage → Bool
+is_load stage.LoadQ = true
+is_load stage.LoadP = true
+is_load stage.LoadR = true
+is_load _ = false
+
+-- or stored
+abbrev pub is_store : Stage → Bool
+is_store stage.Store = true
+is_store stage.Put = true
+is_store _ = false
+
+-- a stage at which a heap word is written
+abbrev pub is_written : Stage → Bool
+is_written stage.Write = true
+is_written stage.Cas = true
+is_written _ = false
+
+-- the operations that access through q
+abbrev pub is_access : Op → Bool
+is_access (op.GetNum q i) = true
+is_access (op.SetNum q i n) = true
+is_access (op.GetPtr d q i) = true
+is_access (op.SetPtr q i p) = true
+is_access (op.CasPtr q i p r) = true
+is_access (op.Lea d q i) = true
+is_access _ = false
+
+-- the register that a refusal makes null
+abbrev pub refused_register : Op → Option ℕ
+refused_register (op.GetPtr d q i) = Some d
+refused_register (op.Lea d q i) = Some d
+refused_register _ = None
+
+-- A caller whose pass may begin a call of the operation.
+pub record IsReady (p : PassState) (o : Op) : Type 0 where
+  pub caller : ℕ
+  pub seat : p.seat ≡ Caller caller
+  pub rest : call_of p ≡ at_rest
+  pub entered : is_under_turn o ≡ false
+  pub admits : Admits p o
+
+-- The pass is in a call between `enter` and `leave`, and may make the next step.
+pub record IsUnderway (p : PassState) : Type 0 where
+  pub caller : ℕ
+  pub seat : p.seat ≡ Caller caller
+  pub exists : caller < p.table.config.callers
+  pub entered : is_under_turn (call_of p).op ≡ false
+  pub admits : is_decided (call_of p).stage ≡ false → Admits p (call_of p).op
+  pub page : (call_of p).stage ≡ stage.Dirty → is_word_met p.table.config (call_of p) ≡ true
+
+abbrev pub IsDecidedAs : PassState → Op → Option Answer → List Event → Type 0
+IsDecidedAs p o None more = KeepsRegisters (number_of p) (never_of p) (never_behind p.table.config (p.seen ++ more))
+IsDecidedAs p o (Some a) more = IsDecidedIn p o a more
+
+-- The pass made these steps of a call of the operation, which decided this answer or none.
+pub record Makes (p : PassState) (o : Op) (ss : List Step) (a : Option Answer) (q : PassState) : Type 0 where
+  pub more : List Event
+  pub is : q ≡ record p { seen = p.seen ++ more }
+  pub steps : own_steps p more ≡ ss
+  pub entry : own_calls p (p.seen ++ more) ≡ own_calls p p.seen ++ entry_of (number_of p) o a
+  pub decided : IsDecidedAs p o a more
+
+-- It made these steps of a call, which decided this answer or none, and its call is this one then.
+pub record At (p : PassState) (o : Op) (ss : List Step) (a : Option Answer) (f : Flight) (q : PassState) : Type 0 where
+  pub makes : Makes p o ss a q
+  pub call : call_of q ≡ f
+  pub underway : IsUnderway q
+
+-- It made one step, and its call went on so.
+abbrev pub Moves : PassState → Op → Step → Progress → PassState → Type 0
+Moves p o s x q = At p o (s ∷ []) x.answer x.flight q
+
+-- The steps of a call that are left behind a refusal: up to its end.
+abbrev pub refused_steps : Op → List Step
+refused_steps o = map step_at (refused_from (stage_refused o))
+
+-- the call behind the load of q
+abbrev pub behind_q : Op → ℕ → Flight
+behind_q o u = (onward (record (begun o) { q = u }) None).flight

@@ -1,0 +1,53 @@
+-- What contracts see of a caller.
+use Rattle.std.specs.Prelude.{◌≡◌, ℕ, Bool, true, false, [], Option, Some, None}
+use Rattle.mk_never.specs.declared.operations.Op.{Op}
+use Rattle.mk_never.specs.declared.values.Value.{Value}
+use Rattle.mk_never.specs.NeverHeap.{NeverState, register_at}
+use Rattle.mk_never.specs.Admitted.{IsAdmitted}
+use Rattle.mk_core.specs.Accesses.{caller_number}
+use Rattle.mk_core.specs.History.{never_behind}
+use Rattle.mk_core.specs.Calls.{at_rest}
+use Rattle.mk_core.specs.declared.events.Seat.TheVariants.{Caller}
+use Rattle.mk_words.specs.States.{WordsState, PassState, call_of}
+
+-- Its pass, and whether that is home. Of a pass that was lent the table and the seat are known, and no event.
+pub record CallerState : Type 0 where
+  pub pass : PassState
+  pub home : Bool
+
+abbrev pub lent : PassState → CallerState
+lent p = record { pass = record p { seats = []; seen = [] }; home = false }
+
+abbrev pub at_home : PassState → CallerState
+at_home p = record { pass = p; home = true }
+
+abbrev pub number_of : PassState → ℕ
+number_of p = caller_number p.seat
+
+-- the heap that never reuses storage, behind what the pass has seen
+abbrev pub never_of : PassState → NeverState
+never_of p = never_behind p.table.config p.seen
+
+-- the value of one of the caller's registers there
+abbrev pub value_of : PassState → ℕ → Value
+value_of p r = register_at (never_of p) (number_of p) r
+
+-- The operation is admitted there: the type and the offset of the value in the register admit the access.
+abbrev pub Admits : PassState → Op → Type 0
+Admits p o = IsAdmitted p.table.config.globals (never_of p) (number_of p) o
+
+-- the pass of a caller, and no call of it is in flight
+pub record IsIdleCaller (p : PassState) : Type 0 where
+  pub caller : ℕ
+  pub seat : p.seat ≡ Caller caller
+  pub rest : call_of p ≡ at_rest
+
+-- What a caller is made of: its words, its number and its pass, if that is home.
+
+abbrev pub caller_of : WordsState → ℕ → Option PassState → CallerState
+caller_of w k (Some p) = at_home p
+caller_of w k None = record { pass = record { table = w; seat = Caller k; seats = []; seen = [] }; home = false }
+
+abbrev pub IsWhole : WordsState → ℕ → Option PassState → Type 0
+IsWhole w k (Some p) = (p.table ≡ w) × (p.seat ≡ Caller k) × (call_of p ≡ at_rest)
+IsWhole w k None = Unit {0}

@@ -1,0 +1,130 @@
+//! What several calls do in the same way: they begin an access through a register, probe its page, and end.
+ghost use Rattle.std.specs.Prelude.{◌≡◌, ◌≢◌, IfOk, IfErr, IfSome, IfNone, Some, None, true, [], ◌∷◌, ◌++◌};
+ghost use Rattle.mk_never.specs.declared.values.Target.TheVariants.{Unmapped};
+ghost use Rattle.mk_never.specs.declared.values.Value.TheVariants.{Null};
+ghost use Rattle.mk_core.specs.declared.accesses.Access.TheVariants.{Store};
+ghost use Rattle.mk_core.specs.declared.events.Answer.TheVariants as answer;
+ghost use Rattle.mk_core.specs.declared.events.Step.TheVariants as step;
+ghost use Rattle.mk_core.specs.declared.seats.Stage.TheVariants as stage;
+ghost use Rattle.mk_core.specs.Accesses.{reg_access};
+ghost use Rattle.mk_core.specs.Calls.{at_rest, onward, stage_refused, stage_behind, steps_of, q_of, i_of, d_of, word_met, progress_reg};
+ghost use Rattle.mk_words.specs.States.{call_of};
+ghost use Rattle.mk_caller.specs.States.{value_of};
+ghost use Rattle.mk_caller.specs.Causes.{Probes, ProbesAWord, IsRefused};
+ghost use Rattle.mk_caller.specs.Moves.{IsReady, IsUnderway, At, Moves, is_access, is_store, refused_register, refused_steps, behind_q};
+
+use crate::refusals::Refusal;
+use crate::steps::{dirty, enter, leave, load, probe, store};
+use mk_never::Op;
+use mk_words::{Pass, Words};
+
+/// Ends a call that is refused: the register that it would have loaded becomes null.
+pub(crate) fn refuse(words: &Words, pass: &mut Pass, d: Option<u8>)
+    requires one_table { pass.old.table ≡ words.now }
+    requires underway { IsUnderway pass.old }
+    requires stage { (call_of pass.old).stage ≡ stage_refused (call_of pass.old).op }
+    requires loaded { (call_of pass.old).loaded ≡ 0 }
+    requires register { d ≡ refused_register (call_of pass.old).op }
+    ensures { At pass.old (call_of pass.old).op (refused_steps (call_of pass.old).op) None at_rest pass.new }
+{
+    match d {
+        Some(d) => {
+            store(words, pass, d, 0);
+            leave(words, pass);
+        }
+        None => leave(words, pass),
+    }
+}
+
+/// Stores the last register of a call, and ends it.
+#[inline(always)]
+pub(crate) fn store_and_leave(words: &Words, pass: &mut Pass, d: u8, v: u64)
+    requires one_table { pass.old.table ≡ words.now }
+    requires underway { IsUnderway pass.old }
+    requires stage { is_store (call_of pass.old).stage ≡ true }
+    requires register { d ≡ d_of (call_of pass.old).op }
+    requires stores { reg_access (call_of pass.old) (call_of pass.old).stage ≡ Store v }
+    requires last { (progress_reg (call_of pass.old) (call_of pass.old).stage v).flight.stage ≡ stage.Leave }
+    ensures { At pass.old (call_of pass.old).op (step.Reg ∷ step.Leave ∷ []) (progress_reg (call_of pass.old) (call_of pass.old).stage v).answer at_rest pass.new }
+{
+    store(words, pass, d, v);
+    leave(words, pass);
+}
+
+/// Marks the page of the word that a call wrote, and ends it.
+#[inline(always)]
+pub(crate) fn mark_and_leave(words: &Words, pass: &mut Pass, word: u64)
+    requires one_table { pass.old.table ≡ words.now }
+    requires underway { IsUnderway pass.old }
+    requires stage { (call_of pass.old).stage ≡ stage.Dirty }
+    requires word { word ≡ word_met (call_of pass.old) }
+    requires last { stage_behind stage.Dirty (steps_of (call_of pass.old).op) ≡ stage.Leave }
+    ensures { At pass.old (call_of pass.old).op (step.Dirty ∷ step.Leave ∷ []) None at_rest pass.new }
+{
+    dirty(words, pass, word / 64);
+    leave(words, pass);
+}
+
+/// Begins a call that accesses through register q, and loads that. A call through null is refused, and ends.
+#[inline(always)]
+pub(crate) fn begin_access(
+    words: &Words,
+    pass: &mut Pass,
+    op: Op,
+    d: Option<u8>,
+    q: u8,
+) -> Result<u64, Refusal>
+    requires one_table { pass.old.table ≡ words.now }
+    requires ready { IsReady pass.old op }
+    requires access { is_access op ≡ true }
+    requires from { q ≡ q_of op }
+    requires register { d ≡ refused_register op }
+    ensures begun { IfOk result (λ u. At pass.old op (step.Enter op ∷ step.Reg ∷ []) None (behind_q op u) pass.new) }
+    ensures some { IfOk result (λ u. value_of pass.old q ≢ Null) }
+    ensures refused { IfErr result (λ e. IsRefused pass.old op e pass.new) }
+{
+    match enter(words, pass, op) {
+        Err(_) => Err(Refusal::Held),
+        Ok(()) => {
+            let u = load(words, pass, q);
+            if u == 0 {
+                refuse(words, pass, d);
+                Err(Refusal::Null)
+            } else {
+                Ok(u)
+            }
+        }
+    }
+}
+
+/// Probes the page of the word that a call accesses, and answers the word. A call to an unmapped page is refused, and
+/// ends.
+#[inline(always)]
+pub(crate) fn probe_access(
+    words: &Words,
+    pass: &mut Pass,
+    d: Option<u8>,
+    u: u64,
+    i: u64,
+) -> Option<u64>
+    requires one_table { pass.old.table ≡ words.now }
+    requires underway { IsUnderway pass.old }
+    requires stage { (call_of pass.old).stage ≡ stage.Probe }
+    requires access { is_access (call_of pass.old).op ≡ true }
+    requires value { u ≡ (call_of pass.old).q }
+    requires offset { i ≡ i_of (call_of pass.old).op }
+    requires register { d ≡ refused_register (call_of pass.old).op }
+    ensures moves { IfSome result (λ word. Moves pass.old (call_of pass.old).op step.Probe (onward (call_of pass.old) None) pass.new) }
+    ensures word { IfSome result (λ word. word ≡ word_met (call_of pass.old)) }
+    ensures reached { IfSome result (λ word. ProbesAWord pass.old (call_of pass.old).op pass.new) }
+    ensures refused { IfNone result (At pass.old (call_of pass.old).op (step.Probe ∷ refused_steps (call_of pass.old).op) (Some answer.Fault) at_rest pass.new) }
+    ensures unmapped { IfNone result (Probes pass.old (call_of pass.old).op pass.new Unmapped) }
+{
+    match probe(words, pass, u, i) {
+        None => {
+            refuse(words, pass, d);
+            None
+        }
+        Some(word) => Some(word),
+    }
+}

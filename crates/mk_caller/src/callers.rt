@@ -1,0 +1,299 @@
+//! A script's end of the heap.
+ghost use Rattle.std.specs.Prelude.{◌≡◌, ◌≢◌, IfOk, OnOk, OnErr, IfErr, true, false};
+ghost use Rattle.mk_never.specs.declared.operations.Op.TheVariants as op;
+ghost use Rattle.mk_never.specs.declared.values.Value.TheVariants.{Null};
+ghost use Rattle.mk_never.specs.NeverHeap.{is_same};
+ghost use Rattle.mk_core.specs.declared.events.Answer.TheVariants as answer;
+ghost use Rattle.mk_core.specs.Calls.{at_rest, one_if};
+ghost use Rattle.mk_core.specs.History.{IsHistory};
+ghost use Rattle.mk_words.specs.Seats.{Has};
+ghost use Rattle.mk_words.specs.States.{call_of};
+ghost use Rattle.mk_caller.specs.declared.refusals.Refusal.TheVariants as refusal;
+ghost use Rattle.mk_caller.specs.States.{at_home, lent, number_of, value_of, Admits, IsIdleCaller};
+ghost use Rattle.mk_caller.specs.Called.{Called, IsAnswered};
+ghost use Rattle.mk_caller.specs.Causes.{FindsGateHeld, IsRefused, ProbesAWord};
+
+use crate::calls;
+use crate::refusals::Refusal;
+use mk_core::Seat;
+use mk_words::{Held, Pass, Words};
+use std::marker::Model;
+
+/// One script's end of the heap: its pass, which may be lent, and the words.
+#[derive(Drop)]
+pub struct Caller<'h> {
+    words: &'h Words,
+    number: u64,
+    pass: Option<Pass>,
+}
+
+impl<'h> Model for Caller<'h> {
+    ghost use Rattle.mk_caller.specs.States.{CallerState, caller_of, IsWhole};
+
+    ghost Value = { CallerState };
+
+    ghost view = { λ c. caller_of c.words.now c.number c.pass };
+
+    ghost invariant = { λ c. IsWhole c.words.now c.number c.pass };
+}
+
+impl<'h> Caller<'h> {
+    /// A caller with the pass of a caller's seat.
+    pub fn new(words: &'h Words, pass: Pass) -> Caller<'h>
+        requires one_table { pass.table ≡ words.now }
+        requires idle { IsIdleCaller pass }
+        ensures { result ≡ at_home pass }
+    {
+        let number = match pass.seat() {
+            Seat::Caller(number) => number,
+            Seat::Marker(_) | Seat::Host => unreachable!(),
+        };
+        Caller {
+            words,
+            number,
+            pass: Some(pass),
+        }
+    }
+
+    /// The caller's number.
+    pub fn number(&self) -> u64
+        ensures { result ≡ number_of self.now.pass }
+    {
+        self.number
+    }
+
+    /// The words of its heap.
+    pub fn words(&self) -> &'h Words
+        ensures { result.now ≡ self.now.pass.table }
+    {
+        self.words
+    }
+
+    /// What holds of every caller whose pass is home. It does nothing.
+    #[inline(always)]
+    pub fn is_idle(&self)
+        requires home { self.now.home ≡ true }
+        ensures idle { IsIdleCaller self.now.pass }
+        ensures own { Has self.now.pass.seats self.now.pass.seat }
+        ensures history { IsHistory self.now.pass.table.config self.now.pass.seen }
+    {
+        match &self.pass {
+            Some(pass) => pass.is_in_order(),
+            None => unreachable!(),
+        }
+    }
+
+    /// Hands the pass out, for calls under the turn.
+    pub fn lend(&mut self) -> Pass
+        requires home { self.old.home ≡ true }
+        ensures pass { result ≡ self.old.pass }
+        ensures idle { IsIdleCaller result }
+        ensures lent { self.new ≡ lent self.old.pass }
+    {
+        match self.pass.take() {
+            Some(pass) => pass,
+            None => unreachable!(),
+        }
+    }
+
+    /// Takes the pass back.
+    pub fn back(&mut self, pass: Pass)
+        requires away { self.old.home ≡ false }
+        requires one_table { pass.table ≡ self.old.pass.table }
+        requires own { pass.seat ≡ self.old.pass.seat }
+        requires rest { call_of pass ≡ at_rest }
+        ensures { self.new ≡ at_home pass }
+    {
+        self.pass = Some(pass);
+    }
+
+    /// Hands the pass back, with no call in flight.
+    pub fn finish(self) -> Pass
+        requires home { self.home ≡ true }
+        ensures pass { result ≡ self.entry.pass }
+        ensures idle { IsIdleCaller self.entry.pass }
+    {
+        match self.pass {
+            Some(pass) => pass,
+            None => unreachable!(),
+        }
+    }
+
+    /// The number in the word `i` words behind the pointer in `q`.
+    pub fn get_num(&mut self, q: u8, i: u64) -> Result<u64, Refusal>
+        requires home { self.old.home ≡ true }
+        requires admitted { Admits self.old.pass (op.GetNum q i) }
+        ensures home { self.new.home ≡ true }
+        ensures called { IfOk result (λ n. Called self.old.pass (op.GetNum q i) (answer.Num n) self.new.pass) }
+        ensures reached { OnOk result (ProbesAWord self.old.pass (op.GetNum q i) self.new.pass) }
+        ensures refused { IfErr result (λ e. IsRefused self.old.pass (op.GetNum q i) e self.new.pass) }
+    {
+        match &mut self.pass {
+            Some(pass) => calls::get_num(self.words, pass, q, i),
+            None => unreachable!(),
+        }
+    }
+
+    /// Writes a number to the word `i` words behind the pointer in `q`.
+    pub fn set_num(&mut self, q: u8, i: u64, n: u64) -> Result<(), Refusal>
+        requires home { self.old.home ≡ true }
+        requires admitted { Admits self.old.pass (op.SetNum q i n) }
+        ensures home { self.new.home ≡ true }
+        ensures called { OnOk result (Called self.old.pass (op.SetNum q i n) answer.Done self.new.pass) }
+        ensures reached { OnOk result (ProbesAWord self.old.pass (op.SetNum q i n) self.new.pass) }
+        ensures refused { IfErr result (λ e. IsRefused self.old.pass (op.SetNum q i n) e self.new.pass) }
+    {
+        match &mut self.pass {
+            Some(pass) => calls::set_num(self.words, pass, q, i, n),
+            None => unreachable!(),
+        }
+    }
+
+    /// Sets `d` to the pointer in the word `i` words behind the pointer in `q`, or to null where it is refused.
+    pub fn get_ptr(&mut self, d: u8, q: u8, i: u64) -> Result<(), Refusal>
+        requires home { self.old.home ≡ true }
+        requires admitted { Admits self.old.pass (op.GetPtr d q i) }
+        ensures home { self.new.home ≡ true }
+        ensures called { OnOk result (IsAnswered self.old.pass (op.GetPtr d q i) self.new.pass) }
+        ensures reached { OnOk result (ProbesAWord self.old.pass (op.GetPtr d q i) self.new.pass) }
+        ensures refused { IfErr result (λ e. IsRefused self.old.pass (op.GetPtr d q i) e self.new.pass) }
+    {
+        match &mut self.pass {
+            Some(pass) => calls::get_ptr(self.words, pass, d, q, i),
+            None => unreachable!(),
+        }
+    }
+
+    /// Writes the pointer in `p`, or null, to the word `i` words behind the pointer in `q`.
+    pub fn set_ptr(&mut self, q: u8, i: u64, p: u8) -> Result<(), Refusal>
+        requires home { self.old.home ≡ true }
+        requires admitted { Admits self.old.pass (op.SetPtr q i p) }
+        ensures home { self.new.home ≡ true }
+        ensures called { OnOk result (Called self.old.pass (op.SetPtr q i p) answer.Done self.new.pass) }
+        ensures reached { OnOk result (ProbesAWord self.old.pass (op.SetPtr q i p) self.new.pass) }
+        ensures refused { IfErr result (λ e. IsRefused self.old.pass (op.SetPtr q i p) e self.new.pass) }
+    {
+        match &mut self.pass {
+            Some(pass) => calls::set_ptr(self.words, pass, q, i, p),
+            None => unreachable!(),
+        }
+    }
+
+    /// Writes the pointer in `r` to the word `i` words behind the pointer in `q`, where that is the pointer in `p`, and
+    /// says whether it was.
+    pub fn cas_ptr(&mut self, q: u8, i: u64, p: u8, r: u8) -> Result<bool, Refusal>
+        requires home { self.old.home ≡ true }
+        requires admitted { Admits self.old.pass (op.CasPtr q i p r) }
+        ensures home { self.new.home ≡ true }
+        ensures called { IfOk result (λ exchanged. Called self.old.pass (op.CasPtr q i p r) (answer.Num (one_if exchanged)) self.new.pass) }
+        ensures reached { OnOk result (ProbesAWord self.old.pass (op.CasPtr q i p r) self.new.pass) }
+        ensures refused { IfErr result (λ e. IsRefused self.old.pass (op.CasPtr q i p r) e self.new.pass) }
+    {
+        match &mut self.pass {
+            Some(pass) => calls::cas_ptr(self.words, pass, q, i, p, r),
+            None => unreachable!(),
+        }
+    }
+
+    /// Sets `d` to the pointer `i` words behind that in `q`, or to null where it is refused.
+    pub fn lea(&mut self, d: u8, q: u8, i: u64) -> Result<(), Refusal>
+        requires home { self.old.home ≡ true }
+        requires admitted { Admits self.old.pass (op.Lea d q i) }
+        ensures home { self.new.home ≡ true }
+        ensures called { OnOk result (Called self.old.pass (op.Lea d q i) answer.Done self.new.pass) }
+        ensures some { OnOk result (value_of self.old.pass q ≢ Null) }
+        ensures refused { IfErr result (λ e. IsRefused self.old.pass (op.Lea d q i) e self.new.pass) }
+        ensures no_fault { IfErr result (λ e. e ≢ refusal.Fault) }
+    {
+        match &mut self.pass {
+            Some(pass) => calls::lea(self.words, pass, d, q, i),
+            None => unreachable!(),
+        }
+    }
+
+    /// Sets `d` to what is in `q`.
+    pub fn move_ptr(&mut self, d: u8, q: u8) -> Result<(), Held>
+        requires home { self.old.home ≡ true }
+        requires admitted { Admits self.old.pass (op.Move d q) }
+        ensures home { self.new.home ≡ true }
+        ensures called { OnOk result (Called self.old.pass (op.Move d q) answer.Done self.new.pass) }
+        ensures held { OnErr result (FindsGateHeld self.old.pass (op.Move d q) self.new.pass) }
+    {
+        match &mut self.pass {
+            Some(pass) => calls::move_ptr(self.words, pass, d, q),
+            None => unreachable!(),
+        }
+    }
+
+    /// Sets `d` to null.
+    pub fn clear(&mut self, d: u8) -> Result<(), Held>
+        requires home { self.old.home ≡ true }
+        requires admitted { Admits self.old.pass (op.Clear d) }
+        ensures home { self.new.home ≡ true }
+        ensures called { OnOk result (Called self.old.pass (op.Clear d) answer.Done self.new.pass) }
+        ensures held { OnErr result (FindsGateHeld self.old.pass (op.Clear d) self.new.pass) }
+    {
+        match &mut self.pass {
+            Some(pass) => calls::clear(self.words, pass, d),
+            None => unreachable!(),
+        }
+    }
+
+    /// Sets `d` to what is in the global.
+    pub fn get_global(&mut self, d: u8, g: u8) -> Result<(), Held>
+        requires home { self.old.home ≡ true }
+        requires admitted { Admits self.old.pass (op.GetGlobal d g) }
+        ensures home { self.new.home ≡ true }
+        ensures called { OnOk result (IsAnswered self.old.pass (op.GetGlobal d g) self.new.pass) }
+        ensures held { OnErr result (FindsGateHeld self.old.pass (op.GetGlobal d g) self.new.pass) }
+    {
+        match &mut self.pass {
+            Some(pass) => calls::get_global(self.words, pass, d, g),
+            None => unreachable!(),
+        }
+    }
+
+    /// Sets the global to what is in `p`.
+    pub fn set_global(&mut self, g: u8, p: u8) -> Result<(), Held>
+        requires home { self.old.home ≡ true }
+        requires admitted { Admits self.old.pass (op.SetGlobal g p) }
+        ensures home { self.new.home ≡ true }
+        ensures called { OnOk result (Called self.old.pass (op.SetGlobal g p) answer.Done self.new.pass) }
+        ensures held { OnErr result (FindsGateHeld self.old.pass (op.SetGlobal g p) self.new.pass) }
+    {
+        match &mut self.pass {
+            Some(pass) => calls::set_global(self.words, pass, g, p),
+            None => unreachable!(),
+        }
+    }
+
+    /// Whether the two registers hold one value.
+    pub fn same(&mut self, p: u8, q: u8) -> Result<bool, Held>
+        requires home { self.old.home ≡ true }
+        requires admitted { Admits self.old.pass (op.Same p q) }
+        ensures home { self.new.home ≡ true }
+        ensures called { IfOk result (λ same. Called self.old.pass (op.Same p q) (answer.Num (one_if same)) self.new.pass) }
+        ensures tells { IfOk result (λ same. same ≡ is_same (value_of self.old.pass p) (value_of self.old.pass q)) }
+        ensures held { OnErr result (FindsGateHeld self.old.pass (op.Same p q) self.new.pass) }
+    {
+        match &mut self.pass {
+            Some(pass) => calls::same(self.words, pass, p, q),
+            None => unreachable!(),
+        }
+    }
+
+    /// Whether the register is null.
+    pub fn is_null(&mut self, p: u8) -> Result<bool, Held>
+        requires home { self.old.home ≡ true }
+        requires admitted { Admits self.old.pass (op.IsNull p) }
+        ensures home { self.new.home ≡ true }
+        ensures called { IfOk result (λ null. Called self.old.pass (op.IsNull p) (answer.Num (one_if null)) self.new.pass) }
+        ensures tells { IfOk result (λ null. null ≡ is_same (value_of self.old.pass p) Null) }
+        ensures held { OnErr result (FindsGateHeld self.old.pass (op.IsNull p) self.new.pass) }
+    {
+        match &mut self.pass {
+            Some(pass) => calls::is_null(self.words, pass, p),
+            None => unreachable!(),
+        }
+    }
+}

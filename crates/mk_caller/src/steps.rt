@@ -1,0 +1,236 @@
+//! The steps of a call, each with what is known of the call behind it.
+ghost use Rattle.std.specs.Prelude.{◌≡◌, ◌↔◌, OnOk, OnErr, IfSome, IfNone, Some, None, true, ◌+◌, ◌-◌, ◌*◌, ◌/◌, ◌%◌, ◌^◌, if◌then◌else◌};
+ghost use Rattle.mk_never.specs.declared.values.Value.TheVariants.{Null};
+ghost use Rattle.mk_core.specs.declared.accesses.Access.TheVariants.{Load, Store};
+ghost use Rattle.mk_core.specs.declared.events.Answer.TheVariants as answer;
+ghost use Rattle.mk_core.specs.declared.events.Step.TheVariants as step;
+ghost use Rattle.mk_core.specs.declared.seats.Stage.TheVariants as stage;
+ghost use Rattle.mk_core.specs.Accesses.{register_met, reg_access};
+ghost use Rattle.mk_core.specs.Calls.{at_rest, begun, onward, refused, g_of, i_of, value_written, one_if, page_met, word_met, progress_reg, progress_read, progress_getg};
+ghost use Rattle.mk_words.specs.States.{call_of};
+ghost use Rattle.mk_images.specs.Images.{has_q, has_some_q};
+ghost use Rattle.mk_caller.specs.States.{value_of};
+ghost use Rattle.mk_geom.specs.Headers.{header_of};
+ghost use Rattle.mk_never.specs.declared.values.Target.TheVariants.{Unmapped};
+ghost use Rattle.mk_core.specs.Cells.{is_unmapped_header};
+ghost use Rattle.mk_caller.specs.Causes.{FindsGateHeld, Probes, ProbesAWord};
+ghost use Rattle.mk_caller.specs.Moves.{IsReady, IsUnderway, Moves, is_access, is_load, is_store};
+
+use mk_geom::{Header, decode};
+use mk_never::Op;
+use mk_words::{Held, Pass, Words};
+
+/// Begins a call, unless the gate is held.
+#[inline(always)]
+pub(crate) fn enter(words: &Words, pass: &mut Pass, op: Op) -> Result<(), Held>
+    requires one_table { pass.old.table ≡ words.now }
+    requires ready { IsReady pass.old op }
+    ensures moves { OnOk result (Moves pass.old op (step.Enter op) (record { flight = begun op; answer = None }) pass.new) }
+    ensures held { OnErr result (FindsGateHeld pass.old op pass.new) }
+{
+    pass.is_in_order();
+    let entered = pass.enter(words, op);
+    pass.is_in_order();
+    entered
+}
+
+/// Ends a call.
+#[inline(always)]
+pub(crate) fn leave(words: &Words, pass: &mut Pass)
+    requires one_table { pass.old.table ≡ words.now }
+    requires underway { IsUnderway pass.old }
+    requires stage { (call_of pass.old).stage ≡ stage.Leave }
+    ensures moves { Moves pass.old (call_of pass.old).op step.Leave (record { flight = at_rest; answer = None }) pass.new }
+{
+    pass.is_in_order();
+    pass.leave(words);
+    pass.is_in_order();
+}
+
+/// Loads a register, which is 0 exactly where its value is null.
+#[inline(always)]
+pub(crate) fn load(words: &Words, pass: &mut Pass, r: u8) -> u64
+    requires one_table { pass.old.table ≡ words.now }
+    requires underway { IsUnderway pass.old }
+    requires stage { is_load (call_of pass.old).stage ≡ true }
+    requires register { r ≡ register_met (call_of pass.old) (call_of pass.old).stage }
+    ensures moves { Moves pass.old (call_of pass.old).op step.Reg (progress_reg (call_of pass.old) (call_of pass.old).stage result) pass.new }
+    ensures null { (result ≡ 0) ↔ (value_of pass.old r ≡ Null) }
+{
+    pass.is_in_order();
+    let value = pass.reg_load(words, r);
+    pass.is_in_order();
+    value
+}
+
+/// Stores to a register.
+#[inline(always)]
+pub(crate) fn store(words: &Words, pass: &mut Pass, r: u8, v: u64)
+    requires one_table { pass.old.table ≡ words.now }
+    requires underway { IsUnderway pass.old }
+    requires stage { is_store (call_of pass.old).stage ≡ true }
+    requires register { r ≡ register_met (call_of pass.old) (call_of pass.old).stage }
+    requires stores { reg_access (call_of pass.old) (call_of pass.old).stage ≡ Store v }
+    ensures moves { Moves pass.old (call_of pass.old).op step.Reg (progress_reg (call_of pass.old) (call_of pass.old).stage v) pass.new }
+{
+    pass.is_in_order();
+    pass.reg_store(words, r, v);
+    pass.is_in_order();
+}
+
+/// Loads the word that the call accesses.
+#[inline(always)]
+pub(crate) fn read(words: &Words, pass: &mut Pass, word: u64) -> u64
+    requires one_table { pass.old.table ≡ words.now }
+    requires underway { IsUnderway pass.old }
+    requires stage { (call_of pass.old).stage ≡ stage.Read }
+    requires access { is_access (call_of pass.old).op ≡ true }
+    requires word { word ≡ word_met (call_of pass.old) }
+    ensures moves { Moves pass.old (call_of pass.old).op step.Read (progress_read (call_of pass.old) (call_of pass.old).op result) pass.new }
+{
+    pass.is_in_order();
+    let value = pass.read(words, word);
+    pass.is_in_order();
+    value
+}
+
+/// Stores to the word that the call accesses.
+#[inline(always)]
+pub(crate) fn write(words: &Words, pass: &mut Pass, word: u64, v: u64)
+    requires one_table { pass.old.table ≡ words.now }
+    requires underway { IsUnderway pass.old }
+    requires stage { (call_of pass.old).stage ≡ stage.Write }
+    requires access { is_access (call_of pass.old).op ≡ true }
+    requires word { word ≡ word_met (call_of pass.old) }
+    requires value { v ≡ value_written (call_of pass.old) (call_of pass.old).op }
+    ensures moves { Moves pass.old (call_of pass.old).op step.Write (onward (call_of pass.old) (Some answer.Done)) pass.new }
+{
+    pass.is_in_order();
+    pass.write(words, word, v);
+    pass.is_in_order();
+}
+
+/// Exchanges the word that the call accesses, where it is as expected.
+#[inline(always)]
+pub(crate) fn cas(words: &Words, pass: &mut Pass, word: u64, expected: u64, new: u64) -> bool
+    requires one_table { pass.old.table ≡ words.now }
+    requires underway { IsUnderway pass.old }
+    requires stage { (call_of pass.old).stage ≡ stage.Cas }
+    requires access { is_access (call_of pass.old).op ≡ true }
+    requires word { word ≡ word_met (call_of pass.old) }
+    requires expected { expected ≡ (call_of pass.old).p }
+    requires new { new ≡ (call_of pass.old).r }
+    ensures moves { Moves pass.old (call_of pass.old).op step.Cas (onward (call_of pass.old) (Some (answer.Num (one_if result)))) pass.new }
+{
+    pass.is_in_order();
+    let exchanged = pass.cas(words, word, expected, new);
+    pass.is_in_order();
+    exchanged
+}
+
+/// Marks the page of the word that the call wrote.
+#[inline(always)]
+pub(crate) fn dirty(words: &Words, pass: &mut Pass, page: u64)
+    requires one_table { pass.old.table ≡ words.now }
+    requires underway { IsUnderway pass.old }
+    requires stage { (call_of pass.old).stage ≡ stage.Dirty }
+    requires page { page ≡ page_met (call_of pass.old) }
+    ensures moves { Moves pass.old (call_of pass.old).op step.Dirty (onward (call_of pass.old) None) pass.new }
+{
+    pass.is_in_order();
+    pass.dirty(words, page);
+    pass.is_in_order();
+}
+
+/// Loads the global of the call.
+#[inline(always)]
+pub(crate) fn global_load(words: &Words, pass: &mut Pass, g: u8) -> u64
+    requires one_table { pass.old.table ≡ words.now }
+    requires underway { IsUnderway pass.old }
+    requires stage { (call_of pass.old).stage ≡ stage.Getg }
+    requires global { g ≡ g_of (call_of pass.old).op }
+    ensures moves { Moves pass.old (call_of pass.old).op step.Getg (progress_getg (call_of pass.old) result) pass.new }
+{
+    pass.is_in_order();
+    let value = pass.global_load(words, g);
+    pass.is_in_order();
+    value
+}
+
+/// Stores to the global of the call.
+#[inline(always)]
+pub(crate) fn global_store(words: &Words, pass: &mut Pass, g: u8, v: u64)
+    requires one_table { pass.old.table ≡ words.now }
+    requires underway { IsUnderway pass.old }
+    requires stage { (call_of pass.old).stage ≡ stage.Setg }
+    requires global { g ≡ g_of (call_of pass.old).op }
+    requires value { v ≡ (call_of pass.old).p }
+    ensures moves { Moves pass.old (call_of pass.old).op step.Setg (onward (call_of pass.old) (Some answer.Done)) pass.new }
+{
+    pass.is_in_order();
+    pass.global_store(words, g, v);
+    pass.is_in_order();
+}
+
+/// Whether a header is that of a page of an unmapped run.
+#[inline(always)]
+fn is_unmapped(header: u64) -> bool
+    ensures { result ≡ is_unmapped_header (header_of header) }
+{
+    match decode(header) {
+        Some(Header::Run { pages: _, mapped }) => !mapped,
+        Some(
+            Header::Later {
+                distance: _,
+                mapped,
+            },
+        ) => !mapped,
+        _ => false,
+    }
+}
+
+/// Loads the header of the page of the word that the call accesses, through the value `u` and `i` words on. Answers the
+/// word, and none where its page is unmapped.
+#[inline(always)]
+pub(crate) fn probe(words: &Words, pass: &mut Pass, u: u64, i: u64) -> Option<u64>
+    requires one_table { pass.old.table ≡ words.now }
+    requires underway { IsUnderway pass.old }
+    requires stage { (call_of pass.old).stage ≡ stage.Probe }
+    requires access { is_access (call_of pass.old).op ≡ true }
+    requires value { u ≡ (call_of pass.old).q }
+    requires offset { i ≡ i_of (call_of pass.old).op }
+    ensures moves { IfSome result (λ word. Moves pass.old (call_of pass.old).op step.Probe (onward (call_of pass.old) None) pass.new) }
+    ensures word { IfSome result (λ word. word ≡ word_met (call_of pass.old)) }
+    ensures reached { IfSome result (λ word. ProbesAWord pass.old (call_of pass.old).op pass.new) }
+    ensures refused { IfNone result (Moves pass.old (call_of pass.old).op step.Probe (refused (call_of pass.old) answer.Fault) pass.new) }
+    ensures unmapped { IfNone result (Probes pass.old (call_of pass.old).op pass.new Unmapped) }
+{
+    pass.is_in_order();
+    words.is_within_limits();
+    let word = (u - 65536) / 8 + i;
+    let header = pass.probe(words, word / 64);
+    pass.is_in_order();
+    if is_unmapped(header) {
+        None
+    } else {
+        Some(word)
+    }
+}
+
+/// The value `i` words behind the value that the call has loaded.
+#[inline(always)]
+pub(crate) fn moved_on(words: &Words, pass: &Pass, u: u64, i: u64) -> u64
+    requires one_table { pass.now.table ≡ words.now }
+    requires underway { IsUnderway pass.now }
+    requires stage { (call_of pass.now).stage ≡ stage.Store }
+    requires access { is_access (call_of pass.now).op ≡ true }
+    requires loaded { has_q stage.Store (call_of pass.now).op ≡ true }
+    requires some { has_some_q stage.Store (call_of pass.now).op ≡ true }
+    requires value { u ≡ (call_of pass.now).q }
+    requires offset { i ≡ i_of (call_of pass.now).op }
+    ensures { result ≡ (u + 8 * i) % 2 ^ 64 }
+{
+    pass.is_in_order();
+    words.is_within_limits();
+    u + 8 * i
+}

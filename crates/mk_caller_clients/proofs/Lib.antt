@@ -1,0 +1,3 @@
+pub mod Globals
+pub mod Sameness
+pub mod Beginnings

@@ -1,0 +1,50 @@
+//! Small programs over the calls of a caller: what the contracts suffice for.
+#![tactic(auto)]
+
+ghost use Rattle.std.specs.Prelude.{◌≡◌, ◌≢◌, ◌<◌, IfOk, true, []};
+ghost use Rattle.mk_never.specs.declared.operations.Op.TheVariants as op;
+ghost use Rattle.mk_core.specs.declared.events.Seat.TheVariants.{Caller as OfCaller, Host};
+ghost use Rattle.mk_words.specs.Seats.{Has};
+ghost use Rattle.mk_caller.specs.States.{Admits};
+ghost use Rattle.mk_caller_clients.specs.Setters.{IsOnlySetter};
+
+use mk_caller::Caller;
+use mk_core::Seat;
+use mk_words::{Held, Pass, Words};
+
+/// A pointer that is moved to another register is the same there.
+pub fn moves_through_registers(caller: &mut Caller, d: u8, q: u8) -> Result<bool, Held>
+    requires home { caller.old.home ≡ true }
+    requires admitted { Admits caller.old.pass (op.Move d q) }
+    ensures { IfOk result (λ same. same ≡ true) }
+{
+    caller.move_ptr(d, q)?;
+    caller.same(d, q)
+}
+
+/// A pointer that is moved through a global is the same, where no other caller sets that global in between.
+pub fn moves_through_global(caller: &mut Caller, d: u8, g: u8, p: u8) -> Result<bool, Held>
+    requires home { caller.old.home ≡ true }
+    requires admitted { Admits caller.old.pass (op.SetGlobal g p) }
+    requires register { d < 8 }
+    requires another { d ≢ p }
+    ensures { IfOk result (λ same. IsOnlySetter caller.old.pass g p caller.new.pass → same ≡ true) }
+{
+    caller.set_global(g, p)?;
+    caller.get_global(d, g)?;
+    caller.same(p, d)
+}
+
+/// A caller's first call, of a heap that nobody has used: its register is null.
+pub fn first_register_is_null(words: &Words, host: &mut Pass) -> Result<bool, Held>
+    requires one_table { host.old.table ≡ words.now }
+    requires host { host.old.seat ≡ Host }
+    requires first { host.old.seen ≡ [] }
+    requires caller { Has host.old.seats (OfCaller 0) }
+    ensures { IfOk result (λ null. null ≡ true) }
+{
+    words.is_within_limits();
+    let pass = Words::split(words, host, Seat::Caller(0));
+    let mut caller = Caller::new(words, pass);
+    caller.is_null(0)
+}
