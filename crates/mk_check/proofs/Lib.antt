@@ -23,3 +23,5 @@ pub mod DeclaredRegisters
 pub mod AdmittedLines
 pub mod TypedScripts
 pub mod AdmittedScripts
+mod DecidedStages
+pub mod GivenAnswers
