@@ -1,7 +1,7 @@
 -- What a script was given behind a history, with one event more.
 use Rattle.std.proofs.Common.{◌≡◌, ◌≢◌, ℕ, zero, suc, ◌+◌, ◌<◌, ◌≤◌, eq-eqb, Bool, true, false, List, [], ◌∷◌, ◌++◌, length, take, map, slice_set, get_or, set, replicate, refl, sym, ◌∙◌, ap, subst, append-nil, append_assoc, arith, inl, inr}
 use Rattle.std.specs.Prelude.{Option, Some, None, if◌then◌else◌, ◌==◌, ◌&&◌, count_by, filter}
-use Rattle.std.specs.List.{slice_get}
+use Rattle.std.specs.List.{slice_get, cons_option}
 use Rattle.std.specs.Option.{option_or}
 use Rattle.std.proofs.lemmas.Bool.{cases_eq, ltb-true}
 use Rattle.std.proofs.lemmas.Bool.Decides.{nat_tests}
@@ -35,8 +35,7 @@ use Rattle.mk_check.specs.Output.{ends_call, ends_call_of, ended_calls, answers_
 use Rattle.mk_check.proofs.DecidedStages.{has_stage, pending, count, Goes, goes, ends}
 
 abbrev pub as_list : Option Answer → List Answer
-as_list (Some a) = a ∷ []
-as_list None = []
+as_list a = cons_option a []
 
 abbrev pub one_if : Bool → ℕ
 one_if true = 1

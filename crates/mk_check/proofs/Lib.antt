@@ -25,3 +25,4 @@ pub mod TypedScripts
 pub mod AdmittedScripts
 mod DecidedStages
 pub mod GivenAnswers
+pub mod WrittenLines

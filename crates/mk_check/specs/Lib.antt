@@ -14,3 +14,4 @@ pub mod Output
 pub mod Steps
 pub mod Trees
 pub mod Typing
+pub mod WrittenBlocks

@@ -2,7 +2,8 @@
 ghost use Rattle.std.specs.Prelude.{◌≡◌, ◌<◌, ◌+◌, ℕ, [], ◌∷◌, length, count_by, IfOk, OnOk, None};
 ghost use Rattle.mk_script.specs.Grammar.{IsOfSomeText};
 ghost use Rattle.mk_script.specs.Scopes.{script_names};
-ghost use Rattle.mk_replay.specs.Replays.{is_refusal, newer, config_of, IsTextOf};
+ghost use Rattle.mk_check.specs.Declarations.{config_of};
+ghost use Rattle.mk_replay.specs.Replays.{is_refusal, IsTextOf};
 ghost use Rattle.mk_replay.specs.Players.{Served, served, IsPlayerOf, TakesAnswer, TakesStep, FeedsOn, HasRoom};
 
 use mk_check::{Feed, Text};
@@ -28,12 +29,6 @@ fn is_refusal(answer: Answer) -> bool
         answer,
         Answer::Full | Answer::Fault | Answer::Null | Answer::Double
     )
-}
-
-fn newer(decided: Option<Answer>, kept: Option<Answer>) -> Option<Answer>
-    ensures { result ≡ newer decided kept }
-{
-    decided.or(kept)
 }
 
 /// Answers a script's operation; one that has ended takes none.
@@ -96,7 +91,7 @@ impl Player {
         requires { HasRoom self.old }
         ensures { OnOk result (TakesStep is_last decided self.old self.new) }
     {
-        let kept = newer(decided, self.kept);
+        let kept = decided.or(self.kept);
         if !is_last {
             self.kept = kept;
             return Ok(());
@@ -111,7 +106,7 @@ impl Player {
     /// Its text so far.
     pub(crate) fn text(&self, alloc: Global) -> Result<Text, NoMemory>
         ensures { (program : List Item) (es : List Event) (k : ℕ)
-            → IsPlayerOf program k (served (config_of program) es k) self.now
+            → IsPlayerOf program k (served (config_of program 8) es k) self.now
             → IfOk result (λ t. IsTextOf program es k t.bytes.items t.ops t.refused) }
     {
         let Ok(bytes) = self.feed.text().to_vec(alloc) else {

@@ -1,8 +1,10 @@
 pub mod CanonicalLines
+pub mod ClosedBlocks
 pub mod PrintedFields
 pub mod PrintedForms
 pub mod LineWords
 pub mod LinesAgain
+pub mod PassedLines
 pub mod PrintedNumbers
 pub mod RoundTrip
 pub mod Said
