@@ -1,5 +1,5 @@
 -- A caller's call is decided once, before its last step.
-use Rattle.std.proofs.Common.{◌≡◌, ℕ, ◌+◌, Bool, true, false, refl, sym, ◌∙◌, ap, subst}
+use Rattle.std.proofs.Common.{◌≡◌, ℕ, ◌+◌, Bool, true, false, refl, sym, ◌∙◌, ap, subst, arith}
 use Rattle.std.specs.Prelude.{Option, Some, None, if◌then◌else◌, ◌==◌, ◌&&◌}
 use Rattle.std.specs.List.{list_any}
 use Rattle.std.proofs.lemmas.Bool.{and_parts}
@@ -60,7 +60,7 @@ either true f x y h k = h
 either false f x y h k = k
 
 still_goes : (s : Stage) (o : Op) (q p r l : ℕ) → has_stage o s ≡ true → Goes (flight s o q p r l) (still (flight s o q p r l))
-still_goes s o q p r l h = record { stage = h; pending = cc }
+still_goes s o q p r l h = record { stage = h; pending = omega arith }
 
 -- the next stage
 
@@ -85,9 +85,14 @@ decides stage.LoadP (op.IsNull p) = 1
 decides _ o = 0
 
 next_stage : (s : Stage) (o : Op) → has_stage o s ≡ true → has_stage o (stage_behind s (steps_of o)) ≡ true
+next_stage stage.Idle (op.Free p) h = cc
+next_stage stage.Idle _ h = cc
+next_stage _ (op.Free p) h = cc
 next_stage _ _ h = cc
 
 next_pending : (s : Stage) (o : Op) → goes_on s ≡ true → has_stage o s ≡ true → pending (stage_behind s (steps_of o)) ≡ pending s + decides s o
+next_pending stage.Idle _ g h = cc
+next_pending _ (op.Free p) g h = cc
 next_pending _ _ g h = cc
 
 onward_goes : (s : Stage) (o : Op) (q p r l q' p' r' l' : ℕ) (a : Option Answer) → goes_on s ≡ true → has_stage o s ≡ true → count a ≡ decides s o
@@ -100,9 +105,13 @@ may_refuse stage.Probe = true
 may_refuse _ = false
 
 refused_stage : (s : Stage) (o : Op) → may_refuse s ≡ true → has_stage o s ≡ true → has_stage o (stage_refused o) ≡ true
+refused_stage stage.Idle _ m h = cc
+refused_stage _ (op.Free p) m h = cc
 refused_stage _ _ m h = cc
 
 refused_pending : (s : Stage) (o : Op) → may_refuse s ≡ true → pending (stage_refused o) ≡ pending s + 1
+refused_pending stage.Idle _ m = cc
+refused_pending _ (op.Free p) m = cc
 refused_pending _ _ m = cc
 
 refused_goes : (s : Stage) (o : Op) (q p r l q' p' r' l' : ℕ) (a : Answer) → may_refuse s ≡ true → has_stage o s ≡ true
@@ -125,6 +134,7 @@ p_goes o q p r l found h = onward_goes stage.LoadP o q p r l q found r l None re
 
 -- behind a `put` comes `leave`
 leave_stage : (o : Op) → has_stage o stage.Put ≡ true → has_stage o stage.Leave ≡ true
+leave_stage (op.Free p) h = cc
 leave_stage _ h = cc
 
 reg_goes : (s : Stage) (o : Op) (q p r l found : ℕ) → has_stage o s ≡ true → comes_next s o step.Reg ≡ true
@@ -163,6 +173,7 @@ has_stage_of_its_own step.Dirty = true
 has_stage_of_its_own _ = false
 
 not_holders : (x : Step) → has_stage_of_its_own x ≡ true → is_of_any_holder x ≡ true → ⊥
+not_holders step.Leave k h = cc
 not_holders _ k h = cc
 
 not_deciding : (o : Op) (x : Step) → has_stage_of_its_own x ≡ true → may_decide o x ≡ true → ⊥
@@ -173,9 +184,12 @@ not_deciding o x k h = not_holders x k h
 own_stage : (s : Stage) (o : Op) (x : Step) → has_stage_of_its_own x ≡ true → comes_next s o x ≡ true → s ≡ stage_of x
 own_stage stage.Turn o x k h = absurd (not_deciding o x k h)
 own_stage stage.Give o x k h = absurd (not_holders x k h)
+own_stage stage.Idle o (step.Enter y) k h = refl
+own_stage _ o (step.Enter y) k h = cc
 own_stage _ o _ k h = cc
 
 begun_goes : (o y : Op) (q p r l : ℕ) → Goes (flight stage.Idle o q p r l) (record { flight = begun y; answer = None })
+begun_goes o (op.Free p') q p r l = record { stage = refl; pending = refl }
 begun_goes o _ q p r l = record { stage = refl; pending = refl }
 
 probe_goes : (o : Op) (q p r l : ℕ) (b : Bool) → has_stage o stage.Probe ≡ true
@@ -190,12 +204,14 @@ read_goes o q p r l found h = onward_goes stage.Read o q p r l q p r l _ refl h 
 -- the turn's steps
 
 give_stage : (o : Op) → has_stage o stage.Turn ≡ true → has_stage o stage.Give ≡ true
+give_stage (op.Free p) h = refl
 give_stage _ h = cc
 
 decided_goes : (o : Op) (q p r l : ℕ) (a : Answer) → has_stage o stage.Turn ≡ true → Goes (flight stage.Turn o q p r l) (decided (flight stage.Turn o q p r l) a)
 decided_goes o q p r l a h = record { stage = give_stage o h; pending = refl }
 
 sees_none : (w : Words) (x : Word) → sees_double w None x ≡ false
+sees_none w (word.Quar p) = refl
 sees_none w _ = refl
 
 look_goes : (s : Stage) (o : Op) (q p r l : ℕ) (c : Config) (w : Words) (x : Word) → has_stage o s ≡ true → comes_next s o (step.Look x) ≡ true
@@ -232,7 +248,7 @@ fulls_at_turn : (s : Stage) (o : Op) → comes_next s o step.Full ≡ true → s
 fulls_at_turn stage.Turn o n = refl
 fulls_at_turn _ o n = cc
 
-At : Config → Moment → Op → ℕ → ℕ → ℕ → ℕ → ℕ → Step → Stage → Type 0
+abbrev pub At : Config → Moment → Op → ℕ → ℕ → ℕ → ℕ → ℕ → Step → Stage → Type 0
 At c m o q p r l found x s = Goes (flight s o q p r l) (progress c m (flight s o q p r l) found x)
 
 own : (c : Config) (m : Moment) (s : Stage) (o : Op) (q p r l found : ℕ) (x : Step) → has_stage_of_its_own x ≡ true

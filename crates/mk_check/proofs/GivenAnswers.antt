@@ -19,6 +19,7 @@ use Rattle.mk_core.specs.declared.events.Step.{Step}
 use Rattle.mk_core.specs.declared.events.Step.TheVariants as step
 use Rattle.mk_core.specs.declared.events.Event.{Event}
 use Rattle.mk_core.specs.declared.seats.Stage.{Stage}
+use Rattle.mk_core.specs.declared.seats.Stage.TheVariants as stage
 use Rattle.mk_core.specs.declared.seats.Flight.{Flight}
 use Rattle.mk_core.specs.declared.seats.Progress.{Progress}
 use Rattle.mk_core.specs.Calls.{at_rest}
@@ -31,27 +32,27 @@ use Rattle.mk_core.specs.Moments.{Moment, flight_of}
 use Rattle.mk_core.specs.History.{World, first_world, world_behind, left_from, left, AreEnabledFrom, AreEnabled, call_decided, calls_from, calls}
 use Rattle.mk_core.proofs.Conditions.{enabled_meets}
 use Rattle.mk_core.proofs.Histories.{calls_more, enabled_parts, last_enabled}
-use Rattle.mk_check.specs.Output.{ends_call, ends_call_of, ended_calls, answers_among, answers_given, answer_waiting}
+use Rattle.mk_check.specs.Output.{ends_call, ends_call_of, ended_calls, answers_among, answers_given, answer_waiting, EndedCallsAreAnswered}
 use Rattle.mk_check.proofs.DecidedStages.{has_stage, pending, count, Goes, goes, ends}
 
 abbrev pub as_list : Option Answer → List Answer
 as_list a = cons_option a []
 
-abbrev pub one_if : Bool → ℕ
-one_if true = 1
-one_if false = 0
+-- a count that goes up by 1, or doesn't
+abbrev pub counted : ℕ → Bool → ℕ
+counted n b = if b then n + 1 else n
 
 -- the calls of caller k so far: how many of them have ended, and the answers of those that are decided
 pub record Serves (callers : ℕ) (flights : List Flight) (k n : ℕ) (answers : List Answer) : Type 0 where
-  pub flights : length flights ≡ callers
+  pub long : length flights ≡ callers
   pub stage : has_stage (get_or flights k at_rest).op (get_or flights k at_rest).stage ≡ true
-  pub answers : length answers ≡ n + pending (get_or flights k at_rest).stage
+  pub decided : length answers ≡ n + pending (get_or flights k at_rest).stage
 
 -- the same behind an event, which is caller k's or another's, and may be its call's last one
-pub record ServesMore (callers : ℕ) (new : List Flight) (k n : ℕ) (answers : List Answer) (decided : Option Answer) (mine last : Bool) : Type 0 where
-  pub serves : Serves callers new k (n + one_if (mine && last)) (answers ++ (if mine then as_list decided else []))
+pub record ServesMore (callers : ℕ) (new : List Flight) (k n : ℕ) (answers : List Answer) (decided : Option Answer) (mine is_last : Bool) : Type 0 where
+  pub serves : Serves callers new k (counted n (mine && is_last)) (answers ++ (if mine then as_list decided else []))
   -- at the last step an answer is decided, which no step decides anew
-  pub last : (mine && last) ≡ true → (decided ≡ None) × (length answers ≡ n + 1)
+  pub last : (mine && is_last) ≡ true → (decided ≡ None) × (length answers ≡ n + 1)
   pub once : (a : Answer) → mine ≡ true → decided ≡ Some a → length answers ≡ n
   pub few : n ≤ length answers
 
@@ -83,6 +84,7 @@ last_rests c m f found step.Give h = refl
 last_rests c m f found _ h = cc
 
 few_pending : (s : Stage) → pending s ≤ 1
+few_pending stage.Put = omega arith
 few_pending _ = omega arith
 
 pending_behind : (n p p' k : ℕ) (a : Option Answer) → k ≡ n + p → p' ≡ p + count a → k + length (as_list a) ≡ n + p'
@@ -95,9 +97,9 @@ none_before a b p p' is few h = let e : count b ≡ 1 = ap count is in omega ari
 serves_at : (callers : ℕ) (flights : List Flight) (k n : ℕ) (answers : List Answer) (f : Flight) → get_or flights k at_rest ≡ f
     → length flights ≡ callers → has_stage f.op f.stage ≡ true → length answers ≡ n + pending f.stage → Serves callers flights k n answers
 serves_at callers flights k n answers f is long stage answered = record {
-  flights = long;
+  long = long;
   stage = subst (λ (g : Flight). has_stage g.op g.stage ≡ true) (sym is) stage;
-  answers = subst (λ (g : Flight). length answers ≡ n + pending g.stage) (sym is) answered;
+  decided = subst (λ (g : Flight). length answers ≡ n + pending g.stage) (sym is) answered;
 }
 
 -- a step of caller k's that isn't its call's last one
@@ -106,13 +108,13 @@ goes_more : (callers : ℕ) (flights : List Flight) (k n : ℕ) (answers : List 
 goes_more callers flights k n answers p lt h g =
     let was = pending (get_or flights k at_rest).stage in
     let total = length-append answers (as_list p.answer) in
-    let behind = pending_behind n was (pending p.flight.stage) (length answers) p.answer h.answers g.pending in
-    let a = h.answers in
-    let long = h.flights in
+    let behind = pending_behind n was (pending p.flight.stage) (length answers) p.answer h.decided g.pending in
+    let a = h.decided in
+    let long = h.long in
     record {
       serves =
-          serves_at callers (set flights k p.flight) k (n + 0) (answers ++ as_list p.answer) p.flight
-          (get_or-set_same flights k p.flight at_rest (omega arith)) (length-set flights k p.flight ∙ h.flights) g.stage (omega arith);
+          serves_at callers (set flights k p.flight) k n (answers ++ as_list p.answer) p.flight
+          (get_or-set_same flights k p.flight at_rest (omega arith)) (length-set flights k p.flight ∙ h.long) g.stage (omega arith);
       last = λ e. cc;
       once = λ b _ e. (let none = none_before b p.answer was (pending p.flight.stage) e (few_pending p.flight.stage) g.pending in omega arith);
       few = omega arith;
@@ -123,15 +125,15 @@ ends_more : (callers : ℕ) (flights : List Flight) (k n : ℕ) (answers : List 
     → Serves callers flights k n answers → pending (get_or flights k at_rest).stage ≡ 1 → p ≡ record { flight = at_rest; answer = None }
     → ServesMore callers (set flights k p.flight) k n answers p.answer true true
 ends_more callers flights k n answers p lt h one is =
-    let a = h.answers in
-    let long = h.flights in
+    let a = h.decided in
+    let long = h.long in
     let none : p.answer ≡ None = ap (λ (x : Progress). x.answer) is in
     let rests : get_or (set flights k p.flight) k at_rest ≡ at_rest =
     get_or-set_same flights k p.flight at_rest (omega arith) ∙ ap (λ (x : Progress). x.flight) is in
     let more : answers ++ as_list p.answer ≡ answers = ap (λ (x : Option Answer). answers ++ as_list x) none ∙ append-nil answers in
     record {
       serves =
-          serves_at callers (set flights k p.flight) k (n + 1) (answers ++ as_list p.answer) at_rest rests (length-set flights k p.flight ∙ h.flights) refl
+          serves_at callers (set flights k p.flight) k (n + 1) (answers ++ as_list p.answer) at_rest rests (length-set flights k p.flight ∙ h.long) refl
           (ap length more ∙ omega arith);
       last = λ _. (none, omega arith);
       once = λ b _ e. (let never = sym none ∙ e in cc);
@@ -143,9 +145,9 @@ others_more : (callers : ℕ) (flights new : List Flight) (k n : ℕ) (answers :
     → get_or new k at_rest ≡ get_or flights k at_rest → length new ≡ length flights
     → Serves callers flights k n answers → ServesMore callers new k n answers decided false last
 others_more callers flights new k n answers decided last same long h =
-    let a = h.answers in record {
+    let a = h.decided in record {
       serves =
-          serves_at callers new k (n + 0) (answers ++ []) (get_or flights k at_rest) same (long ∙ h.flights) h.stage
+          serves_at callers new k n (answers ++ []) (get_or flights k at_rest) same (long ∙ h.long) h.stage
           (ap length (append-nil answers) ∙ omega arith);
       last = λ e. cc;
       once = λ b e. cc;
@@ -153,7 +155,7 @@ others_more callers flights new k n answers decided last same long h =
     }
 
 -- what an event makes of them
-Behind : Config → Moment → Seat → Step → ℕ → ℕ → List Answer → Type 0
+abbrev Behind : Config → Moment → Seat → Step → ℕ → ℕ → List Answer → Type 0
 Behind c m seat x k n answers =
     let e : Event = record { seat = seat; step = x } in
     ServesMore c.callers (flights_behind c m seat (found c m e) x) k n answers (answer_decided c m e) (is_same_seat (Caller k) seat) (ends_call x)
@@ -204,6 +206,10 @@ event_among c m k (Caller j) x =
 event_among c m k (Marker j) x = refl
 event_among c m k Host x = refl
 
+counts_more : (n : ℕ) (b : Bool) → n + (if b then 1 else 0) ≡ counted n b
+counts_more n true = refl
+counts_more n false = omega arith
+
 serves_from : (c : Config) (w : World) (k n : ℕ) (answers : List Answer) (es : List Event) → AreEnabledFrom c w es
     → Serves c.callers w.now.seats.flights k n answers
     → Serves c.callers (left_from c w es).now.seats.flights k (n + ended_calls k es) (answers ++ answers_among k (calls_from c w es))
@@ -217,8 +223,9 @@ serves_from c w k n answers (e ∷ es) en h =
     let ih = serves_from c next k _ _ es en.1 step in
     let rest = answers_among k (calls_from c next es) in
     let more = if is_same_seat (Caller k) e.seat then as_list (answer_decided c w.now e) else [] in
-    let ended : n + one_if (ends_call_of k e) + ended_calls k es ≡ n + ended_calls k (e ∷ es) =
-    (let cons = sum_by-cons (λ (x : Event). if ends_call_of k x then 1 else 0) e es in omega arith) in
+    let ended : counted n (ends_call_of k e) + ended_calls k es ≡ n + ended_calls k (e ∷ es) =
+    ap (λ (i : ℕ). i + ended_calls k es) (sym (counts_more n (ends_call_of k e)))
+    ∙ (let cons = sum_by-cons (λ (x : Event). if ends_call_of k x then 1 else 0) e es in omega arith) in
     let all : (answers ++ more) ++ rest ≡ answers ++ answers_among k (call_decided c w.now e ++ calls_from c next es) =
     append_assoc answers more rest
     ∙ ap (λ (xs : List Answer). answers ++ xs) (ap (λ (xs : List Answer). xs ++ rest) (sym (event_among c w.now k e.seat e.step)) ∙ sym (among_more k (call_decided c w.now e) (calls_from c next es))) in
@@ -233,8 +240,9 @@ first_flight (suc callers) (suc k) = first_flight callers k
 pub serves : (c : Config) (es : List Event) (k : ℕ) → AreEnabled c es
     → Serves c.callers (left c es).now.seats.flights k (ended_calls k es) (answers_among k (calls c es))
 serves c es k h =
-    serves_from c (first_world c) k 0 [] es h
-    (serves_at c.callers (replicate c.callers at_rest) k 0 [] at_rest (first_flight c.callers k) (length-replicate c.callers at_rest) refl refl)
+    subst (λ (n : ℕ). Serves c.callers (left c es).now.seats.flights k n (answers_among k (calls c es))) (omega arith)
+    (serves_from c (first_world c) k 0 [] es h
+    (serves_at c.callers (replicate c.callers at_rest) k 0 [] at_rest (first_flight c.callers k) (length-replicate c.callers at_rest) refl refl))
 
 -- one event more: what is given, and what waits for its call's last step
 
@@ -250,7 +258,7 @@ last_of (a ∷ answers) n b h = rw (sym h) (last_of answers (length answers) b r
 
 given_case : (answers : List Answer) (n : ℕ) (a : Option Answer) (mine last : Bool) → n ≤ length answers
     → ((mine && last) ≡ true → (a ≡ None) × (length answers ≡ n + 1))
-    → take (n + one_if (mine && last)) (answers ++ (if mine then as_list a else [])) ≡ take n answers ++ given_by mine last a (slice_get answers n)
+    → take (counted n (mine && last)) (answers ++ (if mine then as_list a else [])) ≡ take n answers ++ given_by mine last a (slice_get answers n)
 given_case answers n a true true few l =
     let lt : n < length answers = (let e = (l refl).1 in omega arith) in
     let waits = slice_get-get_or answers n answer.Done lt in
@@ -261,7 +269,7 @@ given_case answers n a false last few l = ap (take n) (append-nil answers) ∙ s
 waiting_case : (answers : List Answer) (n : ℕ) (a : Option Answer) (mine last : Bool)
     → ((mine && last) ≡ true → (a ≡ None) × (length answers ≡ n + 1))
     → ((b : Answer) → mine ≡ true → a ≡ Some b → length answers ≡ n)
-    → slice_get (answers ++ (if mine then as_list a else [])) (n + one_if (mine && last)) ≡ waiting_by mine last a (slice_get answers n)
+    → slice_get (answers ++ (if mine then as_list a else [])) (counted n (mine && last)) ≡ waiting_by mine last a (slice_get answers n)
 waiting_case answers n a true true l o =
     rw ((l refl).0, append-nil answers) (slice_get_past answers (n + 1) (let e = (l refl).1 in omega arith))
 waiting_case answers n (Some b) true false l o = last_of answers n b (o b refl refl)
@@ -277,8 +285,8 @@ more_answers c es e k =
     ∙ (among_more k (calls c es) (call_decided c (left c es).now e)
     ∙ ap (λ (xs : List Answer). answers_among k (calls c es) ++ xs) (event_among c (left c es).now k e.seat e.step))
 
-more_ended : (es : List Event) (e : Event) (k : ℕ) → ended_calls k (es ++ e ∷ []) ≡ ended_calls k es + one_if (ends_call_of k e)
-more_ended es e k = sum_by_push (λ (x : Event). if ends_call_of k x then 1 else 0) es e
+more_ended : (es : List Event) (e : Event) (k : ℕ) → ended_calls k (es ++ e ∷ []) ≡ counted (ended_calls k es) (ends_call_of k e)
+more_ended es e k = sum_by_push (λ (x : Event). if ends_call_of k x then 1 else 0) es e ∙ counts_more (ended_calls k es) (ends_call_of k e)
 
 step_of : (c : Config) (es : List Event) (e : Event) (k : ℕ) → AreEnabled c (es ++ e ∷ [])
     → Behind c (left c es).now e.seat e.step k (ended_calls k es) (answers_among k (calls c es))
@@ -308,4 +316,11 @@ pub few_answers : (c : Config) (es : List Event) (k : ℕ) → length (answers_g
 few_answers c es k =
     let t = length-take (ended_calls k es) (answers_among k (calls c es)) in
     let n = count_by-le-length (ends_call_of k) es in
+    omega arith
+
+pub ended_calls_are_answered : EndedCallsAreAnswered
+ended_calls_are_answered c es k h =
+    let s = serves c es k h in
+    let a = s.decided in
+    let t = length-take (ended_calls k es) (answers_among k (calls c es)) in
     omega arith

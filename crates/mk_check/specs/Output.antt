@@ -1,5 +1,5 @@
 -- What a program's scripts print of a history: each is fed with the answers of its calls that ended.
-use Rattle.std.specs.Prelude.{ℕ, Bool, true, false, ◌&&◌, ◌==◌, List, length, map, filter, take, count_by, slice_get, Option}
+use Rattle.std.specs.Prelude.{◌≡◌, ℕ, Bool, true, false, ◌&&◌, ◌==◌, List, length, map, filter, take, count_by, slice_get, Option}
 use Rattle.std.specs.List.{flat_map, range_with_len}
 use Rattle.mk_core.specs.declared.config.Config.{Config}
 use Rattle.mk_core.specs.declared.events.Seat.TheVariants.{Caller}
@@ -9,7 +9,7 @@ use Rattle.mk_core.specs.declared.events.Event.{Event}
 use Rattle.mk_core.specs.declared.events.Answer.{Answer}
 use Rattle.mk_core.specs.Decided.{Decided}
 use Rattle.mk_core.specs.Growing.{is_same_seat}
-use Rattle.mk_core.specs.History.{calls}
+use Rattle.mk_core.specs.History.{calls, AreEnabled}
 use Rattle.mk_script.specs.declared.items.Item.{Item}
 use Rattle.mk_script.specs.Scopes.{script_names}
 use Rattle.mk_check.specs.Feed.{feed}
@@ -46,3 +46,7 @@ text_behind program c es k = (feed program k (answers_given c es k)).text
 -- all that the scripts print: their texts, one behind the other
 abbrev pub output : List Item → Config → List Event → List ℕ
 output program c es = flat_map (text_behind program c es) (range_with_len 0 (length (script_names program)))
+
+-- Behind each enabled list, each call that ended has its answer.
+abbrev pub EndedCallsAreAnswered : Type 0
+EndedCallsAreAnswered = (c : Config) (es : List Event) (k : ℕ) → AreEnabled c es → length (answers_given c es k) ≡ ended_calls k es
