@@ -26,7 +26,7 @@ pub fn run_script(alloc: Global, checked: &Checked) -> Result<Vec<u8>, NoMemory>
     ensures { IfOk result (λ text. IsRunText checked.now text.items) }
 {
     let mut plain = plain_heap(alloc, checked)?;
-    let mut feed = Feed::start(alloc, checked.program().items(), 0)?;
+    let mut feed = Feed::start(alloc, checked, 0)?;
     while let Some(op) = feed.op() {
         let answer = plain.apply(op);
         feed.answer(alloc, answer)?;

@@ -1,15 +1,13 @@
 //! A script that takes part in a run.
 ghost use Rattle.std.specs.Prelude.{◌≡◌, ◌<◌, ◌+◌, ℕ, [], ◌∷◌, length, count_by, IfOk, OnOk, None};
-ghost use Rattle.mk_script.specs.Grammar.{IsOfSomeText};
-ghost use Rattle.mk_script.specs.Scopes.{script_names};
+ghost use Rattle.mk_check.specs.Laws.{IsScript};
 ghost use Rattle.mk_check.specs.Declarations.{config_of};
 ghost use Rattle.mk_replay.specs.Replays.{is_refusal, IsTextOf};
 ghost use Rattle.mk_replay.specs.Players.{Served, served, IsPlayerOf, TakesAnswer, TakesStep, FeedsOn, HasRoom};
 
-use mk_check::{Feed, Text};
+use mk_check::{Checked, Feed, Text};
 use mk_core::Answer;
 use mk_never::NoMemory;
-use mk_script::Item;
 use std::alloc::Global;
 
 /// A script, the answer that was decided in its call in flight, and the counts of its answers and of
@@ -47,9 +45,8 @@ impl Player {
     ghost use Rattle.mk_script.specs.declared.items.Item.{Item};
 
     /// Script `script` of a program, before its first answer.
-    pub(crate) fn start(alloc: Global, program: &[Item], script: u64) -> Result<Player, NoMemory>
-        requires exists { script < length (script_names program.now) }
-        requires text { IsOfSomeText program.now }
+    pub(crate) fn start(alloc: Global, program: &Checked, script: u64) -> Result<Player, NoMemory>
+        requires { IsScript program.now script }
         ensures { IfOk result (IsPlayerOf program.now script (record { answers = []; kept = None })) }
     {
         Ok(Player {
