@@ -156,7 +156,8 @@ config_within program markers lines typed few =
     }
 
 -- a configuration that has what the program declares
-pub config_is : (program : List Item) (config : Config) (markers : ℕ)
-    → config.pages ≡ pages_of program → config.resident ≡ resident_of program → config.callers ≡ length (script_names program) → config.markers ≡ markers
-    → config.types ≡ types_of program → config.globals ≡ globals_of program → config ≡ config_of program markers
-config_is program config markers pages resident callers markers' types globals = cc
+pub config_is : (program : List Item) (pages resident callers markers : ℕ) (types : List (List Kind)) (globals : List ℕ)
+    → pages ≡ pages_of program → resident ≡ resident_of program → callers ≡ length (script_names program)
+    → types ≡ types_of program → globals ≡ globals_of program
+    → ◌≡◌ {A = Config} (record { pages = pages; resident = resident; callers = callers; markers = markers; types = types; globals = globals }) (config_of program markers)
+config_is program pages resident callers markers types globals p r c t g = cc

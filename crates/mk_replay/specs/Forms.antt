@@ -112,10 +112,6 @@ with_table_word (Some f) ws = on_ok f (table_word ws)
 abbrev pub tally_form : List ℕ → List ℕ → Result Form TextKind
 tally_form n v = both (λ t value. form.Tally t value) (or_word (among tallies n)) (number v)
 
-abbrev pub or_else_form : Option (List ℕ → Result Form TextKind) → Result Form TextKind → List ℕ → Result Form TextKind
-or_else_form None other w = other
-or_else_form (Some f) other w = f w
-
 -- an event of two numbers, a tally or a word of one number
 abbrev pub two_operands : List ℕ → List ℕ → List ℕ → Result Form TextKind
 two_operands a v w =

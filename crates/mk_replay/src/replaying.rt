@@ -53,7 +53,7 @@ fn players(alloc: Global, program: &Checked) -> Result<Vec<Player>, NoMemory>
 {
     let mut players = Vec::new(alloc);
     for script in 0..program.scripts() {
-        let player = Player::start(alloc, program.program().items(), script)?;
+        let player = Player::start(alloc, program, script)?;
         let Ok(()) = players.push(player) else {
             return Err(NoMemory);
         };

@@ -11,6 +11,7 @@ pub mod Said
 pub mod Spacing
 mod Converted
 mod Digits
+mod Ends
 mod FirstPlace
 mod LastPiece
 mod NamesSoFar

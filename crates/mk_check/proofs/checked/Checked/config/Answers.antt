@@ -1,5 +1,4 @@
-use Rattle.std.proofs.Common.{◌≡◌, ap, sym, ◌∙◌, length, refl, subst}
-use Rattle.mk_core.specs.declared.config.Config.{Config}
+use Rattle.std.proofs.Common.{◌≡◌, ap, sym, ◌∙◌, length, subst}
 use Rattle.mk_core.specs.Config.{IsWithinLimits}
 use Rattle.mk_script.specs.Scopes.{script_names}
 use Rattle.mk_script.proofs.PassedLines.{is_whole}
@@ -7,7 +6,6 @@ use Rattle.mk_check.specs.Declarations.{pages_of, resident_of, types_of, globals
 use Rattle.mk_check.proofs.ConfigLemmas.{config_within, config_is}
 use Rattle.mk_check.proofs.GrammarLemmas.{length-global_names}
 use Rattle.mk_check.proofs.checked.Checked.config.Goals as goal
-use Rattle.mk_check.proofs.checked.Checked.config.Goals.{In_ok-globals}
 
 pub globals-requires : goal.globals-requires
 globals-requires c =
@@ -19,11 +17,11 @@ pub returns-clause-config : goal.returns-clause-config
 returns-clause-config c =
     let same = c.items-items.ensures.items in
     let numbers = c.in_ok-numbers.ensures ∙ same in
-    subst (λ p. _ ≡ config_of p c.args.markers) c.self.view_is
-    (config_is c.self.inside.program _ c.args.markers
+    config_is c.self.inside.program _ _ _ c.args.markers _ _
     (c.heap_pages-heap.ensures.pages ∙ ap pages_of same) (c.heap_pages-heap.ensures.resident ∙ ap resident_of same)
-    (c.scripts.ensures ∙ ap (λ items. length (script_names items)) (sym c.self.view_is)) refl
-    (c.in_ok-types.ensures ∙ ap types_of numbers) (c.in_ok-globals.ensures ∙ ap globals_of numbers))
+    (c.scripts.ensures ∙ ap (λ items. length (script_names items)) (sym c.self.view_is))
+    (c.in_ok-types.ensures ∙ ap types_of numbers) (c.in_ok-globals.ensures ∙ ap globals_of numbers)
+    ∙ ap (λ items. config_of items c.args.markers) c.self.view_is
 
 pub returns-clause-within_limits : goal.returns-clause-within_limits
 returns-clause-within_limits c =
@@ -31,8 +29,8 @@ returns-clause-within_limits c =
     let same = c.items-items.ensures.items in
     let numbers = c.in_ok-numbers.ensures ∙ same in
     subst IsWithinLimits
-    (sym (config_is program _ c.args.markers
+    (sym (config_is program _ _ _ c.args.markers _ _
     (c.heap_pages-heap.ensures.pages ∙ ap pages_of same) (c.heap_pages-heap.ensures.resident ∙ ap resident_of same)
-    (c.scripts.ensures ∙ ap (λ items. length (script_names items)) (sym c.self.view_is)) refl
+    (c.scripts.ensures ∙ ap (λ items. length (script_names items)) (sym c.self.view_is))
     (c.in_ok-types.ensures ∙ ap types_of numbers) (c.in_ok-globals.ensures ∙ ap globals_of numbers)))
     (config_within program c.args.markers (is_whole program c.items-items.ensures.of_some_text) c.self.invariant.0 c.requires)
