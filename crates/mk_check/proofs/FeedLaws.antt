@@ -1,6 +1,6 @@
 -- A script that is fed with one more answer.
 use Rattle.std.proofs.Common.{◌≡◌, ℕ, Bool, true, false, IsTrue, List, [], ◌∷◌, ◌++◌, refl, ap, ◌∙◌}
-use Rattle.std.specs.Prelude.{Option, Some, ◌↔◌, is_none, IsNone}
+use Rattle.std.specs.Prelude.{Option, Some, ◌↔◌, is_some, IsNone}
 use Rattle.mk_never.specs.declared.operations.Op.{Op}
 use Rattle.mk_core.specs.declared.events.Answer.{Answer}
 use Rattle.mk_core.specs.Decided.{flagged}
@@ -50,9 +50,9 @@ ops-feed_push program k answers a o h =
 -- A feed that has an operation waits.
 pub waits_for_op : (s : FeedState) (o : Option Op)
     → ((program : List Item) (k : ℕ) (answers : List Answer) → FeedStandsFor program k s answers → IsNone o ↔ IsTrue (has_ended (feed program k answers)))
-    → is_none o ≡ false → IsWaiting s
+    → is_some o ≡ true → IsWaiting s
 waits_for_op s o none some = λ program k answers st. by_end (has_ended (feed program k answers)) (none program k answers st).1
   where
     by_end : (b : Bool) → (IsTrue b → IsNone o) → b ≡ false
-    by_end true f = let e : is_none o ≡ true = f refl in cc
+    by_end true f = let e : is_some o ≡ false = f refl in cc
     by_end false f = refl
