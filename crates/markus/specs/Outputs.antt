@@ -58,7 +58,8 @@ status_of_refusal (Some (replay.NotEnabled line event condition)) = NotEnabled l
 status_of_refusal (Some replay.NoMemory) = NoMemory
 
 abbrev pub status_of_schedule : List Item → List Entry → Status
-status_of_schedule program schedule = typed_or (first_typing_fault program) (status_of_refusal (refusal_of program schedule))
+status_of_schedule program schedule =
+    typed_or (first_typing_fault program) (status_of_refusal (refusal_of program schedule))
 
 abbrev pub status_of_replay : Result (List Item × List Entry) TextStop → Status
 status_of_replay (Accepted parts) = status_of_schedule parts.0 parts.1

@@ -49,4 +49,5 @@ output program c es = flat_map (text_behind program c es) (range_with_len 0 (len
 
 -- Behind each enabled list, each call that ended has its answer.
 abbrev pub EndedCallsAreAnswered : Type 0
-EndedCallsAreAnswered = (c : Config) (es : List Event) (k : ℕ) → AreEnabled c es → length (answers_given c es k) ≡ ended_calls k es
+EndedCallsAreAnswered =
+    (c : Config) (es : List Event) (k : ℕ) → AreEnabled c es → length (answers_given c es k) ≡ ended_calls k es

@@ -1,4 +1,5 @@
 -- What a run keeps for each script, and what it stands for.
+-- Private functions alone cite these words.
 use Rattle.std.specs.Prelude.{◌≡◌, ◌<◌, ◌≤◌, ℕ, Bool, true, false, List, [], ◌∷◌, ◌++◌, length, count_by, slice_index_or, drop, Option, None, if◌then◌else◌}
 use Rattle.mk_script.specs.declared.items.Item.{Item}
 use Rattle.mk_script.specs.Scopes.{script_names}
@@ -78,7 +79,8 @@ EachHasRoom players = (k : ℕ) (d : Player) → k < length players → HasRoom 
 -- the players behind an event that decides this answer, if any
 abbrev pub TakeEvent : Event → Option Answer → List Player → List Player → Type 0
 TakeEvent e decided old new = (program : List Item) (k : ℕ) (d : Player) (x : Served) → k < length old
-    → IsPlayerOf program k x (slice_index_or old k d) → IsPlayerOf program k (served_by k e decided x) (slice_index_or new k d)
+    → IsPlayerOf program k x (slice_index_or old k d)
+    → IsPlayerOf program k (served_by k e decided x) (slice_index_or new k d)
 
 abbrev pub ArePlayersOf : List Item → List Event → List Player → Type 0
 ArePlayersOf program es players = (k : ℕ) (d : Player) → k < length players

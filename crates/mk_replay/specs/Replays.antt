@@ -1,4 +1,5 @@
--- What a schedule makes of a program, on a heap with eight markers: the history, the first event that isn't enabled, and the
+-- What a schedule makes of a program, on a heap with eight markers: the history, the first event that isn't enabled,
+-- and the
 -- texts of the scripts.
 use Rattle.std.specs.Prelude.{◌≡◌, ◌<◌, ℕ, Bool, true, false, List, [], ◌∷◌, ◌++◌, length, count_by, slice_index_or, Option, Some, None, ◌==◌, if◌then◌else◌}
 use Rattle.mk_never.specs.declared.operations.Op.{Op}
@@ -116,7 +117,8 @@ pub record IsTextOf (program : List Item) (es : List Event) (k : ℕ) (bytes : L
 -- the texts of the first scripts, in order
 abbrev pub AreFirstTexts : List Item → List Event → List Text → Type 0
 AreFirstTexts program es texts = (k : ℕ) (d : Text) → k < length texts
-    → IsTextOf program es k (slice_index_or texts k d).bytes.items (slice_index_or texts k d).ops (slice_index_or texts k d).refused
+    → IsTextOf program es k (slice_index_or texts k d).bytes.items (slice_index_or texts k d).ops
+    (slice_index_or texts k d).refused
 
 -- A text for each script, in order.
 pub record AreTextsOf (program : List Item) (es : List Event) (texts : List Text) : Type 0 where

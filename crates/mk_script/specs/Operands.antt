@@ -42,7 +42,8 @@ pub record IsCutAtPlus (word front back : List ℕ) : Type 0 where
 abbrev pub at : List ℕ → Result At LineFault
 at word =
     if list_any is_plus word
-    then name (before_first is_plus word) >>= (λ t. number (after_first is_plus word) >>= (λ k. Ok (record { name = t; offset = k })))
+    then name (before_first is_plus word)
+    >>= (λ t. number (after_first is_plus word) >>= (λ k. Ok (record { name = t; offset = k })))
     else name word >>= (λ t. Ok (record { name = t; offset = 0 }))
 
 abbrev pub ok_part : {A : Type 0} → Result A LineFault → Option A
@@ -91,7 +92,8 @@ abbrev pub says3 : {A B C : Type 0} → (A → B → C → Item)
 says3 f a b c = a >>= (λ x. b >>= (λ y. c >>= (λ z. Ok (f x y z))))
 
 abbrev pub says5 : {A B C D E : Type 0} → (A → B → C → D → E → Item)
-    → Result A LineFault → Result B LineFault → Result C LineFault → Result D LineFault → Result E LineFault → Result Item LineFault
+    → Result A LineFault → Result B LineFault → Result C LineFault → Result D LineFault → Result E LineFault
+    → Result Item LineFault
 says5 f a b c d e = a >>= (λ x. b >>= (λ y. c >>= (λ z. d >>= (λ u. e >>= (λ v. Ok (f x y z u v))))))
 
 -- the item of a line, where each operand says what the form has in its place; else the first that doesn't

@@ -145,30 +145,162 @@ impl Printer {
         ensures { IfOk result (λ printer. printer ≡ self ++ joined (words_of_item item.now)) }
     {
         match item {
-            Item::TypeLine { name, words } => self.line_words(b"type", &[Operand::Name(name)])?.fields(words.as_slice()),
-            Item::Heap { pages, resident } => self.line_words(b"heap", &[Operand::Number(*pages), Operand::Number(*resident)]),
-            Item::Global { name, ty } => self.line_words(b"global", &[Operand::Name(name), Operand::Name(ty)]),
+            Item::TypeLine { name, words } => self
+                .line_words(b"type", &[Operand::Name(name)])?
+                .fields(words.as_slice()),
+            Item::Heap { pages, resident } => self.line_words(
+                b"heap",
+                &[Operand::Number(*pages), Operand::Number(*resident)],
+            ),
+            Item::Global { name, ty } => self.line_words(
+                b"global",
+                &[Operand::Name(name), Operand::Name(ty)],
+            ),
             Item::Script { name } => self.line_words(b"script", &[Operand::Name(name)]),
-            Item::Ptr { name, at } => self.line_words(b"ptr", &[Operand::Name(name), Operand::At(at)]),
+            Item::Ptr { name, at } => self.line_words(
+                b"ptr",
+                &[Operand::Name(name), Operand::At(at)],
+            ),
             Item::Num { name } => self.line_words(b"num", &[Operand::Name(name)]),
-            Item::New { pointer, ty } => self.line_words(b"new", &[Operand::Name(pointer), Operand::Name(ty)]),
+            Item::New { pointer, ty } => self.line_words(
+                b"new",
+                &[Operand::Name(pointer), Operand::Name(ty)],
+            ),
             Item::Free { pointer } => self.line_words(b"free", &[Operand::Name(pointer)]),
-            Item::Getn { number, pointer, index } => self.line_words(b"getn", &[Operand::Name(number), Operand::Name(pointer), Operand::Number(*index)]),
-            Item::Setn { pointer, index, number } => self.line_words(b"setn", &[Operand::Name(pointer), Operand::Number(*index), Operand::Name(number)]),
-            Item::Getp { loaded, pointer, index } => self.line_words(b"getp", &[Operand::Name(loaded), Operand::Name(pointer), Operand::Number(*index)]),
-            Item::Setp { pointer, index, stored } => self.line_words(b"setp", &[Operand::Name(pointer), Operand::Number(*index), Operand::Name(stored)]),
-            Item::Casp { number, pointer, index, expected, stored } => self.line_words(b"casp", &[Operand::Name(number), Operand::Name(pointer), Operand::Number(*index), Operand::Name(expected), Operand::Name(stored)]),
-            Item::Lea { moved, pointer, index } => self.line_words(b"lea", &[Operand::Name(moved), Operand::Name(pointer), Operand::Number(*index)]),
-            Item::Move { copied, pointer } => self.line_words(b"move", &[Operand::Name(copied), Operand::Name(pointer)]),
+            Item::Getn {
+                number,
+                pointer,
+                index,
+            } => self.line_words(
+                b"getn",
+                &[
+                    Operand::Name(number),
+                    Operand::Name(pointer),
+                    Operand::Number(*index),
+                ],
+            ),
+            Item::Setn {
+                pointer,
+                index,
+                number,
+            } => self.line_words(
+                b"setn",
+                &[
+                    Operand::Name(pointer),
+                    Operand::Number(*index),
+                    Operand::Name(number),
+                ],
+            ),
+            Item::Getp {
+                loaded,
+                pointer,
+                index,
+            } => self.line_words(
+                b"getp",
+                &[
+                    Operand::Name(loaded),
+                    Operand::Name(pointer),
+                    Operand::Number(*index),
+                ],
+            ),
+            Item::Setp {
+                pointer,
+                index,
+                stored,
+            } => self.line_words(
+                b"setp",
+                &[
+                    Operand::Name(pointer),
+                    Operand::Number(*index),
+                    Operand::Name(stored),
+                ],
+            ),
+            Item::Casp {
+                number,
+                pointer,
+                index,
+                expected,
+                stored,
+            } => self.line_words(
+                b"casp",
+                &[
+                    Operand::Name(number),
+                    Operand::Name(pointer),
+                    Operand::Number(*index),
+                    Operand::Name(expected),
+                    Operand::Name(stored),
+                ],
+            ),
+            Item::Lea {
+                moved,
+                pointer,
+                index,
+            } => self.line_words(
+                b"lea",
+                &[
+                    Operand::Name(moved),
+                    Operand::Name(pointer),
+                    Operand::Number(*index),
+                ],
+            ),
+            Item::Move { copied, pointer } => self.line_words(
+                b"move",
+                &[Operand::Name(copied), Operand::Name(pointer)],
+            ),
             Item::Clear { pointer } => self.line_words(b"clear", &[Operand::Name(pointer)]),
-            Item::Loadg { loaded, global } => self.line_words(b"loadg", &[Operand::Name(loaded), Operand::Name(global)]),
-            Item::Storeg { stored, global } => self.line_words(b"storeg", &[Operand::Name(stored), Operand::Name(global)]),
-            Item::Same { number, first, second } => self.line_words(b"same", &[Operand::Name(number), Operand::Name(first), Operand::Name(second)]),
-            Item::Isnull { number, pointer } => self.line_words(b"isnull", &[Operand::Name(number), Operand::Name(pointer)]),
+            Item::Loadg { loaded, global } => self.line_words(
+                b"loadg",
+                &[Operand::Name(loaded), Operand::Name(global)],
+            ),
+            Item::Storeg { stored, global } => self.line_words(
+                b"storeg",
+                &[Operand::Name(stored), Operand::Name(global)],
+            ),
+            Item::Same {
+                number,
+                first,
+                second,
+            } => self.line_words(
+                b"same",
+                &[
+                    Operand::Name(number),
+                    Operand::Name(first),
+                    Operand::Name(second),
+                ],
+            ),
+            Item::Isnull { number, pointer } => self.line_words(
+                b"isnull",
+                &[Operand::Name(number), Operand::Name(pointer)],
+            ),
             Item::Show { pointer } => self.line_words(b"show", &[Operand::Name(pointer)]),
-            Item::Const { number, value } => self.line_words(b"const", &[Operand::Name(number), Operand::Number(*value)]),
-            Item::Add { number, left, right } => self.line_words(b"add", &[Operand::Name(number), Operand::Name(left), Operand::Name(right)]),
-            Item::Sub { number, left, right } => self.line_words(b"sub", &[Operand::Name(number), Operand::Name(left), Operand::Name(right)]),
+            Item::Const { number, value } => self.line_words(
+                b"const",
+                &[Operand::Name(number), Operand::Number(*value)],
+            ),
+            Item::Add {
+                number,
+                left,
+                right,
+            } => self.line_words(
+                b"add",
+                &[
+                    Operand::Name(number),
+                    Operand::Name(left),
+                    Operand::Name(right),
+                ],
+            ),
+            Item::Sub {
+                number,
+                left,
+                right,
+            } => self.line_words(
+                b"sub",
+                &[
+                    Operand::Name(number),
+                    Operand::Name(left),
+                    Operand::Name(right),
+                ],
+            ),
             Item::Print { number } => self.line_words(b"print", &[Operand::Name(number)]),
             Item::Repeat { rounds } => self.line_words(b"repeat", &[Operand::Number(*rounds)]),
             Item::If { number } => self.line_words(b"if", &[Operand::Name(number)]),

@@ -267,7 +267,14 @@ fn limits_are_kept(rt: HostRuntime) -> Result<(), Fail> {
         let text = " ".repeat(rt.alloc(), 1_048_576)?;
         assert!(rt; is_told(rt.alloc(), command, text.as_str(), "line 1: header")?);
         let text = " ".repeat(rt.alloc(), 1_048_577)?;
-        assert!(rt; is_told(rt.alloc(), command, text.as_str(), "line 0: limit bytes 1048577")?);
+        assert!(rt;
+            is_told(
+                rt.alloc(),
+                command,
+                text.as_str(),
+                "line 0: limit bytes 1048577"
+            )?
+        );
     }
     Ok(())
 }
