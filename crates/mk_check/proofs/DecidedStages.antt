@@ -1,6 +1,6 @@
 -- A caller's call is decided once, before its last step.
 use Rattle.std.proofs.Common.{◌≡◌, ℕ, ◌+◌, Bool, true, false, refl, sym, ◌∙◌, ap, subst, arith}
-use Rattle.std.specs.Prelude.{Option, Some, None, if◌then◌else◌, ◌==◌, ◌&&◌}
+use Rattle.std.specs.Prelude.{Option, Some, None, if◌then◌else◌, ◌==◌}
 use Rattle.std.specs.List.{list_any}
 use Rattle.std.proofs.lemmas.Bool.{and_parts}
 use Rattle.mk_never.specs.declared.operations.Op.{Op}
@@ -19,12 +19,12 @@ use Rattle.mk_core.specs.declared.seats.Stage.TheVariants as stage
 use Rattle.mk_core.specs.declared.seats.Flight.{Flight}
 use Rattle.mk_core.specs.declared.seats.Progress.{Progress}
 use Rattle.mk_core.specs.Words.{Words}
-use Rattle.mk_core.specs.Calls.{steps_of, first_of, stage_behind, stage_refused, is_same_stage, begun, onward, still, refused, progress_q, progress_p, progress_reg, progress_read}
+use Rattle.mk_core.specs.Calls.{steps_of, stage_behind, stage_refused, is_same_stage, begun, onward, still, refused, progress_q, progress_p, progress_reg, progress_read}
 use Rattle.mk_core.specs.Cells.{is_unmapped_header}
 use Rattle.mk_core.specs.Moments.{Moment}
 use Rattle.mk_core.specs.NewPlaces.{target}
 use Rattle.mk_core.specs.Order.{may_decide, comes_next, is_of_any_holder}
-use Rattle.mk_core.specs.TurnConditions.{is_decided, may_give, cell_freed, frees}
+use Rattle.mk_core.specs.TurnConditions.{is_decided, cell_freed}
 use Rattle.mk_core.specs.Enabled.{holder_may}
 use Rattle.mk_core.specs.Effects.{decided, sees_double, progress, progress_freed, progress_look}
 use Rattle.mk_check.specs.Output.{ends_call}

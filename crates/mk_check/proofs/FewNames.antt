@@ -1,26 +1,17 @@
 -- A program of a text declares so few pointer registers and globals that a byte numbers them.
-use Rattle.std.proofs.Common.{◌≡◌, ℕ, zero, suc, ◌+◌, ◌-◌, ◌^◌, ◌≤◌, min, Bool, true, false, List, [], ◌∷◌, ◌++◌, length, refl, ap, sym, ◌∙◌, subst, if◌then◌else◌, arith}
-use Rattle.std.specs.Prelude.{Option, Some, None, Ok, Err, nat_le}
-use Rattle.std.specs.declared.result.Result.{Result}
-use Rattle.std.proofs.lemmas.Bool.{leb-true}
-use Rattle.std.proofs.lemmas.List.{append_assoc, append-nil}
+use Rattle.std.proofs.Common.{◌≡◌, ℕ, zero, suc, ◌+◌, ◌≤◌, Bool, false, List, [], ◌∷◌, ◌++◌, length, refl, ap, ◌∙◌, if◌then◌else◌, arith}
+use Rattle.std.specs.Prelude.{None}
+use Rattle.std.proofs.lemmas.List.{append_assoc}
 use Rattle.std.proofs.lemmas.List.Sums.{fold_push}
 use Rattle.mk_script.specs.declared.items.At.{At}
 use Rattle.mk_script.specs.declared.items.Item.{Item}
 use Rattle.mk_script.specs.declared.items.Item.TheVariants.{Global, Script, Ptr}
-use Rattle.mk_script.specs.declared.faults.LineFault.{LineFault}
-use Rattle.mk_script.specs.declared.faults.LineFault.TheVariants.{Text, Limit}
-use Rattle.mk_script.specs.declared.faults.TextKind.TheVariants as kind
-use Rattle.mk_script.specs.declared.faults.TextStop.TheVariants as stop
-use Rattle.mk_script.specs.declared.faults.Which.{Which}
 use Rattle.mk_script.specs.declared.faults.Which.TheVariants as which
-use Rattle.mk_script.specs.Words.{lines_of, words_of}
-use Rattle.mk_script.specs.Operands.{◌>>=◌}
-use Rattle.mk_script.specs.Scopes.{global_names, pointer_names, is_script, this_script, open_blocks}
-use Rattle.mk_script.specs.Lines.{at_most, limit_fault, is_twice, ends_rightly, or_item, checked_item, line_item, line_of, has_none, has_script}
+use Rattle.mk_script.specs.Scopes.{global_names, pointer_names, is_script, this_script}
+use Rattle.mk_script.specs.Lines.{limit_fault}
 use Rattle.mk_script.proofs.PassedLines.{ArePassed, is_whole}
 use Rattle.mk_check.proofs.GrammarLemmas.{at_most-None}
-use Rattle.mk_script.specs.Grammar.{at_end, go_on, items_behind, items_of_lines, IsOfSomeText}
+use Rattle.mk_script.specs.Grammar.{IsOfSomeText}
 use Rattle.mk_check.specs.Blocks.{before_next_script, script_from}
 use Rattle.mk_check.specs.NamesInScope.{HasFew}
 use Rattle.mk_check.specs.Feeding.{script_scope}

@@ -5,22 +5,18 @@ use Rattle.std.proofs.lemmas.List.{append_assoc, append-nil, length-append}
 use Rattle.std.proofs.lemmas.Bool.{false≢true, leb-true}
 use Rattle.mk_script.specs.declared.items.Item.{Item}
 use Rattle.mk_script.specs.declared.items.Item.TheVariants.{Global, Heap, TypeLine, Script}
-use Rattle.mk_script.specs.declared.faults.TextStop.{TextStop}
-use Rattle.mk_script.specs.declared.faults.TextStop.TheVariants as stop
-use Rattle.mk_script.specs.declared.faults.TextKind.TheVariants.{Header, Twice, End}
+use Rattle.mk_script.specs.declared.faults.TextKind.TheVariants.{Header}
 use Rattle.mk_script.specs.declared.faults.Which.TheVariants as which
 use Rattle.mk_script.specs.declared.faults.LineFault.{LineFault}
 use Rattle.mk_script.specs.declared.faults.LineFault.TheVariants.{Text, Limit}
 use Rattle.mk_script.specs.declared.faults.Which.{Which}
-use Rattle.mk_script.specs.Words.{lines_of, words_of}
 use Rattle.std.specs.Str.{bytes_eq}
 use lib.Chars.{codes}
 use Rattle.mk_script.specs.declared.keywords.Keyword.TheVariants as keyword
 use Rattle.mk_script.specs.Operands.{◌>>=◌, item_from, number}
-use Rattle.mk_script.specs.Scopes.{global_names, open_blocks, type_names, script_names}
-use Rattle.mk_script.proofs.PassedLines.{ArePassed, IsWhole, is_whole}
-use Rattle.mk_script.specs.Lines.{line_of, line_item, checked_item, or_item, or_else, at_most, within, limit_fault, heap_line, has_script, has_none, is_twice, ends_rightly}
-use Rattle.mk_script.specs.Grammar.{IsOfSomeText, items_of_lines, items_behind, go_on, fault_at}
+use Rattle.mk_script.specs.Scopes.{global_names, type_names, script_names}
+use Rattle.mk_script.proofs.PassedLines.{ArePassed, IsWhole}
+use Rattle.mk_script.specs.Lines.{or_else, at_most, within, limit_fault, heap_line, has_script}
 use Rattle.mk_core.specs.Config.{IsBetween}
 use Rattle.mk_check.specs.Declarations.{pages_of, resident_of}
 use Rattle.mk_check.proofs.NumberLemmas.{length-global_names-append, type_names-append}

@@ -15,7 +15,7 @@ use Rattle.mk_check.specs.Feed.{Scope, Fed, op_of, refusal_line, refusal_text, n
 use Rattle.mk_check.specs.Steps.{Steps, then_steps, steps_of, instruction_of, Kept, Stopped, asked, with_text, answered, ran, ran_on}
 use Rattle.mk_check.specs.Steps as steps
 use Rattle.mk_check.specs.Trees.{Place, steps_at, trees, left_in, kept_in, stopped_in, with_kept, node_at, IsTree, IsWithin, StopsAt, HasStopped}
-use Rattle.mk_check.specs.Feeding.{FeedState, IsAtStop, op_of_node, op_in, first_op, script_scope, FeedStandsFor, StandsForSome, IsFeed, IsWaiting}
+use Rattle.mk_check.specs.Feeding.{FeedState, IsAtStop, op_of_node, op_in, first_op, script_scope, FeedStandsFor, IsFeed, IsWaiting}
 use Rattle.mk_check.proofs.StepLaws.{behind_text, stopped_behind_text, ran-text}
 use Rattle.mk_check.proofs.Numbered.{kept_of, stopped_of, run_agrees, op_of-asked, kept_of-with_answer, ops-with_answer}
 use Rattle.mk_check.proofs.FeedLaws.{feed_push}

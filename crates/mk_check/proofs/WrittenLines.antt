@@ -1,11 +1,11 @@
 -- The blocks of a script are its lines.
-use Rattle.std.proofs.Common.{◌≡◌, ℕ, zero, suc, ◌+◌, Bool, true, false, List, [], ◌∷◌, ◌++◌, length, refl, ap, sym, ◌∙◌, subst, append_assoc, append-nil, arith, inl, inr}
-use Rattle.std.specs.Prelude.{Option, Some, None, ◌⊎◌}
+use Rattle.std.proofs.Common.{◌≡◌, ℕ, zero, suc, ◌+◌, Bool, true, false, List, [], ◌∷◌, ◌++◌, length, refl, ap, sym, ◌∙◌, subst, append_assoc, arith, inl, inr}
+use Rattle.std.specs.Prelude.{Option, Some, None}
 use Rattle.std.proofs.lemmas.List.{length-append}
 use Rattle.mk_script.specs.declared.items.Item.{Item}
 use Rattle.mk_script.specs.declared.items.Item.TheVariants.{Script, Repeat, If, Else, End}
 use Rattle.mk_script.proofs.ClosedBlocks.{Closes, program_closes}
-use Rattle.mk_check.specs.Blocks.{Blocks, Done, Line, Rounds, Choice, Part, branch, with_line, with_repeat, with_if, with_else, no_lines, with_item, parts_from, outermost, blocks_from, before_next_script, script_from, script_of}
+use Rattle.mk_check.specs.Blocks.{Blocks, Done, Line, Rounds, Choice, Part, branch, with_line, with_repeat, with_if, with_else, no_lines, parts_from, outermost, before_next_script, script_from, script_of}
 use Rattle.mk_check.specs.WrittenBlocks.{is_plain, IsSecondBranch, AreWritten, ScriptsAreTheirLines}
 
 -- what stands behind the `else` of a part, which may be one that has none

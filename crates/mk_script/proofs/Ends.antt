@@ -1,5 +1,5 @@
 -- How a text ends, by its blocks and its scripts.
-use Rattle.std.proofs.Common.{◌≡◌, ℕ, Bool, true, false, List, length, refl, ap, sym, ◌∙◌, Ok, Err}
+use Rattle.std.proofs.Common.{◌≡◌, ℕ, Bool, true, false, List, length, refl, sym, ◌∙◌, Ok, Err}
 use Rattle.std.specs.Prelude.{not}
 use Rattle.mk_script.specs.declared.items.Item.{Item}
 use Rattle.mk_script.specs.declared.faults.TextStop.TheVariants.{Text, Limit}

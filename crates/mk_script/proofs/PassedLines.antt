@@ -10,7 +10,7 @@ use Rattle.mk_script.specs.Words.{lines_of, words_of}
 use Rattle.mk_script.specs.Scopes.{open_blocks}
 use Rattle.mk_script.specs.Operands.{◌>>=◌}
 use Rattle.mk_script.specs.Lines.{line_of, line_item, checked_item, or_item, limit_fault, is_twice, ends_rightly, has_script, has_none}
-use Rattle.mk_script.specs.Grammar.{at_end, go_on, items_behind, items_of_lines, IsOfSomeText}
+use Rattle.mk_script.specs.Grammar.{go_on, items_behind, items_of_lines, IsOfSomeText}
 
 -- A line behind these: what its words say; it passes no limit, and ends no block that isn't open.
 pub record IsPassed (before : List Item) (item : Item) : Type 0 where

@@ -1,14 +1,10 @@
 -- The canonical text of a text's program has the same program.
-use Rattle.std.proofs.Common.{◌≡◌, ℕ, suc, ◌+◌, ◌<◌, ◌≤◌, nat_le, List, [], ◌∷◌, ◌++◌, length, refl, ap, ◌∙◌, sym, subst, arith, append_assoc, Ok, Err}
-use Rattle.std.specs.declared.result.Result.{Result}
+use Rattle.std.proofs.Common.{◌≡◌, ◌+◌, ◌≤◌, List, [], ◌∷◌, ◌++◌, length, refl, ap, ◌∙◌, sym, subst, append_assoc, Ok}
 use Rattle.std.proofs.lemmas.List.{append-nil}
 use Rattle.std.proofs.lemmas.Bool.{le-leb, cond-true}
 use Rattle.mk_script.specs.declared.items.Item.{Item}
-use Rattle.mk_script.specs.declared.faults.LineFault.{LineFault}
-use Rattle.mk_script.specs.declared.faults.TextStop.{TextStop}
-use Rattle.mk_script.specs.Words.{lines_of, words_of}
-use Rattle.mk_script.specs.Scopes.{open_blocks}
-use Rattle.mk_script.specs.Lines.{line_of, has_script, has_none}
+use Rattle.mk_script.specs.Words.{words_of}
+use Rattle.mk_script.specs.Lines.{line_of}
 use Rattle.mk_script.specs.Grammar.{at_end, go_on, items_behind, items_of_lines, program_of, IsOfSomeText}
 use Rattle.mk_script.specs.Canonical.{words_of_item, canonical_text}
 use Rattle.mk_script.specs.Spaced.{joined}

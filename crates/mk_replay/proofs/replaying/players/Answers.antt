@@ -1,6 +1,5 @@
-use Rattle.std.proofs.Common.{List, [], ℕ, sym, ◌∙◌, subst, rules}
+use Rattle.std.proofs.Common.{List, [], ℕ, sym, subst, rules}
 use Rattle.std.specs.Prelude.{None}
-use Rattle.mk_script.specs.declared.items.Item.{Item}
 use Rattle.mk_replay.specs.declared.players.Player.{Player}
 use Rattle.mk_replay.specs.Players.{IsPlayerOf, ArePlayersOf}
 use Rattle.mk_replay.proofs.RunLaws.{players_push}

@@ -1,4 +1,4 @@
-use Rattle.std.proofs.Common.{◌≡◌, ◌≢◌, true, ◌∙◌, ap, sym, rules, arith}
+use Rattle.std.proofs.Common.{◌≡◌, ◌≢◌, true, ◌∙◌, ap, sym, rules}
 use Rattle.mk_script.specs.declared.keywords.Keyword.TheVariants.{TypeLine}
 use Rattle.mk_script.specs.Lines.{is_placed}
 use Rattle.mk_script.specs.Stops.{checked_behind}

@@ -1,4 +1,4 @@
-use Rattle.std.proofs.Common.{◌≡◌, ap, sym, ◌∙◌, length, subst}
+use Rattle.std.proofs.Common.{ap, sym, ◌∙◌, length, subst}
 use Rattle.mk_core.specs.Config.{IsWithinLimits}
 use Rattle.mk_script.specs.Scopes.{script_names}
 use Rattle.mk_script.proofs.PassedLines.{is_whole}
