@@ -1,7 +1,5 @@
-use Rattle.std.proofs.Common.{◌<◌, List, [], refl, sym, ◌∙◌, subst, length}
+use Rattle.std.proofs.Common.{refl, sym, ◌∙◌, subst}
 use Rattle.mk_core.specs.declared.events.Answer.{Answer}
-use Rattle.mk_script.specs.declared.items.Item.{Item}
-use Rattle.mk_script.specs.Scopes.{script_names}
 use Rattle.std.specs.Prelude.{Some}
 use Rattle.mk_check.specs.Feeding.{TakesAnswer}
 use Rattle.mk_check.proofs.FeedLaws.{waits_for_op}
