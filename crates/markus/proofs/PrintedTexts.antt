@@ -5,8 +5,9 @@ use Rattle.std.specs.Prelude.{slice_index_or}
 use Rattle.mk_core.specs.declared.events.Event.{Event}
 use Rattle.mk_script.specs.declared.items.Item.{Item}
 use Rattle.mk_check.specs.declared.text.Text.{Text}
-use Rattle.mk_check.specs.Feed.{feed}
-use Rattle.mk_replay.specs.Replays.{AreTextsOf, answers_given, config_of, printed}
+use Rattle.mk_check.specs.Declarations.{config_of}
+use Rattle.mk_check.specs.Output.{text_behind, output}
+use Rattle.mk_replay.specs.Replays.{AreTextsOf}
 
 -- pieces that are those of their places
 pieces : {X A : Type 0} (f : X → List A) (g : ℕ → List A) (a : ℕ) (xs : List X)
@@ -19,8 +20,8 @@ pieces f g a (x ∷ xs) each =
     ap (λ piece. piece ++ flat_map f xs) first ∙ ap (λ more. g a ++ more) rest
 
 pub texts_are_printed : (program : List Item) (es : List Event) (texts : List Text) → AreTextsOf program es texts
-    → flat_map (λ text. text.bytes.items) texts ≡ printed program es
+    → flat_map (λ text. text.bytes.items) texts ≡ output program (config_of program 8) es
 texts_are_printed program es texts are =
-    let text_of = λ (k : ℕ). (feed program k (answers_given (config_of program) es k)).text in
+    let text_of = text_behind program (config_of program 8) es in
     pieces (λ text. text.bytes.items) text_of 0 texts (λ k d less. (are.each k d less).text ∙ ap text_of (omega arith))
     ∙ ap (λ n. flat_map text_of (range_with_len 0 n)) are.count

@@ -10,12 +10,14 @@ use Rattle.mk_script.specs.Canonical.{canonical_text}
 use Rattle.mk_check.specs.declared.typing_faults.TypeStop.{TypeStop}
 use Rattle.mk_check.specs.declared.typing_faults.TypeStop.TheVariants as typing
 use Rattle.mk_check.specs.Typing.{TypingFault, first_typing_fault}
+use Rattle.mk_check.specs.Declarations.{config_of}
+use Rattle.mk_check.specs.Output.{output as output_behind}
 use Rattle.mk_core.specs.History.{AreEnabled}
 use Rattle.mk_replay.specs.declared.schedule.Entry.{Entry}
 use Rattle.mk_replay.specs.declared.replaying.ReplayStop.{ReplayStop}
 use Rattle.mk_replay.specs.declared.replaying.ReplayStop.TheVariants as replay
 use Rattle.mk_replay.specs.Schedules.{replay_of}
-use Rattle.mk_replay.specs.Replays.{config_of, history_of, refusal_of, printed}
+use Rattle.mk_replay.specs.Replays.{history_of, refusal_of}
 use Rattle.markus.specs.declared.commands.Command.{Command}
 use Rattle.markus.specs.declared.commands.Command.TheVariants.{Run, Check, Print, Replay}
 use Rattle.markus.specs.declared.statuses.Status.{Status}
@@ -56,7 +58,8 @@ status_of_refusal (Some (replay.NotEnabled line event condition)) = NotEnabled l
 status_of_refusal (Some replay.NoMemory) = NoMemory
 
 abbrev pub status_of_schedule : List Item → List Entry → Status
-status_of_schedule program schedule = typed_or (first_typing_fault program) (status_of_refusal (refusal_of program schedule))
+status_of_schedule program schedule =
+    typed_or (first_typing_fault program) (status_of_refusal (refusal_of program schedule))
 
 abbrev pub status_of_replay : Result (List Item × List Entry) TextStop → Status
 status_of_replay (Accepted parts) = status_of_schedule parts.0 parts.1
@@ -86,8 +89,8 @@ pub record IsOutputOnSchedule (input output : List ℕ) : Type 0 where
   pub schedule : List Entry
   pub is_text : replay_of input ≡ Accepted (program, schedule)
   pub accepted : status_of_schedule program schedule ≡ Ok
-  pub enabled : AreEnabled (config_of program) (history_of program schedule)
-  pub output_is : output ≡ printed program (history_of program schedule)
+  pub enabled : AreEnabled (config_of program 8) (history_of program schedule)
+  pub output_is : output ≡ output_behind program (config_of program 8) (history_of program schedule)
 
 -- what a command writes on an input that it accepts
 abbrev pub IsOutput : Command → List ℕ → List ℕ → Type 0

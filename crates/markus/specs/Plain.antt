@@ -1,4 +1,5 @@
 -- The plain heap: words, of which objects take theirs one behind the other.
+-- Private functions alone cite these words.
 use Rattle.std.specs.Prelude.{◌≡◌, ℕ, ◌+◌, ◌-◌, ◌*◌, ◌/◌, ◌<◌, ◌≤◌, Bool, false, List, length, nat_lt, slice_index, slice_set, ◌==◌, if◌then◌else◌, replicate}
 use Rattle.mk_never.specs.declared.operations.Op.{Op}
 use Rattle.mk_never.specs.declared.operations.Op.TheVariants.{New, GetNum, SetNum}

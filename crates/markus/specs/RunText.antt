@@ -22,7 +22,8 @@ FullIsByRoom heap_words n op = Unit {0}
 
 abbrev pub EachFullIsByRoom : ℕ → NeverState → List Call → Type 0
 EachFullIsByRoom heap_words n [] = Unit {0}
-EachFullIsByRoom heap_words n (x ∷ xs) = FullIsByRoom heap_words n x.op × EachFullIsByRoom heap_words (after_op n x.caller x.op) xs
+EachFullIsByRoom heap_words n (x ∷ xs) =
+    FullIsByRoom heap_words n x.op × EachFullIsByRoom heap_words (after_op n x.caller x.op) xs
 
 abbrev pub calls_of : ℕ → List Op → List Call
 calls_of caller ops = map (λ op. record { caller = caller; op = op }) ops

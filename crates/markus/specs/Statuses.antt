@@ -56,7 +56,8 @@ abbrev pub limit_words : Which → ℕ → List ℕ
 limit_words which found = codes "limit " ++ (which_word which ++ (codes " " ++ decimal found))
 
 abbrev pub not_enabled_words : ℕ → ℕ → List ℕ
-not_enabled_words event condition = codes "event " ++ (decimal event ++ (codes " not enabled, condition " ++ decimal condition))
+not_enabled_words event condition =
+    codes "event " ++ (decimal event ++ (codes " not enabled, condition " ++ decimal condition))
 
 abbrev pub at_line : ℕ → List ℕ → List ℕ
 at_line line words = codes "line " ++ (decimal line ++ (codes ": " ++ (words ++ codes "\n")))

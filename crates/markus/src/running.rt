@@ -1,6 +1,7 @@
 //! A script on the plain heap.
 ghost use Rattle.std.specs.Prelude.{◌≡◌, true, IfOk};
 ghost use Rattle.mk_check.specs.Declarations.{pages_of};
+ghost use Rattle.mk_check.specs.Typing.{IsWellTyped};
 ghost use Rattle.markus.specs.Narrow.{is_narrow, object_words};
 ghost use Rattle.markus.specs.Plain.{wiped};
 ghost use Rattle.markus.specs.RunText.{IsRunText};
@@ -22,11 +23,12 @@ fn plain_heap(alloc: Global, checked: &Checked) -> Result<Plain, NoMemory>
 
 /// The text of the program's one script.
 pub fn run_script(alloc: Global, checked: &Checked) -> Result<Vec<u8>, NoMemory>
-    requires { is_narrow checked.now ≡ true }
+    requires narrow { is_narrow checked.now ≡ true }
+    requires well_typed { IsWellTyped checked.now }
     ensures { IfOk result (λ text. IsRunText checked.now text.items) }
 {
     let mut plain = plain_heap(alloc, checked)?;
-    let mut feed = Feed::start(alloc, checked.program().items(), 0)?;
+    let mut feed = Feed::start(alloc, checked, 0)?;
     while let Some(op) = feed.op() {
         let answer = plain.apply(op);
         feed.answer(alloc, answer)?;

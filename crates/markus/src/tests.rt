@@ -14,30 +14,35 @@ use crate::top::markus;
 use mk_io::{MemSink, MemSource};
 use std::alloc::{AllocError, Global};
 use std::test::Fail;
+use texts::behind;
 
 const FIRST_RUN: &[u8] = b"heap 1 1\ntype A n*32\nscript s\nptr p A\nnum n\nnew p A\nconst n 7\n\
     setn p 1 n\nconst n 0\ngetn n p 1\nprint n\n";
 
-/// A loop of two rounds, and a branch.
-const BLOCKS: &[u8] =
-    b"heap 1 1\ntype A n\nscript s\nptr p A\nnum n\nconst n 3\nnew p A\nrepeat 2\n\
-    setn p 0 n\nconst n 0\ngetn n p 0\nif n\nprint n\nelse\nnew p A\nend\nend\n";
-
-/// A script of as many instructions as one may execute.
-const LONGEST: &[u8] = b"heap 1 1\nscript s\nnum n\nprint n\nrepeat 499999\nprint n\nend\n";
-
-/// Two scripts with a global. The schedule has a load of it before the store and one behind, and ends within
-/// a call of `s`.
-const SCHEDULED: &[u8] =
-    b"heap 1 1\ntype A n*2\nglobal g A\nscript s\nptr p A\nnew p A\nstoreg p g\nshow p\n\
-    script t\nptr q A\nnum n\nloadg q g\ngetn n q 0\nprint n\nloadg q g\nshow q\nschedule\n\
-    c1 enter; getg; reg; leave\nc1 enter; reg; leave\n\
-    c0 take; head 0 13; used 0 1; grant; tally held 2; give\nc0 enter; reg; setg; leave\n\
-    c1  enter;  getg; reg; leave \nc1 enter; reg; leave\nc0 enter; reg";
-
-const SPACED: &[u8] = b" heap 1  1\ntype A n n n p:A+0\nscript s\nptr p A+0";
-
-const CANONICAL: &[u8] = b"heap 1 1\ntype A n*3 p:A\nscript s\nptr p A\n";
+/// Commands, the lines of a text with `/` for a newline, and what is written, or the line that is told. They are: the first
+/// script; a refused load; a full heap; a loop of two rounds and a branch; a script of as many instructions as one may
+/// execute; a canonical text; a schedule with a load of a global before the store and one behind, that ends within a call
+/// of `s`; and a program that isn't of the narrow form.
+const RUNS: &str = "\
+run | heap 1 1/type A n*32/script s/ptr p A/num n/new p A/const n 7/setn p 1 n/const n 0/\
+    getn n p 1/print n/ -> script s/7/
+run | heap 1 1/type A n*2/script s/ptr p A/num n/const n 5/getn n p 0/print n/ -> script s/7: null/0/
+run | heap 1 1/type A n*32/script s/ptr p A/new p A/new p A/new p A/ -> script s/7: full/
+run | heap 1 1/type A n/script s/ptr p A/num n/const n 3/new p A/repeat 2/setn p 0 n/const n 0/\
+    getn n p 0/if n/print n/else/new p A/end/end/ -> script s/3/3/
+check | heap 1 1/type A n/script s/ptr p A/num n/const n 3/new p A/repeat 2/setn p 0 n/const n 0/\
+    getn n p 0/if n/print n/else/new p A/end/end/ -> ok/
+check | heap 1 1/script s/num n/print n/repeat 499999/print n/end/ -> ok/
+print |  heap 1  1/ type A n n n p:A+0/script s/ptr p A+0 -> heap 1 1/type A n*3 p:A/script s/ptr p A/
+replay | heap 1 1/type A n*2/global g A/script s/ptr p A/new p A/storeg p g/show p/script t/\
+    ptr q A/num n/loadg q g/getn n q 0/print n/loadg q g/show q/schedule/c1 enter; getg; reg; leave/\
+    c1 enter; reg; leave/c0 take; head 0 13; used 0 1; grant; tally held 2; give/\
+    c0 enter; reg; setg; leave/c1  enter;  getg; reg; leave /c1 enter; reg; leave/\
+    c0 enter; reg -> script s/script t/13: null/0/ptr/
+run |  heap 1 1/ type A n n n p:A+0/script s/ptr p A+0 -> not built/
+run run | heap 1 1/script s/ -> usage: markus run, check, print, replay, gen or trace/
+fly |  -> usage: markus run, check, print, replay, gen or trace/
+";
 
 /// A run: its words, its text, and how its source and its sink are cut into calls and which of these fail.
 #[derive(Clone, Copy)]
@@ -73,88 +78,60 @@ fn run(alloc: Global, case: &Case) -> Result<(Status, Vec<u8>), AllocError> {
     Ok((status, sink.bytes().to_vec(alloc)?))
 }
 
+/// Whether a row of `RUNS` goes as it says.
+fn goes(alloc: Global, row: &str) -> Result<bool, Fail> {
+    let Some((asked, text)) = row.split_once(" | ") else {
+        return Ok(false);
+    };
+    let Some((text, ending)) = text.split_once(" -> ") else {
+        return Ok(false);
+    };
+    let words: Vec<&str> = asked.split(' ').collect(alloc)?;
+    let text = behind(alloc, "", text)?;
+    let ending = behind(alloc, "", ending)?;
+    let (status, written) = run(alloc, &ample(words.as_slice(), text.as_bytes()))?;
+    let told = status.text(alloc).map_err(|_| AllocError)?;
+    let found = if told.is_empty() { &written } else { &told };
+    Ok(found.as_slice() == ending.as_bytes() && (told.is_empty() || written.is_empty()))
+}
+
 #[test]
-fn ends_as_the_cases_do(rt: HostRuntime) -> Result<(), Fail> {
-    let run_word: &[&str] = &["run"];
-    let refused: &[u8] =
-        b"heap 1 1\ntype A n*2\nscript s\nptr p A\nnum n\nconst n 5\ngetn n p 0\nprint n\n";
-    let full: &[u8] = b"heap 1 1\ntype A n*32\nscript s\nptr p A\nnew p A\nnew p A\nnew p A\n";
-    let first = ample(run_word, FIRST_RUN);
-    let cases: [(Case, Status, &[u8]); 18] = [
-        (first, Status::Ok, b"script s\n7\n"),
-        (
-            ample(run_word, refused),
-            Status::Ok,
-            b"script s\n7: null\n0\n",
-        ),
-        (ample(run_word, full), Status::Ok, b"script s\n7: full\n"),
-        (ample(run_word, BLOCKS), Status::Ok, b"script s\n3\n3\n"),
-        (ample(&["check"], BLOCKS), Status::Ok, b"ok\n"),
-        (ample(&["check"], LONGEST), Status::Ok, b"ok\n"),
-        (ample(&["print"], SPACED), Status::Ok, CANONICAL),
-        (
-            ample(&["replay"], SCHEDULED),
-            Status::Ok,
-            b"script s\nscript t\n13: null\n0\nptr\n",
-        ),
-        (ample(run_word, SPACED), Status::NotBuilt, b""),
-        (ample(&[], b""), Status::Usage, b""),
-        (ample(&["fly"], b""), Status::Usage, b""),
-        (ample(&["run", "run"], FIRST_RUN), Status::Usage, b""),
-        (
-            Case {
-                sink: (4, &[1]),
-                ..first
-            },
-            Status::WriteFault,
-            b"",
-        ),
-        (
-            Case {
-                sink: (4, &[2]),
-                ..first
-            },
-            Status::WriteFault,
-            b"scri",
-        ),
-        (
-            Case {
-                sink: (4, &[3]),
-                ..first
-            },
-            Status::WriteFault,
-            b"script s",
-        ),
-        (
-            Case {
-                sink: (4, &[4]),
-                ..first
-            },
-            Status::Ok,
-            b"script s\n7\n",
-        ),
-        (
-            Case {
-                source: (16, &[1]),
-                ..first
-            },
-            Status::ReadFault,
-            b"",
-        ),
-        (
-            Case {
-                source: (1, &[]),
-                sink: (1, &[]),
-                ..first
-            },
-            Status::Ok,
-            b"script s\n7\n",
-        ),
-    ];
-    for (number, (case, status, text)) in cases.iter().enumerate() {
-        let (ended, written) = run(rt.alloc(), case)?;
-        assert_eq!(rt; ended, *status, "case {number}");
-        assert_eq!(rt; written.as_slice(), *text, "case {number}");
+fn runs_end_as_they_should(rt: HostRuntime) -> Result<(), Fail> {
+    for row in RUNS.lines() {
+        assert!(rt; goes(rt.alloc(), row)?, "{row}");
+    }
+    let (status, written) = run(rt.alloc(), &ample(&[], b""))?;
+    assert_eq!(rt; status, Status::Usage);
+    assert!(rt; written.is_empty());
+
+    let bytewise = Case {
+        source: (1, &[]),
+        sink: (1, &[]),
+        ..ample(&["run"], FIRST_RUN)
+    };
+    let (status, written) = run(rt.alloc(), &bytewise)?;
+    assert_eq!(rt; status, Status::Ok);
+    assert_eq!(rt; written.as_slice(), b"script s\n7\n".as_slice());
+    Ok(())
+}
+
+/// The first script writes 11 bytes, which are 3 calls of 4.
+#[test]
+fn a_write_may_fail_at_each_call(rt: HostRuntime) -> Result<(), Fail> {
+    for (call, expected, text) in [
+        (1, Status::WriteFault, ""),
+        (2, Status::WriteFault, "scri"),
+        (3, Status::WriteFault, "script s"),
+        (4, Status::Ok, "script s\n7\n"),
+    ] {
+        let fails = [call];
+        let case = Case {
+            sink: (4, &fails),
+            ..ample(&["run"], FIRST_RUN)
+        };
+        let (status, written) = run(rt.alloc(), &case)?;
+        assert_eq!(rt; status, expected, "call {call}");
+        assert_eq!(rt; written.as_slice(), text.as_bytes(), "call {call}");
     }
     Ok(())
 }

@@ -1,5 +1,5 @@
 //! All that the program does.
-ghost use Rattle.std.specs.Prelude.{◌≡◌, ◌≢◌, ◌↔◌, map, string_bytes, None, IsSomeAnd};
+ghost use Rattle.std.specs.Prelude.{◌≡◌, ◌≢◌, ◌↔◌, map, string_bytes, length, false, None, IsSomeAnd};
 ghost use Rattle.mk_io.specs.Bytes.{Appends, AppendsPart};
 ghost use Rattle.mk_io.specs.Faults.{Rose};
 ghost use Rattle.markus.specs.Commands.{command_of};
@@ -39,6 +39,11 @@ pub fn markus<S: Source, K: Sink>(
     ensures write_fault { result ≡ Status.WriteFault → Rose (K.faults sink.old) (K.faults sink.new) }
     ensures read_whole { result ≢ Status.ReadFault → S.faults source.new ≡ S.faults source.old }
     ensures written_whole { result ≢ Status.WriteFault → K.faults sink.new ≡ K.faults sink.old }
+
+    // A source that never fails is read, and a sink that has room for what the command writes takes it.
+    ensures sound { result ≡ Status.ReadFault → S.never_fails source.old ≡ false }
+    ensures room { result ≡ Status.WriteFault →
+        HasAnswered (map (λ word. string_bytes word) words.now) (S.left source.old) (S.left source.new) (λ output. K.has_room sink.old (length output) ≡ false) }
 
     // What a refusal leaves.
     ensures unread { result ≡ Status.Usage → source.new ≡ source.old }

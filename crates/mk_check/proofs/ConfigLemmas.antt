@@ -19,9 +19,10 @@ use Rattle.mk_script.specs.Lines.{at_most}
 use Rattle.mk_script.specs.declared.faults.Which.TheVariants as which
 use Rattle.mk_check.specs.declared.typing_faults.TypeKind.{TypeKind}
 use Rattle.mk_check.specs.declared.typing_faults.TypeKind.TheVariants as kind
-use Rattle.mk_check.specs.Declarations.{place_of, kind_of, kinds_among, types_of, globals_among, globals_of, pages_of, resident_of}
+use Rattle.mk_check.specs.Declarations.{config_of, place_of, kind_of, kinds_among, types_of, globals_among, globals_of, pages_of, resident_of}
 use Rattle.mk_check.specs.Typing.{Around, TypingFault, ◌or◌, unless, at_line, typing_fault, fault_from, type_words, word_among, word_at, is_type, is_inside, pointers_have_types, pointers_are_inside, IsWellTyped}
-use Rattle.mk_check.proofs.GrammarLemmas.{Some≢None, AreLines, at_most-None, or_else-None, IsProgram, heap_within, length-script_names, length-type_names, length-global_names}
+use Rattle.mk_script.proofs.PassedLines.{ArePassed, IsWhole}
+use Rattle.mk_check.proofs.GrammarLemmas.{Some≢None, at_most-None, or_else-None, heap_within, length-script_names, length-type_names, length-global_names}
 use Rattle.mk_core.specs.declared.config.Config.{Config}
 use Rattle.mk_check.proofs.FormLemmas.{line_item-word}
 use Rattle.mk_check.proofs.NumberLemmas.{length-kinds_among, length-globals_among}
@@ -110,7 +111,7 @@ module _ (program : List Item) (script : List Item) where
       All-cons (IsAmong (types_of program)) _ _ (is_inside-IsAmong at both.0) (words_among words both.1)
 
 -- the types that lines behind these declare
-pub types-within : (program : List Item) (line : ℕ) (before items : List Item) → AreLines before items → fault_from program line before items ≡ None
+pub types-within : (program : List Item) (line : ℕ) (before items : List Item) → ArePassed before items → fault_from program line before items ≡ None
     → All (IsTypeAmong (types_of program)) (kinds_among (type_names program) items)
 types-within program line before [] lines h = All-nil (IsTypeAmong (types_of program))
 types-within program line before (TypeLine name words ∷ items) lines h =
@@ -140,19 +141,23 @@ globals-within program line before (item ∷ items) h =
     (at_line-None line (typing_fault (record { program = program; script = this_script before }) line items item) (fault_from program (line + 1) (before ++ item ∷ []) items) h).1
 
 -- the configuration of a program is within its limits
-pub IsWithinLimits-of : (program : List Item) → IsProgram program → IsWellTyped program → (config : Config)
-    → config.pages ≡ pages_of program → config.resident ≡ resident_of program → config.callers ≡ length (script_names program) → config.markers ≤ 8
-    → config.types ≡ types_of program → config.globals ≡ globals_of program → IsWithinLimits config
-IsWithinLimits-of program lines typed config pages resident callers markers types globals =
+pub config_within : (program : List Item) (markers : ℕ) → IsWhole program → IsWellTyped program → markers ≤ 8 → IsWithinLimits (config_of program markers)
+config_within program markers lines typed few =
     let heap = heap_within program lines in
-    let scripts = length-script_names program lines in
     record {
-      pages = (omega (arith, pages, heap.pages), omega (arith, pages, heap.pages));
-      resident = (omega (arith, resident, heap.resident), omega (arith, pages, resident, heap.resident));
-      callers = (omega (arith, callers, scripts), omega (arith, callers, scripts));
-      markers = markers;
-      type_count = omega (arith, ap length types, length-kinds_among (type_names program) program, length-type_names program lines);
-      global_count = omega (arith, ap length globals, length-globals_among (type_names program) program, length-global_names program lines);
-      types = rw types (types-within program 1 [] program lines.lines typed);
-      globals = rw (globals, types) (globals-within program 1 [] program typed);
+      pages = heap.pages;
+      resident = heap.resident;
+      callers = length-script_names program lines;
+      markers = few;
+      type_count = omega (arith, length-kinds_among (type_names program) program, length-type_names program lines);
+      global_count = omega (arith, length-globals_among (type_names program) program, length-global_names program lines);
+      types = types-within program 1 [] program lines.lines typed;
+      globals = globals-within program 1 [] program typed;
     }
+
+-- a configuration that has what the program declares
+pub config_is : (program : List Item) (pages resident callers markers : ℕ) (types : List (List Kind)) (globals : List ℕ)
+    → pages ≡ pages_of program → resident ≡ resident_of program → callers ≡ length (script_names program)
+    → types ≡ types_of program → globals ≡ globals_of program
+    → ◌≡◌ {A = Config} (record { pages = pages; resident = resident; callers = callers; markers = markers; types = types; globals = globals }) (config_of program markers)
+config_is program pages resident callers markers types globals p r c t g = cc

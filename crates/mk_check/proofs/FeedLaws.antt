@@ -1,13 +1,13 @@
 -- A script that is fed with one more answer.
-use Rattle.std.proofs.Common.{◌≡◌, ℕ, true, List, [], ◌∷◌, ◌++◌, refl, ap, ◌∙◌}
-use Rattle.std.specs.Prelude.{Option, Some}
+use Rattle.std.proofs.Common.{◌≡◌, ℕ, Bool, true, false, IsTrue, List, [], ◌∷◌, ◌++◌, refl, ap, ◌∙◌}
+use Rattle.std.specs.Prelude.{Option, Some, ◌↔◌, is_some, IsNone}
 use Rattle.mk_never.specs.declared.operations.Op.{Op}
 use Rattle.mk_core.specs.declared.events.Answer.{Answer}
 use Rattle.mk_core.specs.Decided.{flagged}
 use Rattle.mk_script.specs.declared.items.Item.{Item}
 use Rattle.mk_check.specs.Blocks.{Blocks, Done, Line, Rounds, Choice, is_done, script_of}
 use Rattle.mk_check.specs.Feed.{Scope, Fed, op_of, with_answer, note, take_answer, take_answers, started, feed, has_ended}
-use Rattle.mk_check.specs.Feeding.{first_op, script_scope, next_op}
+use Rattle.mk_check.specs.Feeding.{FeedState, FeedStandsFor, IsWaiting, first_op, script_scope, next_op}
 use Rattle.mk_check.proofs.Numbered.{run_agrees, ops-with_answer}
 
 pub take_answers_push : (scope : Scope) (fed : Fed) (answers : List Answer) (a : Answer)
@@ -46,3 +46,13 @@ pub ops-feed_push : (program : List Item) (k : ℕ) (answers : List Answer) (a :
 ops-feed_push program k answers a o h =
     ap (λ (f : Fed). f.ops) (feed_push program k answers a)
     ∙ ops_taken (script_scope program k) (feed program k answers) (feed program k answers).left a o h
+
+-- A feed that has an operation waits.
+pub waits_for_op : (s : FeedState) (o : Option Op)
+    → ((program : List Item) (k : ℕ) (answers : List Answer) → FeedStandsFor program k s answers → IsNone o ↔ IsTrue (has_ended (feed program k answers)))
+    → is_some o ≡ true → IsWaiting s
+waits_for_op s o none some = λ program k answers st. by_end (has_ended (feed program k answers)) (none program k answers st).1
+  where
+    by_end : (b : Bool) → (IsTrue b → IsNone o) → b ≡ false
+    by_end true f = let e : is_some o ≡ false = f refl in cc
+    by_end false f = refl

@@ -1,38 +1,25 @@
--- What each line of a program of some text keeps.
+-- Limits that the lines of a program of some text keep.
 use Rattle.std.proofs.Common.{◌≡◌, ℕ, ◌+◌, ◌-◌, ◌^◌, ◌≤◌, min, Bool, true, false, List, [], ◌∷◌, ◌++◌, length, Option, Some, None, Result, Ok, Err, refl, ap, sym, ◌∙◌, subst, arith}
 use Rattle.std.specs.Prelude.{if◌then◌else◌, nat_le, is_ok, is_some, ◌&&◌}
 use Rattle.std.proofs.lemmas.List.{append_assoc, append-nil, length-append}
 use Rattle.std.proofs.lemmas.Bool.{false≢true, leb-true}
 use Rattle.mk_script.specs.declared.items.Item.{Item}
 use Rattle.mk_script.specs.declared.items.Item.TheVariants.{Global, Heap, TypeLine, Script}
-use Rattle.mk_script.specs.declared.faults.TextStop.{TextStop}
-use Rattle.mk_script.specs.declared.faults.TextStop.TheVariants as stop
-use Rattle.mk_script.specs.declared.faults.TextKind.TheVariants.{Header, Twice, End}
+use Rattle.mk_script.specs.declared.faults.TextKind.TheVariants.{Header}
 use Rattle.mk_script.specs.declared.faults.Which.TheVariants as which
 use Rattle.mk_script.specs.declared.faults.LineFault.{LineFault}
 use Rattle.mk_script.specs.declared.faults.LineFault.TheVariants.{Text, Limit}
 use Rattle.mk_script.specs.declared.faults.Which.{Which}
-use Rattle.mk_script.specs.Words.{lines_of, words_of}
 use Rattle.std.specs.Str.{bytes_eq}
 use lib.Chars.{codes}
 use Rattle.mk_script.specs.declared.keywords.Keyword.TheVariants as keyword
 use Rattle.mk_script.specs.Operands.{◌>>=◌, item_from, number}
-use Rattle.mk_script.specs.Scopes.{global_names, open_blocks, type_names, script_names}
-use Rattle.mk_script.specs.Lines.{line_of, line_item, checked_item, or_item, or_else, at_most, within, limit_fault, heap_line, has_script, has_none, is_twice, ends_rightly}
-use Rattle.mk_script.specs.Grammar.{IsOfSomeText, items_of_lines, items_behind, go_on, fault_at}
+use Rattle.mk_script.specs.Scopes.{global_names, type_names, script_names}
+use Rattle.mk_script.proofs.PassedLines.{ArePassed, IsWhole}
+use Rattle.mk_script.specs.Lines.{or_else, at_most, within, limit_fault, heap_line, has_script}
 use Rattle.mk_core.specs.Config.{IsBetween}
 use Rattle.mk_check.specs.Declarations.{pages_of, resident_of}
 use Rattle.mk_check.proofs.NumberLemmas.{length-global_names-append, type_names-append}
-
--- A line behind these: what its words say, and no limit is passed.
-pub record IsLine (before : List Item) (item : Item) : Type 0 where
-  pub words : List (List ℕ)
-  pub says : line_item before words ≡ Ok item
-  pub within : limit_fault before item ≡ None
-
-abbrev pub AreLines : List Item → List Item → Type 0
-AreLines before [] = Unit {0}
-AreLines before (item ∷ items) = IsLine before item × AreLines (before ++ item ∷ []) items
 
 pub Err≢Ok : {T E : Type 0} (e : E) (x : T) → Err e ≡ Ok x → ⊥
 Err≢Ok e x h = false≢true (ap is_ok h)
@@ -60,70 +47,11 @@ pub and-true : (a b : Bool) → (a && b) ≡ true → (a ≡ true) × (b ≡ tru
 and-true true b h = (refl, h)
 and-true false b h = absurd (false≢true h)
 
--- an item that isn't twice, is within its limits and ends rightly
-checked-within : (twice ends : Bool) (first last : LineFault) (fault : Option LineFault) (found item : Item)
-    → (if twice then Err first else (or_item fault found >>= (λ item'. if ends then Ok item' else Err last))) ≡ Ok item → (found ≡ item) × (fault ≡ None)
-checked-within true ends first last fault found item h = absurd (Err≢Ok first item h)
-checked-within false true first last None found item h = (Ok-injective found item h, refl)
-checked-within false false first last None found item h = absurd (Err≢Ok last item h)
-checked-within false ends first last (Some fault) found item h = absurd (Err≢Ok fault item h)
-
-line-found : (before : List Item) (words : List (List ℕ)) (item : Item) (found : Result Item LineFault) → line_item before words ≡ found → (found >>= checked_item before) ≡ Ok item → IsLine before item
-line-found before words item (Ok found) says h =
-    let w = checked-within (is_twice before found) (ends_rightly (open_blocks before) found) (Text Twice) (Text End) (limit_fault before found) found item h in
-    record { words = words; says = says ∙ ap Ok w.0; within = ap (limit_fault before) (sym w.0) ∙ w.1 }
-line-found before words item (Err fault) says h = absurd (Err≢Ok fault item h)
-
-IsLine-of : (before : List Item) (words : List (List ℕ)) (item : Item) → line_of before words ≡ Ok item → IsLine before item
-IsLine-of before words item h = line-found before words item (line_item before words) refl h
-
--- what lines behind these give
-record Behind (before items : List Item) : Type 0 where
-  rest : List Item
-  all : items ≡ before ++ rest
-  lines : AreLines before rest
-  script : has_script items ≡ true
-
-ended : (closed script : Bool) (first last : TextStop) (before items : List Item) → script ≡ has_script before → (if closed then (if script then Ok before else Err first) else Err last) ≡ Ok items → Behind before items
-ended true true first last before items has h =
-    let same = Ok-injective before items h in
-    record { rest = []; all = sym same ∙ sym (append-nil before); lines = tt; script = ap has_script (sym same) ∙ sym has }
-ended true false first last before items has h = absurd (Err≢Ok first items h)
-ended false script first last before items has h = absurd (Err≢Ok last items h)
-
-one_more : (line : ℕ) (before items : List Item) (next : Item → Result (List Item) TextStop) (r : Result Item LineFault)
-    → ((item : Item) → r ≡ Ok item → IsLine before item) → ((item : Item) → next item ≡ Ok items → Behind (before ++ item ∷ []) items) → go_on line r next ≡ Ok items → Behind before items
-one_more line before items next (Ok item) is behind h =
-    let b = behind item h in
-    record { rest = item ∷ b.rest; all = b.all ∙ append_assoc before (item ∷ []) b.rest; lines = (is item refl, b.lines); script = b.script }
-one_more line before items next (Err fault) is behind h = absurd (Err≢Ok (fault_at line fault) items h)
-
-lines_behind : (lines : List (List ℕ)) (before items : List Item) → items_behind lines before ≡ Ok items → Behind before items
-lines_behind [] before items h =
-    ended (has_none (open_blocks before)) (has_script before) (stop.Limit (length before) which.Scripts 0) (stop.Text (length before) End) before items refl h
-lines_behind (line ∷ lines) before items h =
-    one_more (length before + 1) before items (λ item. items_behind lines (before ++ item ∷ [])) (line_of before (words_of line))
-    (IsLine-of before (words_of line)) (λ item. lines_behind lines (before ++ item ∷ []) items) h
-
-of_lines : (lines : List (List ℕ)) (items : List Item) → items_of_lines lines ≡ Ok items → Behind [] items
-of_lines [] items h = absurd (Err≢Ok (stop.Text 1 Header) items h)
-of_lines (line ∷ lines) items h = lines_behind (line ∷ lines) [] items h
-
--- a program of some text: its lines, of which one begins a script
-pub record IsProgram (items : List Item) : Type 0 where
-  pub lines : AreLines [] items
-  pub script : has_script items ≡ true
-
-pub IsProgram-of : (items : List Item) → IsOfSomeText items → IsProgram items
-IsProgram-of items (text, h) =
-    let b = of_lines (lines_of text) items (if-Ok (nat_le (length text) 1048576) (items_of_lines (lines_of text)) (stop.Limit 0 which.Bytes 1048577) items h) in
-    record { lines = subst (AreLines []) (sym b.all) b.lines; script = b.script }
-
 -- Counts of declarations.
 
 -- a count that each line keeps within its limit
 bound : (count : List Item → ℕ) (most : ℕ) → ((before : List Item) (item : Item) → limit_fault before item ≡ None → count before ≤ most → count (before ++ item ∷ []) ≤ most)
-    → (before rest : List Item) → AreLines before rest → count before ≤ most → count (before ++ rest) ≤ most
+    → (before rest : List Item) → ArePassed before rest → count before ≤ most → count (before ++ rest) ≤ most
 bound count most keeps before [] lines h = subst (λ items. count items ≤ most) (sym (append-nil before)) h
 bound count most keeps before (item ∷ rest) lines h =
     subst (λ items. count items ≤ most) (append_assoc before (item ∷ []) rest)
@@ -140,7 +68,7 @@ globals-keep : (before : List Item) (item : Item) → limit_fault before item �
 globals-keep before (Global name ty) within h = omega (arith, length-global_names-append before (Global name ty ∷ []), at_most-None (length (global_names before) + 1) 64 which.Globals within)
 globals-keep before item within h = omega (arith, length-global_names-append before (item ∷ []))
 
-pub length-global_names : (items : List Item) → IsProgram items → length (global_names items) ≤ 64
+pub length-global_names : (items : List Item) → IsWhole items → length (global_names items) ≤ 64
 length-global_names items program = bound (λ xs. length (global_names xs)) 64 globals-keep [] items program.lines (omega arith)
 
 types-keep : (before : List Item) (item : Item) → limit_fault before item ≡ None → length (type_names before) ≤ 64 → length (type_names (before ++ item ∷ [])) ≤ 64
@@ -150,7 +78,7 @@ types-keep before (TypeLine name words) within h =
 types-keep before item within h =
     omega (arith, ap length (type_names-append before (item ∷ [])), length-append (type_names before) [])
 
-pub length-type_names : (items : List Item) → IsProgram items → length (type_names items) ≤ 64
+pub length-type_names : (items : List Item) → IsWhole items → length (type_names items) ≤ 64
 length-type_names items program = bound (λ xs. length (type_names xs)) 64 types-keep [] items program.lines (omega arith)
 
 length-script_names-append : (items behind : List Item) → length (script_names (items ++ behind)) ≡ length (script_names items) + length (script_names behind)
@@ -167,7 +95,7 @@ some_script [] has = absurd (false≢true has)
 some_script (Script name ∷ items) has = omega arith
 some_script (item ∷ items) has = some_script items has
 
-pub length-script_names : (items : List Item) → IsProgram items → IsBetween 1 16 (length (script_names items))
+pub length-script_names : (items : List Item) → IsWhole items → IsBetween 1 16 (length (script_names items))
 length-script_names items program =
     (some_script items program.script, bound (λ xs. length (script_names xs)) 16 scripts-keep [] items program.lines (omega arith))
 
@@ -207,7 +135,7 @@ heap_first item items h heap =
     subst (λ first. IsHeapWithin (first ∷ items)) (sym heap.is)
     (record { pages = within-None 1 heap.pages 4096 which.Pages both.0; resident = within-None 1 heap.resident heap.pages which.Resident both.1 })
 
-pub heap_within : (items : List Item) → IsProgram items → IsHeapWithin items
+pub heap_within : (items : List Item) → IsWhole items → IsHeapWithin items
 heap_within [] program = absurd (false≢true program.script)
 heap_within (item ∷ items) program =
     let line = program.lines.0 in heap_first item items line.within (heap_line-item line.words item line.says)

@@ -23,3 +23,6 @@ pub mod DeclaredRegisters
 pub mod AdmittedLines
 pub mod TypedScripts
 pub mod AdmittedScripts
+mod DecidedStages
+pub mod GivenAnswers
+pub mod WrittenLines

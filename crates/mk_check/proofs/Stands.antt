@@ -1,5 +1,5 @@
 -- A script that is fed stands for what the definition says.
-use Rattle.std.proofs.Common.{◌≡◌, ℕ, ◌+◌, true, false, List, [], ◌∷◌, ◌++◌, length, refl, ap, sym, ◌∙◌, arith}
+use Rattle.std.proofs.Common.{◌≡◌, ℕ, ◌+◌, Bool, true, false, List, [], ◌∷◌, ◌++◌, length, refl, ap, sym, ◌∙◌, arith}
 use Rattle.std.specs.Prelude.{Option, Some, None, is_some}
 use Rattle.std.proofs.lemmas.List.{length_push, append_assoc}
 use Rattle.mk_never.specs.declared.operations.Op.{Op}
@@ -15,7 +15,7 @@ use Rattle.mk_check.specs.Feed.{Scope, Fed, op_of, refusal_line, refusal_text, n
 use Rattle.mk_check.specs.Steps.{Steps, then_steps, steps_of, instruction_of, Kept, Stopped, asked, with_text, answered, ran, ran_on}
 use Rattle.mk_check.specs.Steps as steps
 use Rattle.mk_check.specs.Trees.{Place, steps_at, trees, left_in, kept_in, stopped_in, with_kept, node_at, IsTree, IsWithin, StopsAt, HasStopped}
-use Rattle.mk_check.specs.Feeding.{FeedState, IsAtStop, op_of_node, op_in, first_op, script_scope, FeedStandsFor}
+use Rattle.mk_check.specs.Feeding.{FeedState, IsAtStop, op_of_node, op_in, first_op, script_scope, FeedStandsFor, IsFeed, IsWaiting}
 use Rattle.mk_check.proofs.StepLaws.{behind_text, stopped_behind_text, ran-text}
 use Rattle.mk_check.proofs.Numbered.{kept_of, stopped_of, run_agrees, op_of-asked, kept_of-with_answer, ops-with_answer}
 use Rattle.mk_check.proofs.FeedLaws.{feed_push}
@@ -80,6 +80,16 @@ pub op_stands : (program : List Item) (k : ℕ) (s : FeedState) (answers : List 
     → Tells (script_scope program k) (feed program k answers) (op_in s)
 op_stands program k s answers tree stop st =
     tells (script_scope program k) (feed program k answers) s.nodes s.place (node_at s.nodes s.place.at) tree stop.within refl stop.stops st.left st.numbers
+
+-- A script that hasn't ended waits for the answer of an operation.
+pub waits_for_answer : (s : FeedState) → IsTree s.nodes → IsFeed s → IsWaiting s → is_some (op_in s) ≡ true
+waits_for_answer s tree h waiting = by_op (is_some (op_in s)) refl
+  where
+    by_op : (b : Bool) → is_some (op_in s) ≡ b → b ≡ true
+    by_op true e = refl
+    by_op false e =
+        let t = op_stands h.some.program h.some.k s h.some.answers tree h.stop h.some.stands in
+        sym (waiting h.some.program h.some.k h.some.answers h.some.stands) ∙ t.ended e
 
 -- A script that begins.
 

@@ -67,7 +67,8 @@ branch (Some blocks) = blocks
 abbrev pub with_if : List ℕ → List Part → List Part
 with_if number [] = []
 with_if number (first ∷ []) = []
-with_if number (first ∷ part ∷ parts) = record part { blocks = Choice number first.blocks (branch first.second) part.blocks } ∷ parts
+with_if number (first ∷ part ∷ parts) =
+    record part { blocks = Choice number first.blocks (branch first.second) part.blocks } ∷ parts
 
 -- `else` before the innermost part, which was the second branch
 abbrev pub with_else : List Part → List Part

@@ -1,4 +1,5 @@
 -- A script's tree, built from its last line on.
+-- Private functions alone cite these words.
 use Rattle.std.specs.Prelude.{◌≡◌, ℕ, ◌<◌, ◌++◌, List, [], ◌∷◌, length, fold}
 use Rattle.mk_check.specs.declared.feeding.instructions.Element.{Element}
 use Rattle.mk_check.specs.declared.feeding.instructions.Element.TheVariants as element
@@ -21,10 +22,12 @@ part_of scope part = record { steps = steps_of scope part.blocks; second = steps
 -- a line before the parts
 abbrev pub with_element : ℕ → Element → List StepPart → List StepPart
 with_element line (element.Line instruction) [] = []
-with_element line (element.Line instruction) (part ∷ parts) = record part { steps = Line line instruction part.steps } ∷ parts
+with_element line (element.Line instruction) (part ∷ parts) =
+    record part { steps = Line line instruction part.steps } ∷ parts
 with_element line (element.Repeat rounds) [] = []
 with_element line (element.Repeat rounds) (body ∷ []) = []
-with_element line (element.Repeat rounds) (body ∷ part ∷ parts) = record part { steps = Rounds rounds body.steps part.steps } ∷ parts
+with_element line (element.Repeat rounds) (body ∷ part ∷ parts) =
+    record part { steps = Rounds rounds body.steps part.steps } ∷ parts
 with_element line (element.If number) [] = []
 with_element line (element.If number) (first ∷ []) = []
 with_element line (element.If number) (first ∷ part ∷ parts) =

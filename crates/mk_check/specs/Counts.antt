@@ -1,5 +1,6 @@
 -- What is counted of the open parts of a script that is read from its end, the innermost first. A count that passes
 -- 2^64 - 1 stays there.
+-- Private functions alone cite these words.
 use Rattle.std.specs.Prelude.{ℕ, ◌+◌, ◌*◌, ◌-◌, ◌^◌, min, max, if◌then◌else◌, List, [], ◌∷◌, map}
 use Rattle.mk_script.specs.declared.items.Item.{Item}
 use Rattle.mk_script.specs.declared.items.Item.TheVariants.{Repeat, If, Else, End}
@@ -13,7 +14,8 @@ saturated n = min n (2 ^ 64 - 1)
 
 -- the counts of a part's lines and of its second branch
 abbrev pub count_of : Part → PartCount
-count_of part = record { lines = saturated (length_of part.blocks); second = saturated (length_of (branch part.second)) }
+count_of part =
+    record { lines = saturated (length_of part.blocks); second = saturated (length_of (branch part.second)) }
 
 abbrev pub counts_of : List Part → List PartCount
 counts_of parts = map count_of parts

@@ -1,5 +1,5 @@
 -- What a program declares: a name's place among the names of its sort is its number.
-use Rattle.std.specs.Prelude.{ℕ, ◌+◌, List, [], ◌∷◌, map, if◌then◌else◌}
+use Rattle.std.specs.Prelude.{ℕ, ◌+◌, List, [], ◌∷◌, length, map, if◌then◌else◌}
 use Rattle.std.specs.Str.{bytes_eq}
 use Rattle.mk_never.specs.declared.types.Kind.{Kind}
 use Rattle.mk_never.specs.declared.types.Kind.TheVariants.{Num as NumKind, To}
@@ -7,7 +7,8 @@ use Rattle.mk_script.specs.declared.items.TypeWord.{TypeWord}
 use Rattle.mk_script.specs.declared.items.TypeWord.TheVariants.{Number, Pointer}
 use Rattle.mk_script.specs.declared.items.Item.{Item}
 use Rattle.mk_script.specs.declared.items.Item.TheVariants.{Heap, TypeLine, Global}
-use Rattle.mk_script.specs.Scopes.{type_names}
+use Rattle.mk_core.specs.declared.config.Config.{Config}
+use Rattle.mk_script.specs.Scopes.{type_names, script_names}
 
 abbrev pub place_of : List ℕ → List (List ℕ) → ℕ
 place_of name [] = 0
@@ -45,3 +46,15 @@ abbrev pub resident_of : List Item → ℕ
 resident_of [] = 0
 resident_of (Heap pages resident ∷ items) = resident
 resident_of (item ∷ items) = resident_of items
+
+-- the heap that a program's scripts share, with so many markers
+abbrev pub config_of : List Item → ℕ → Config
+config_of program markers =
+    record {
+      pages = pages_of program;
+      resident = resident_of program;
+      callers = length (script_names program);
+      markers = markers;
+      types = types_of program;
+      globals = globals_of program;
+    }

@@ -48,16 +48,21 @@ op_of scope fed (Num name) = None
 op_of scope fed (New pointer ty) = Some (op.New (pointer_place scope pointer) (place_of ty scope.types) false)
 op_of scope fed (Free pointer) = Some (op.Free (pointer_place scope pointer))
 op_of scope fed (Getn number pointer index) = Some (op.GetNum (pointer_place scope pointer) index)
-op_of scope fed (Setn pointer index number) = Some (op.SetNum (pointer_place scope pointer) index (number_in scope fed number))
-op_of scope fed (Getp loaded pointer index) = Some (op.GetPtr (pointer_place scope loaded) (pointer_place scope pointer) index)
-op_of scope fed (Setp pointer index stored) = Some (op.SetPtr (pointer_place scope pointer) index (pointer_place scope stored))
+op_of scope fed (Setn pointer index number) =
+    Some (op.SetNum (pointer_place scope pointer) index (number_in scope fed number))
+op_of scope fed (Getp loaded pointer index) =
+    Some (op.GetPtr (pointer_place scope loaded) (pointer_place scope pointer) index)
+op_of scope fed (Setp pointer index stored) =
+    Some (op.SetPtr (pointer_place scope pointer) index (pointer_place scope stored))
 op_of scope fed (Casp number pointer index expected stored) =
     Some (op.CasPtr (pointer_place scope pointer) index (pointer_place scope expected) (pointer_place scope stored))
-op_of scope fed (Lea moved pointer index) = Some (op.Lea (pointer_place scope moved) (pointer_place scope pointer) index)
+op_of scope fed (Lea moved pointer index) =
+    Some (op.Lea (pointer_place scope moved) (pointer_place scope pointer) index)
 op_of scope fed (Move copied pointer) = Some (op.Move (pointer_place scope copied) (pointer_place scope pointer))
 op_of scope fed (Clear pointer) = Some (op.Clear (pointer_place scope pointer))
 op_of scope fed (Loadg loaded global) = Some (op.GetGlobal (pointer_place scope loaded) (place_of global scope.globals))
-op_of scope fed (Storeg stored global) = Some (op.SetGlobal (place_of global scope.globals) (pointer_place scope stored))
+op_of scope fed (Storeg stored global) =
+    Some (op.SetGlobal (place_of global scope.globals) (pointer_place scope stored))
 op_of scope fed (Same number first second) = Some (op.Same (pointer_place scope first) (pointer_place scope second))
 op_of scope fed (Isnull number pointer) = Some (op.IsNull (pointer_place scope pointer))
 op_of scope fed (Show pointer) = Some (op.IsNull (pointer_place scope pointer))
@@ -96,10 +101,13 @@ run_rounds (suc more) body go fed = then_run (go fed) (run_rounds more body go) 
 abbrev pub run : Scope → Blocks → Fed → Fed
 run scope Done fed = record fed { left = Done }
 run scope (Line line item rest) fed =
-    if is_some (op_of scope fed item) then record fed { left = Line line item rest } else run scope rest (run_line scope fed item)
+    if is_some (op_of scope fed item)
+    then record fed { left = Line line item rest }
+    else run scope rest (run_line scope fed item)
 run scope (Rounds rounds body rest) fed = then_run (run_rounds rounds body (run scope body) fed) (run scope rest) rest
 run scope (Choice number first second rest) fed =
-    then_run (if number_in scope fed number == 0 then run scope second fed else run scope first fed) (run scope rest) rest
+    then_run (if number_in scope fed number == 0 then run scope second fed else run scope first fed)
+    (run scope rest) rest
 
 -- what is printed of an answer that refuses the instruction at this line
 abbrev pub refusal_text : Answer → List ℕ
@@ -139,7 +147,8 @@ note fed None line a = fed
 note fed (Some o) line a =
     record fed { ops = fed.ops ++ flagged o a ∷ []; text = fed.text ++ refusal_line line (refusal_text a) }
 
--- An operation's answer: the operation is noted, a refusal is printed, and the script runs on. A script that has ended takes none.
+-- An operation's answer: the operation is noted, a refusal is printed, and the script runs on. A script that has ended
+-- takes none.
 abbrev pub take_answer : Scope → Fed → Blocks → Answer → Fed
 take_answer scope fed (Line line item rest) a =
     run scope rest (with_answer scope (note fed (op_of scope fed item) line a) item a)
@@ -160,7 +169,12 @@ scope_of program script = record {
 -- a script before its first line: all number registers are 0, and its name is printed
 abbrev pub begun : Scope → ScriptText → Fed
 begun scope script =
-    record { left = Done; numbers = replicate (length scope.numbers) 0; ops = []; text = codes "script " ++ (script.name ++ newline) }
+    record {
+      left = Done;
+      numbers = replicate (length scope.numbers) 0;
+      ops = [];
+      text = codes "script " ++ (script.name ++ newline);
+    }
 
 -- a script that has run to its first operation
 abbrev pub started : Scope → ScriptText → Fed

@@ -1,12 +1,12 @@
 -- What a script that is fed stands for.
-use Rattle.std.specs.Prelude.{◌≡◌, ℕ, ◌++◌, List, [], ◌∷◌, length, Option, None}
+use Rattle.std.specs.Prelude.{◌≡◌, ℕ, false, ◌++◌, List, [], ◌∷◌, length, Option, None}
 use Rattle.mk_never.specs.declared.operations.Op.{Op}
 use Rattle.mk_core.specs.declared.events.Answer.{Answer}
 use Rattle.mk_script.specs.declared.items.Item.{Item}
 use Rattle.mk_check.specs.declared.feeding.tree.Node.{Node}
 use Rattle.mk_check.specs.declared.feeding.tree.Node.TheVariants as node
 use Rattle.mk_check.specs.Blocks.{Blocks, Done, Line, Rounds, Choice, script_of}
-use Rattle.mk_check.specs.Feed.{Scope, Fed, op_of, scope_of, feed}
+use Rattle.mk_check.specs.Feed.{Scope, Fed, op_of, scope_of, feed, has_ended}
 use Rattle.mk_check.specs.Steps.{asked, steps_of}
 use Rattle.mk_check.specs.Trees.{Place, left_in, node_at, IsWithin, StopsAt, work_of}
 
@@ -57,6 +57,23 @@ pub record FeedStandsFor (program : List Item) (k : ℕ) (s : FeedState) (answer
   pub left : left_in s.nodes s.place ≡ steps_of (script_scope program k) (feed program k answers).left
   pub numbers : s.place.numbers ≡ (feed program k answers).numbers
   pub text : s.place.text ≡ (feed program k answers).text
+
+-- some script and answers that it stands for
+pub record StandsForSome (s : FeedState) : Type 0 where
+  pub program : List Item
+  pub k : ℕ
+  pub answers : List Answer
+  pub stands : FeedStandsFor program k s answers
+
+-- it is at a stop of some script
+pub record IsFeed (s : FeedState) : Type 0 where
+  pub stop : IsAtStop s
+  pub some : StandsForSome s
+
+-- The script that it stands for has not ended.
+abbrev pub IsWaiting : FeedState → Type 0
+IsWaiting s = (program : List Item) (k : ℕ) (answers : List Answer)
+    → FeedStandsFor program k s answers → has_ended (feed program k answers) ≡ false
 
 -- Whatever the first stands for, the second stands for that with the answer behind it.
 abbrev pub TakesAnswer : FeedState → Answer → FeedState → Type 0

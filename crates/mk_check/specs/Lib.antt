@@ -10,6 +10,8 @@ pub mod Lookups
 pub mod Numbers
 pub mod Rules
 pub mod NamesInScope
+pub mod Output
 pub mod Steps
 pub mod Trees
 pub mod Typing
+pub mod WrittenBlocks

@@ -1,4 +1,5 @@
 -- What look-ups by name know of a program.
+-- Private functions alone cite these words.
 use Rattle.std.specs.Prelude.{◌≡◌, ℕ, if◌then◌else◌, List, [], ◌∷◌, ◌++◌, take, Option, Some, None}
 use Rattle.std.specs.Borrow.{Bor}
 use Rattle.std.specs.HashMap.{HashMap, get_by}
@@ -27,7 +28,8 @@ value_of names name = get_by (λ key. bytes_eq name key.now) names
 -- the value is added for the name, unless it has one
 abbrev pub AddsFirst : {X S : Type 0} → HashMap (Bor (List ℕ)) X S → HashMap (Bor (List ℕ)) X S → List ℕ → X → Type 0
 AddsFirst old new name value =
-    (other : List ℕ) → value_of new other ≡ option_or (value_of old other) (if bytes_eq other name then Some value else None)
+    (other : List ℕ) → value_of new other
+    ≡ option_or (value_of old other) (if bytes_eq other name then Some value else None)
 
 abbrev pub KeepsValues : {X S : Type 0} → HashMap (Bor (List ℕ)) X S → HashMap (Bor (List ℕ)) X S → Type 0
 KeepsValues old new = (name : List ℕ) → value_of new name ≡ value_of old name

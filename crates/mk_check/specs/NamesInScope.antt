@@ -1,4 +1,5 @@
 -- Names that items declare.
+-- Private functions alone cite these words.
 use Rattle.std.specs.Prelude.{ℕ, ◌≤◌, length, List, map, Option, Some, None}
 use Rattle.std.specs.Borrow.{Bor}
 use Rattle.mk_script.specs.declared.items.Item.{Item}

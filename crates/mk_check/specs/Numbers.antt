@@ -1,4 +1,5 @@
 -- The numbers of types, by name.
+-- Private functions alone cite these words.
 use Rattle.std.specs.Prelude.{◌≡◌, ℕ, ◌+◌, if◌then◌else◌, List, [], ◌∷◌, length, option_map, Option, Some, None}
 use Rattle.std.specs.Borrow.{Bor}
 use Rattle.std.specs.HashMap.{HashMap}
@@ -8,9 +9,11 @@ use Rattle.mk_check.specs.Lookups.{value_of}
 -- a name's place among these, if it is one of them
 abbrev pub place_among : List ℕ → List (List ℕ) → Option ℕ
 place_among name [] = None
-place_among name (other ∷ others) = if bytes_eq name other then Some 0 else option_map (λ place. place + 1) (place_among name others)
+place_among name (other ∷ others) =
+    if bytes_eq name other then Some 0 else option_map (λ place. place + 1) (place_among name others)
 
 -- the map has the place of each name, and they are so many
-pub record AreNumbers {S : Type 0} (numbers : HashMap (Bor (List ℕ)) ℕ S) (count : ℕ) (names : List (List ℕ)) : Type 0 where
+pub record AreNumbers {S : Type 0} (numbers : HashMap (Bor (List ℕ)) ℕ S) (count : ℕ) (names : List (List ℕ)) : Type
+    0 where
   pub places : (name : List ℕ) → value_of numbers name ≡ place_among name names
   pub all : count ≡ length names

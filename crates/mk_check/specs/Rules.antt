@@ -1,4 +1,5 @@
 -- Rules for the lines of each sort.
+-- Private functions alone cite these words.
 use Rattle.std.specs.Prelude.{Bool, true, false, if◌then◌else◌, [], Option, None}
 use Rattle.mk_script.specs.declared.items.At.{At}
 use Rattle.mk_script.specs.declared.items.Item.{Item}

@@ -1,4 +1,6 @@
--- A script with numbers for its names, and what it does. It is the script of the definitions in Feed, with less to look up.
+-- A script with numbers for its names, and what it does. It is the script of the definitions in Feed, with less to
+-- look up.
+-- Private functions cite these words, and public clauses only by what a `Feed` stands for.
 use Rattle.std.specs.Prelude.{ℕ, zero, suc, ◌+◌, ◌-◌, ◌%◌, ◌^◌, Bool, true, false, List, ◌++◌, slice_index, slice_set, ◌==◌, if◌then◌else◌, Option, Some, None, is_some, unwrap_or}
 use Rattle.std.specs.Option.{option_or}
 use Rattle.std.specs.Fmt.{decimal}
@@ -43,22 +45,28 @@ number_place scope name = place_of name scope.numbers
 abbrev pub object_op : Scope → Item → Option Op
 object_op scope (item.New pointer ty) = Some (op.New (pointer_place scope pointer) (place_of ty scope.types) false)
 object_op scope (item.Free pointer) = Some (op.Free (pointer_place scope pointer))
-object_op scope (item.Getp loaded pointer index) = Some (op.GetPtr (pointer_place scope loaded) (pointer_place scope pointer) index)
-object_op scope (item.Setp pointer index stored) = Some (op.SetPtr (pointer_place scope pointer) index (pointer_place scope stored))
+object_op scope (item.Getp loaded pointer index) =
+    Some (op.GetPtr (pointer_place scope loaded) (pointer_place scope pointer) index)
+object_op scope (item.Setp pointer index stored) =
+    Some (op.SetPtr (pointer_place scope pointer) index (pointer_place scope stored))
 object_op scope other = None
 
 -- the operation of an instruction that copies a pointer
 abbrev pub register_op : Scope → Item → Option Op
-register_op scope (item.Lea moved pointer index) = Some (op.Lea (pointer_place scope moved) (pointer_place scope pointer) index)
+register_op scope (item.Lea moved pointer index) =
+    Some (op.Lea (pointer_place scope moved) (pointer_place scope pointer) index)
 register_op scope (item.Move copied pointer) = Some (op.Move (pointer_place scope copied) (pointer_place scope pointer))
 register_op scope (item.Clear pointer) = Some (op.Clear (pointer_place scope pointer))
-register_op scope (item.Loadg loaded global) = Some (op.GetGlobal (pointer_place scope loaded) (place_of global scope.globals))
-register_op scope (item.Storeg stored global) = Some (op.SetGlobal (place_of global scope.globals) (pointer_place scope stored))
+register_op scope (item.Loadg loaded global) =
+    Some (op.GetGlobal (pointer_place scope loaded) (place_of global scope.globals))
+register_op scope (item.Storeg stored global) =
+    Some (op.SetGlobal (place_of global scope.globals) (pointer_place scope stored))
 register_op scope other = None
 
 -- an instruction that keeps a number of an object
 abbrev pub load : Scope → Item → Option Instruction
-load scope (item.Getn number pointer index) = Some (Load (number_place scope number) (op.GetNum (pointer_place scope pointer) index))
+load scope (item.Getn number pointer index) =
+    Some (Load (number_place scope number) (op.GetNum (pointer_place scope pointer) index))
 load scope (item.Casp number pointer index expected stored) =
     Some
     (Load (number_place scope number)
@@ -67,18 +75,23 @@ load scope other = None
 
 -- an instruction that keeps or shows what it tests of pointers
 abbrev pub pointer_test : Scope → Item → Option Instruction
-pointer_test scope (item.Same number first second) = Some (Load (number_place scope number) (op.Same (pointer_place scope first) (pointer_place scope second)))
-pointer_test scope (item.Isnull number pointer) = Some (Load (number_place scope number) (op.IsNull (pointer_place scope pointer)))
+pointer_test scope (item.Same number first second) =
+    Some (Load (number_place scope number) (op.Same (pointer_place scope first) (pointer_place scope second)))
+pointer_test scope (item.Isnull number pointer) =
+    Some (Load (number_place scope number) (op.IsNull (pointer_place scope pointer)))
 pointer_test scope (item.Show pointer) = Some (Show (pointer_place scope pointer))
 pointer_test scope other = None
 
 -- an instruction that reads number registers
 abbrev pub arithmetic : Scope → Item → Option Instruction
 arithmetic scope (item.Const number value) = Some (Const (number_place scope number) value)
-arithmetic scope (item.Add number left right) = Some (Add (number_place scope number) (number_place scope left) (number_place scope right))
-arithmetic scope (item.Sub number left right) = Some (Sub (number_place scope number) (number_place scope left) (number_place scope right))
+arithmetic scope (item.Add number left right) =
+    Some (Add (number_place scope number) (number_place scope left) (number_place scope right))
+arithmetic scope (item.Sub number left right) =
+    Some (Sub (number_place scope number) (number_place scope left) (number_place scope right))
 arithmetic scope (item.Print number) = Some (Print (number_place scope number))
-arithmetic scope (item.Setn pointer index number) = Some (Store (pointer_place scope pointer) index (number_place scope number))
+arithmetic scope (item.Setn pointer index number) =
+    Some (Store (pointer_place scope pointer) index (number_place scope number))
 arithmetic scope other = None
 
 -- an operation, or else another instruction
@@ -89,7 +102,8 @@ asking_or (Some o) other = Ask o
 -- a line that is neither the head nor the end of a block
 abbrev pub instruction_of : Scope → Item → Instruction
 instruction_of scope item =
-    asking_or (option_or (object_op scope item) (register_op scope item)) (option_or (option_or (load scope item) (pointer_test scope item)) (arithmetic scope item))
+    asking_or (option_or (object_op scope item) (register_op scope item))
+    (option_or (option_or (load scope item) (pointer_test scope item)) (arithmetic scope item))
 
 -- what a line adds to the script's tree
 abbrev pub element_of : Scope → Item → Element
@@ -151,7 +165,8 @@ after_line (Show p) kept = kept
 
 -- what runs behind a part that may have stopped at an operation
 abbrev pub then_ran : Stopped → (Kept → Stopped) → Steps → Stopped
-then_ran stopped go rest = if none_left stopped.left then go stopped.kept else record stopped { left = then_steps stopped.left rest }
+then_ran stopped go rest =
+    if none_left stopped.left then go stopped.kept else record stopped { left = then_steps stopped.left rest }
 
 -- rounds of a body
 abbrev pub ran_rounds : ℕ → Steps → (Kept → Stopped) → Kept → Stopped
@@ -162,7 +177,9 @@ ran_rounds (suc more) body go kept = then_ran (go kept) (ran_rounds more body go
 abbrev pub ran : Steps → Kept → Stopped
 ran Done kept = record { left = Done; kept = kept }
 ran (Line line instruction rest) kept =
-    if is_some (asked kept.numbers instruction) then record { left = Line line instruction rest; kept = kept } else ran rest (after_line instruction kept)
+    if is_some (asked kept.numbers instruction)
+    then record { left = Line line instruction rest; kept = kept }
+    else ran rest (after_line instruction kept)
 ran (Rounds rounds body rest) kept = then_ran (ran_rounds rounds body (ran body) kept) (ran rest) rest
 ran (Choice number first second rest) kept =
     then_ran (if slice_index kept.numbers number == 0 then ran second kept else ran first kept) (ran rest) rest

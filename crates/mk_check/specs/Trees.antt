@@ -1,4 +1,5 @@
 -- What the nodes of a tree stand for, and where a script is in it.
+-- Private functions cite these words, and public clauses only by what a `Feed` stands for.
 use Rattle.std.specs.Prelude.{◌≡◌, ℕ, zero, suc, ◌+◌, ◌*◌, ◌<◌, ◌++◌, ◌==◌, max, true, List, [], ◌∷◌, length, fold, slice_index, slice_index_or, if◌then◌else◌, is_some}
 use Rattle.mk_check.specs.declared.feeding.tree.Node.{Node}
 use Rattle.mk_check.specs.declared.feeding.tree.Node.TheVariants as node
@@ -15,7 +16,8 @@ abbrev pub steps_from : List Steps → Node → Steps
 steps_from built node.Done = Done
 steps_from built (node.Line line instruction next) = Line line instruction (steps_at built next)
 steps_from built (node.Rounds rounds body next) = Rounds rounds (steps_at built body) (steps_at built next)
-steps_from built (node.Choice number first second next) = Choice number (steps_at built first) (steps_at built second) (steps_at built next)
+steps_from built (node.Choice number first second next) =
+    Choice number (steps_at built first) (steps_at built second) (steps_at built next)
 
 abbrev pub with_node : List Steps → Node → List Steps
 with_node built n = built ++ steps_from built n ∷ []
@@ -47,7 +49,8 @@ pub record Place : Type 0 where
 
 -- the steps of an open block, before those behind it
 abbrev pub frame_steps : List Steps → Steps → Frame → Steps
-frame_steps built behind (frame.Rounds rounds body next) = Rounds rounds (steps_at built body) (then_steps (steps_at built next) behind)
+frame_steps built behind (frame.Rounds rounds body next) =
+    Rounds rounds (steps_at built body) (then_steps (steps_at built next) behind)
 frame_steps built behind (frame.Branch next) = then_steps (steps_at built next) behind
 
 -- the steps behind the innermost block
@@ -101,7 +104,8 @@ left_block p (frame.Branch next) = record p { at = next }
 -- an `if` begins
 abbrev pub branched : Place → ℕ → ℕ → ℕ → ℕ → Place
 branched p number first second next =
-    record p { at = if slice_index p.numbers number == 0 then second else first; frames = p.frames ++ frame.Branch next ∷ [] }
+    record p
+    { at = if slice_index p.numbers number == 0 then second else first; frames = p.frames ++ frame.Branch next ∷ [] }
 
 -- the innermost block is left
 pub record LeavesBlock (old new : Place) : Type 0 where

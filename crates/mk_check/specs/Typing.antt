@@ -142,7 +142,8 @@ typing_fault a line behind (Ptr name at) = is_type a at.name or is_inside a (Som
 typing_fault a line behind (Num name) = None
 typing_fault a line behind (New pointer ty) =
     is_pointer a pointer or is_type a ty or same_kind (pointer_at pointer a.script) (Some (base_of ty))
-typing_fault a line behind (Free pointer) = is_pointer a pointer or unless (is_base (pointer_at pointer a.script)) kind.InteriorFree
+typing_fault a line behind (Free pointer) =
+    is_pointer a pointer or unless (is_base (pointer_at pointer a.script)) kind.InteriorFree
 typing_fault a line behind (Getn number pointer index) =
     is_number a number or is_pointer a pointer or is_inside a (place_behind a pointer index)
     or holds_number a pointer index

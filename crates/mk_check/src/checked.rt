@@ -3,7 +3,7 @@ ghost use Rattle.std.specs.Prelude.{◌≡◌, ◌≤◌, length, IfOk, IfErr, O
 ghost use Rattle.mk_core.specs.Config.{IsWithinLimits};
 ghost use Rattle.mk_script.specs.Grammar.{IsOfSomeText};
 ghost use Rattle.mk_script.specs.Scopes.{script_names};
-ghost use Rattle.mk_check.specs.Declarations.{pages_of, resident_of, types_of, globals_of};
+ghost use Rattle.mk_check.specs.Declarations.{pages_of, resident_of, config_of};
 ghost use Rattle.mk_check.specs.Typing.{IsWellTyped, NamesFirstFault};
 
 use crate::TypeStop;
@@ -56,12 +56,7 @@ impl Checked {
     /// What a heap for its scripts is started with, where each script is a caller.
     pub fn config(&self, alloc: Global, markers: u64) -> Result<Config, NoMemory>
         requires { markers ≤ 8 }
-        ensures pages { IfOk result (λ config. config.pages ≡ pages_of self.now) }
-        ensures resident { IfOk result (λ config. config.resident ≡ resident_of self.now) }
-        ensures callers { IfOk result (λ config. config.callers ≡ length (script_names self.now)) }
-        ensures markers { IfOk result (λ config. config.markers ≡ markers) }
-        ensures types { IfOk result (λ config. config.types ≡ types_of self.now) }
-        ensures globals { IfOk result (λ config. config.globals ≡ globals_of self.now) }
+        ensures config { IfOk result (λ config. config ≡ config_of self.now markers) }
 
         // What the grammar's limits and the types say of these.
         ensures within_limits { IfOk result IsWithinLimits }

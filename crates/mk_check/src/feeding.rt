@@ -1,6 +1,6 @@
 //! A script that is fed with answers.
-ghost use Rattle.std.specs.Prelude.{◌≡◌, ◌<◌, ◌↔◌, [], length, IsTrue, IsSome, IsNone, IfOk, OnOk, OnErr};
-ghost use Rattle.mk_script.specs.Scopes.{script_names};
+ghost use Rattle.std.specs.Prelude.{◌≡◌, ◌<◌, ◌↔◌, [], IsTrue, IsNone, IfOk, OnOk, OnErr};
+ghost use Rattle.mk_check.specs.Laws.{IsScript};
 
 mod building;
 mod instructions;
@@ -9,6 +9,7 @@ mod running;
 mod scripts;
 mod tree;
 
+use crate::Checked;
 use building::tree_of;
 use mk_core::Answer;
 use mk_never::{NoMemory, Op};
@@ -29,13 +30,13 @@ pub struct Feed {
 }
 
 impl Model for Feed {
-    ghost use Rattle.mk_check.specs.Feeding.{FeedState, IsAtStop};
+    ghost use Rattle.mk_check.specs.Feeding.{FeedState, IsFeed};
 
     ghost Value = { FeedState };
 
     ghost view = { λ f. record { nodes = f.tree; place = f.running } };
 
-    ghost invariant = { λ f. IsAtStop (record { nodes = f.tree; place = f.running }) };
+    ghost invariant = { λ f. IsFeed (record { nodes = f.tree; place = f.running }) };
 }
 
 impl Feed {
@@ -44,16 +45,23 @@ impl Feed {
     ghost use Rattle.mk_script.specs.declared.items.Item.{Item};
     ghost use Rattle.mk_check.specs.Feed.{feed, has_ended};
     ghost use Rattle.mk_script.specs.Grammar.{IsOfSomeText};
-    ghost use Rattle.mk_check.specs.Feeding.{script_scope, op_in, next_op, work_left, FeedStandsFor, TakesAnswer};
+    ghost use Rattle.mk_check.specs.Feeding.{next_op, work_left, FeedStandsFor, IsWaiting, TakesAnswer};
 
     /// Script `script` of a program, from 0 on, which has no answer yet.
-    pub fn start(alloc: Global, program: &[Item], script: u64) -> Result<Feed, NoMemory>
-        requires exists { script < length (script_names program.now) }
-        requires text { IsOfSomeText program.now }
+    pub fn start(alloc: Global, program: &Checked, script: u64) -> Result<Feed, NoMemory>
+        requires { IsScript program.now script }
         ensures { IfOk result (λ f. FeedStandsFor program.now script f []) }
     {
-        let lines = script_at(program, script);
-        let names = Names::of(alloc, program, lines.items)?;
+        Feed::begin(alloc, program.program().items(), script)
+    }
+
+    fn begin(alloc: Global, items: &[Item], script: u64) -> Result<Feed, NoMemory>
+        requires exists { IsScript items.now script }
+        requires text { IsOfSomeText items.now }
+        ensures { IfOk result (λ f. FeedStandsFor items.now script f []) }
+    {
+        let lines = script_at(items, script);
+        let names = Names::of(alloc, items, lines.items)?;
         let (tree, at) = tree_of(alloc, &names, lines.line, lines.items)?;
         let mut running = Running::begin(alloc, at, names.numbers(), lines.name)?;
         running.run(alloc, &tree)?;
@@ -62,7 +70,6 @@ impl Feed {
 
     /// The operation that waits for its answer, with `full` false in a `New`; none at the end.
     pub fn op(&self) -> Option<Op>
-        ensures value { result ≡ op_in self.now }
         ensures next { (program : List Item) (k : ℕ) (answers : List Answer)
             → FeedStandsFor program k self.now answers → result ≡ next_op program k answers }
         ensures none { (program : List Item) (k : ℕ) (answers : List Answer)
@@ -77,7 +84,7 @@ impl Feed {
 
     /// Answers the operation that waits, and runs on to the next, or to the end.
     pub fn answer(&mut self, alloc: Global, answer: Answer) -> Result<(), NoMemory>
-        requires { IsSome (op_in self.old) }
+        requires { IsWaiting self.old }
         ensures ok { OnOk result (TakesAnswer self.old answer self.new) }
         ensures nearer { OnOk result (work_left self.new < work_left self.old) }
         ensures err { OnErr result (self.new ≡ self.old) }

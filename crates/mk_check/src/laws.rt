@@ -5,6 +5,8 @@ ghost use Rattle.mk_core.specs.declared.events.Answer.{Answer};
 ghost use Rattle.mk_script.specs.declared.items.Item.{Item};
 ghost use Rattle.mk_script.specs.Scopes.{script_names};
 ghost use Rattle.mk_check.specs.Laws.{IsChecked, IsScript, AreNotedBy, AnswersAreNoted, OthersAreIgnored, AreAdmittedFor, NextIsAdmitted, AreOfScripts};
+ghost use Rattle.mk_check.specs.Output.{EndedCallsAreAnswered};
+ghost use Rattle.mk_check.specs.WrittenBlocks.{ScriptsAreTheirLines};
 
 /// What a script asks for next is admitted: behind any admitted calls, whatever their other callers did, if
 /// its own are those that it noted so far.
@@ -31,4 +33,16 @@ pub fn what_scripts_ask_is_noted()
 pub fn what_scripts_ask_is_admitted()
     ensures { (program : List Item) (callers : ℕ) (calls : List Call)
         → IsChecked program → length (script_names program) ≤ callers → AreOfScripts program calls → AreAdmittedFor program callers calls }
+{}
+
+/// A script's blocks, written out as lines again with their `else` and `end`, are its lines.
+#[tactic(auto, using(crate::proofs::WrittenLines::scripts_are_their_lines))]
+pub fn blocks_are_lines()
+    ensures { (program : List Item) → ScriptsAreTheirLines program }
+{}
+
+/// Behind each enabled list of events, each call that ended has an answer, which its script is given.
+#[tactic(auto, using(crate::proofs::GivenAnswers::ended_calls_are_answered))]
+pub fn ended_calls_are_answered()
+    ensures { EndedCallsAreAnswered }
 {}

@@ -1,6 +1,6 @@
 -- The bytes that a source has left, and those that a sink has taken. `None` stands for one that
 -- does not tell them: of it these words claim nothing.
-use Rattle.std.specs.Prelude.{◌≡◌, ℕ, ◌<◌, ◌≤◌, List, [], ◌++◌, length, take, drop, Some, IfSome}
+use Rattle.std.specs.Prelude.{◌≡◌, ℕ, Bool, true, ◌+◌, ◌<◌, ◌≤◌, List, [], ◌++◌, length, take, drop, Some, IfSome}
 use Rattle.std.specs.declared.option.Option.{Option}
 
 -- how many bytes an input may have: one MiB
@@ -37,3 +37,7 @@ Appends old new bytes = IfSome old (λ taken. new ≡ Some (taken ++ bytes))
 -- a sink has now what it had taken, with some of these bytes at the end, from the front and not all
 abbrev pub AppendsPart : Option (List ℕ) → Option (List ℕ) → List ℕ → Type 0
 AppendsPart old new bytes = (n : ℕ) × (n < length bytes) × Appends old new (take n bytes)
+
+-- a sink that had room for more than these bytes has room for the rest
+abbrev pub KeepsRoom : (ℕ → Bool) → (ℕ → Bool) → ℕ → Type 0
+KeepsRoom old new n = (more : ℕ) → old (n + more) ≡ true → new more ≡ true

@@ -1,5 +1,5 @@
 -- What a `MemSink` takes.
-use Rattle.std.specs.Prelude.{ℕ, ◌-◌, ◌==◌, ◌&&◌, ◌||◌, not, Bool, min, List, [], ◌++◌, length, take, Some, None, if◌then◌else◌}
+use Rattle.std.specs.Prelude.{ℕ, nat_le, ◌-◌, ◌==◌, ◌&&◌, ◌||◌, not, Bool, min, List, [], ◌++◌, length, take, Some, None, if◌then◌else◌}
 use Rattle.std.specs.declared.option.Option.{Option}
 use Rattle.mk_io.specs.Faults.{saturating_next, fails_next}
 
@@ -41,3 +41,7 @@ after_write s bytes =
       room = s.room - taken_count s (length bytes);
       calls = saturating_next s.calls;
     }
+
+-- it takes so many more bytes, and none of its calls fails
+abbrev pub sink_has_room : SinkState → ℕ → Bool
+sink_has_room s n = (length s.fails == 0) && nat_le n s.room

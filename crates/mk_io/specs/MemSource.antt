@@ -1,5 +1,5 @@
 -- What a `MemSource` gives.
-use Rattle.std.specs.Prelude.{ℕ, min, List, length, drop, Some, None, if◌then◌else◌}
+use Rattle.std.specs.Prelude.{ℕ, Bool, ◌==◌, min, List, length, drop, Some, None, if◌then◌else◌}
 use Rattle.std.specs.declared.option.Option.{Option}
 use Rattle.mk_io.specs.Faults.{saturating_next, fails_next}
 
@@ -31,3 +31,7 @@ after_read s space =
     if fails_next s.fails s.calls
     then record s { calls = saturating_next s.calls; faults = saturating_next s.faults }
     else record s { left = drop (given_count s space) s.left; calls = saturating_next s.calls }
+
+-- none of its calls fails
+abbrev pub source_never_fails : SourceState → Bool
+source_never_fails s = length s.fails == 0

@@ -1,10 +1,10 @@
 // Sources and sinks in memory, whose calls move few bytes and fail as they are told.
-ghost use Rattle.std.specs.Prelude.{◌≡◌, ℕ, ◌<◌, ◌≤◌, max, length, take, Some, IfOk, OnOk, OnErr};
+ghost use Rattle.std.specs.Prelude.{◌≡◌, ℕ, ◌<◌, ◌≤◌, max, length, take, Some, true, false, IfOk, OnOk, OnErr};
 ghost use Rattle.std.specs.Result.{result_ok};
-ghost use Rattle.mk_io.specs.Bytes.{Appends, Takes, IsAtEnd};
+ghost use Rattle.mk_io.specs.Bytes.{Appends, Takes, IsAtEnd, KeepsRoom};
 ghost use Rattle.mk_io.specs.Faults.{Rose, saturating_next, fails_next};
-ghost use Rattle.mk_io.specs.MemSink.{new_sink, count_written, after_write};
-ghost use Rattle.mk_io.specs.MemSource.{new_source, count_read, after_read};
+ghost use Rattle.mk_io.specs.MemSink.{new_sink, count_written, after_write, sink_has_room};
+ghost use Rattle.mk_io.specs.MemSource.{new_source, count_read, after_read, source_never_fails};
 
 use crate::sinks::Sink;
 use crate::sources::Source;
@@ -95,6 +95,8 @@ impl Source for MemSource {
 
     ghost faults = { λ s. s.faults };
 
+    ghost never_fails = { λ s. source_never_fails s };
+
     fn read(&mut self, buf: &mut [u8]) -> Result<usize, Failed>
         ensures count { result_ok result ≡ count_read self.old (length buf.old) }
         ensures after { self.new ≡ after_read self.old (length buf.old) }
@@ -106,6 +108,8 @@ impl Source for MemSource {
         ensures err { OnErr result (self.new.left ≡ self.old.left) }
         ensures fault { OnErr result (Rose self.old.faults self.new.faults) }
         ensures never_falls { self.old.faults ≤ self.new.faults }
+        ensures sound { OnErr result (source_never_fails self.old ≡ false) }
+        ensures stays_sound { source_never_fails self.old ≡ true → source_never_fails self.new ≡ true }
     {
         if self.plan.next_fails() {
             self.plan.count_fault();
@@ -193,6 +197,8 @@ impl Sink for MemSink {
 
     ghost faults = { λ s. s.faults };
 
+    ghost has_room = { λ s n. sink_has_room s n };
+
     fn write(&mut self, bytes: &[u8]) -> Result<usize, Failed>
         ensures count { result_ok result ≡ count_written self.old (length bytes.now) }
         ensures after { self.new ≡ after_write self.old bytes.now }
@@ -204,6 +210,8 @@ impl Sink for MemSink {
         ensures err { OnErr result (self.new.taken ≡ self.old.taken) }
         ensures fault { OnErr result (Rose self.old.faults self.new.faults) }
         ensures never_falls { self.old.faults ≤ self.new.faults }
+        ensures room { OnErr result (sink_has_room self.old (length bytes.now) ≡ false) }
+        ensures keeps_room { IfOk result (λ n. KeepsRoom (sink_has_room self.old) (sink_has_room self.new) n) }
     {
         if self.plan.next_fails() || (self.room == 0 && !bytes.is_empty()) {
             self.plan.count_fault();

@@ -1,5 +1,5 @@
 // Reading all bytes of a source.
-ghost use Rattle.std.specs.Prelude.{◌≡◌, ◌≢◌, ◌+◌, ◌≤◌, vec_len, IfOk};
+ghost use Rattle.std.specs.Prelude.{◌≡◌, ◌≢◌, ◌+◌, ◌≤◌, vec_len, false, IfOk};
 ghost use Rattle.mk_io.specs.Bytes.{TakesAll, TakesCount, TakesAtMost, longest_input};
 ghost use Rattle.mk_io.specs.Faults.{Rose};
 
@@ -24,7 +24,7 @@ pub enum ReadStop {
     NoMemory = 3,
 }
 
-/// Reads all bytes up to the end of input. The first call that fails is the last.
+/// Reads all bytes up to the end of input.
 ///
 /// Where the source doesn't tell what it has left, the clauses on content say nothing.
 pub fn read_all<S: Source>(alloc: Global, source: &mut S) -> Result<Vec<u8>, ReadStop>
@@ -46,6 +46,9 @@ pub fn read_all<S: Source>(alloc: Global, source: &mut S) -> Result<Vec<u8>, Rea
     ensures no_fault { result ≢ Err ReadStop.ReadFault →
         S.faults source.new ≡ S.faults source.old }
     ensures never_falls { S.faults source.old ≤ S.faults source.new }
+
+    // A source that never fails is read.
+    ensures sound { result ≡ Err ReadStop.ReadFault → S.never_fails source.old ≡ false }
 {
     let mut bytes = Vec::new(alloc);
     let mut buffer = [0u8; CHUNK];

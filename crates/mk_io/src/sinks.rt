@@ -1,7 +1,7 @@
 // What bytes are written to.
-ghost use Rattle.std.specs.Prelude.{◌≡◌, ℕ, List, ◌<◌, ◌≤◌, length, take, IfOk, OnOk, OnErr};
+ghost use Rattle.std.specs.Prelude.{◌≡◌, ℕ, Bool, List, ◌<◌, ◌≤◌, length, take, false, IfOk, OnOk, OnErr};
 ghost use Rattle.std.specs.declared.option.Option.{Option};
-ghost use Rattle.mk_io.specs.Bytes.{Appends};
+ghost use Rattle.mk_io.specs.Bytes.{Appends, KeepsRoom};
 ghost use Rattle.mk_io.specs.Faults.{Rose};
 
 use crate::Failed;
@@ -9,11 +9,14 @@ use crate::Failed;
 /// What bytes are written to, a part at a time.
 ///
 /// The ghost member `taken` is the bytes that the sink took so far, or `None` where it doesn't tell
-/// them: then the clauses on content say nothing. `faults` counts the calls that failed.
+/// them: then the clauses on content say nothing. `faults` counts the calls that failed, and
+/// `has_room` says that the sink takes so many more bytes with no call that fails.
 pub trait Sink {
     ghost taken: { Self → Option (List ℕ) };
 
     ghost faults: { Self → ℕ };
+
+    ghost has_room: { Self → ℕ → Bool };
 
     /// Takes some bytes from the front of `bytes`, at least one where there is one, and returns how
     /// many.
@@ -27,5 +30,9 @@ pub trait Sink {
         ensures err { OnErr result (taken self.new ≡ taken self.old) }
         ensures fault { OnErr result (Rose (faults self.old) (faults self.new)) }
         ensures no_fault { OnOk result (faults self.new ≡ faults self.old) }
-        ensures never_falls { faults self.old ≤ faults self.new };
+        ensures never_falls { faults self.old ≤ faults self.new }
+
+        // A sink that has room for a piece doesn't fail, and keeps the rest of its room.
+        ensures room { OnErr result (has_room self.old (length bytes.now) ≡ false) }
+        ensures keeps_room { IfOk result (λ n. KeepsRoom (has_room self.old) (has_room self.new) n) };
 }

@@ -1,5 +1,5 @@
 // What bytes are read from.
-ghost use Rattle.std.specs.Prelude.{◌≡◌, ℕ, List, ◌<◌, ◌≤◌, length, take, IfOk, OnOk, OnErr};
+ghost use Rattle.std.specs.Prelude.{◌≡◌, ℕ, Bool, List, ◌<◌, ◌≤◌, length, take, true, false, IfOk, OnOk, OnErr};
 ghost use Rattle.std.specs.declared.option.Option.{Option};
 ghost use Rattle.mk_io.specs.Bytes.{Takes, IsAtEnd};
 ghost use Rattle.mk_io.specs.Faults.{Rose};
@@ -9,11 +9,14 @@ use crate::Failed;
 /// What bytes are read from, a part at a time.
 ///
 /// The ghost member `left` is the bytes that are still to come, or `None` where the source doesn't
-/// tell them: then the clauses on content say nothing. `faults` counts the calls that failed.
+/// tell them: then the clauses on content say nothing. `faults` counts the calls that failed, and
+/// `never_fails` says that no call fails from now on.
 pub trait Source {
     ghost left: { Self → Option (List ℕ) };
 
     ghost faults: { Self → ℕ };
+
+    ghost never_fails: { Self → Bool };
 
     /// Reads some bytes to the front of `buf`, and returns how many. What stands behind them in
     /// `buf` is left open.
@@ -28,5 +31,9 @@ pub trait Source {
         ensures err { OnErr result (left self.new ≡ left self.old) }
         ensures fault { OnErr result (Rose (faults self.old) (faults self.new)) }
         ensures no_fault { OnOk result (faults self.new ≡ faults self.old) }
-        ensures never_falls { faults self.old ≤ faults self.new };
+        ensures never_falls { faults self.old ≤ faults self.new }
+
+        // A source that never fails doesn't, and stays so.
+        ensures sound { OnErr result (never_fails self.old ≡ false) }
+        ensures stays_sound { never_fails self.old ≡ true → never_fails self.new ≡ true };
 }

@@ -1,5 +1,5 @@
 // Sources and sinks over the readers and writers of std, as a program's standard input and output.
-ghost use Rattle.std.specs.Prelude.{◌≡◌, ◌<◌, ◌≤◌, length, None, IfOk, OnErr, is_err, if◌then◌else◌};
+ghost use Rattle.std.specs.Prelude.{◌≡◌, ◌<◌, ◌≤◌, length, None, false, IfOk, OnErr, is_err, if◌then◌else◌};
 ghost use Rattle.std.specs.Io.KnownBytes.{ReadConsumes, WriteAppends};
 ghost use Rattle.mk_io.specs.Faults.{Rose, saturating_next};
 ghost use Rattle.mk_io.specs.Stream.{new_stream};
@@ -39,6 +39,8 @@ impl<T: Read> Source for StdinSource<T> {
     ghost left = { λ _. None };
 
     ghost faults = { λ s. s.faults };
+
+    ghost never_fails = { λ _. false };
 
     fn read(&mut self, buf: &mut [u8]) -> Result<usize, Failed>
         // What the reader gives is passed on.
@@ -91,6 +93,8 @@ impl<T: Write> Sink for StdoutSink<T> {
     ghost taken = { λ _. None };
 
     ghost faults = { λ s. s.faults };
+
+    ghost has_room = { λ _ _. false };
 
     fn write(&mut self, bytes: &[u8]) -> Result<usize, Failed>
         // What the writer takes is taken.

@@ -1,13 +1,12 @@
 // Writing all bytes to a sink.
-ghost use Rattle.std.specs.Prelude.{◌≡◌, ◌≤◌, OnOk, OnErr};
+ghost use Rattle.std.specs.Prelude.{◌≡◌, ◌≤◌, length, false, OnOk, OnErr};
 ghost use Rattle.mk_io.specs.Bytes.{Appends, AppendsPart};
 ghost use Rattle.mk_io.specs.Faults.{Rose};
 
 use crate::Failed;
 use crate::sinks::Sink;
 
-/// Writes all of `bytes`, in as many calls as the sink needs. The first call that fails is the
-/// last.
+/// Writes all of `bytes`, in as many calls as the sink needs.
 ///
 /// Where the sink doesn't tell what it took, the clauses on content say nothing.
 pub fn write_all<K: Sink>(sink: &mut K, bytes: &[u8]) -> Result<(), Failed>
@@ -18,6 +17,9 @@ pub fn write_all<K: Sink>(sink: &mut K, bytes: &[u8]) -> Result<(), Failed>
     ensures fault { OnErr result (Rose (K.faults sink.old) (K.faults sink.new)) }
     ensures no_fault { OnOk result (K.faults sink.new ≡ K.faults sink.old) }
     ensures never_falls { K.faults sink.old ≤ K.faults sink.new }
+
+    // A sink that has room for the bytes takes them.
+    ensures room { OnErr result (K.has_room sink.old (length bytes.now) ≡ false) }
 {
     let mut written = 0;
     while written < bytes.len() {

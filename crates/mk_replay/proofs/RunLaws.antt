@@ -28,7 +28,11 @@ use Rattle.mk_core.proofs.Conditions.{enabled_meets}
 use Rattle.mk_replay.specs.declared.players.Player.{Player}
 use Rattle.mk_replay.specs.declared.replaying.Run.{Run}
 use Rattle.mk_replay.specs.declared.schedule.Entry.{Entry}
-use Rattle.mk_replay.specs.Replays.{config_of, event_of, is_of_caller, is_last, newer, IsTextOf, AreFirstTexts}
+use Rattle.mk_check.specs.Declarations.{config_of}
+use Rattle.mk_check.specs.Output.{ends_call}
+use Rattle.mk_core.specs.Growing.{is_same_seat}
+use Rattle.std.specs.Option.{option_or}
+use Rattle.mk_replay.specs.Replays.{event_of, IsTextOf, AreFirstTexts}
 use Rattle.mk_replay.specs.Players.{Served, served_by, served, IsFed, IsPlayerOf, ArePlayersOf, TakesAnswer, TakesStep, TakeEvent, IsRunOf, TakesEntry}
 use Rattle.mk_replay.proofs.ServedMore.{served_more, served_first}
 
@@ -71,15 +75,15 @@ answer_is c es e caller o a h =
 is_same : (j : ℕ) → (j == j) ≡ true
 is_same j = eq-eqb j j refl
 
-is_other : (j k : ℕ) → j ≢ k → (j == k) ≡ false
+is_other : (j k : ℕ) → j ≢ k → (k == j) ≡ false
 is_other j k ne = grind (arith, nat_tests)
 
 mine : (players : List Player) (j : ℕ) (old new : Player) (e : Event) (a : Option Answer)
-    → j < length players → old ≡ slice_index_or players j old → e.seat ≡ seat.Caller j → TakesStep (is_last e.step) a old new
+    → j < length players → old ≡ slice_index_or players j old → e.seat ≡ seat.Caller j → TakesStep (ends_call e.step) a old new
     → (program : List Item) (d : Player) (x : Served) → IsPlayerOf program j x (get_or players j d)
     → IsPlayerOf program j (served_by j e a x) (get_or (set players j new) j d)
 mine players j old new e a lt at is takes program d x h =
-    let mine : is_of_caller j e.seat ≡ true = ap (λ (s : Seat). is_of_caller j s) is ∙ is_same j in
+    let mine : is_same_seat (seat.Caller j) e.seat ≡ true = ap (λ (s : Seat). is_same_seat (seat.Caller j) s) is ∙ is_same j in
     let here : get_or players j d ≡ old = get_or_default players j d old lt ∙ sym at in
     rw (mine, get_or-set_same players j new d lt) (takes program j x (subst (λ (p : Player). IsPlayerOf program j x p) here h))
 
@@ -87,12 +91,12 @@ others : (players : List Player) (j : ℕ) (new : Player) (e : Event) (a : Optio
     → (program : List Item) (k : ℕ) (d : Player) (x : Served) → j ≢ k → IsPlayerOf program k x (get_or players k d)
     → IsPlayerOf program k (served_by k e a x) (get_or (set players j new) k d)
 others players j new e a is program k d x other h =
-    let not_mine : is_of_caller k e.seat ≡ false = ap (λ (s : Seat). is_of_caller k s) is ∙ is_other j k other in
+    let not_mine : is_same_seat (seat.Caller k) e.seat ≡ false = ap (λ (s : Seat). is_same_seat (seat.Caller k) s) is ∙ is_other j k other in
     rw (not_mine, get_or-set_other players j k new d (λ same. other (sym same))) h
 
 -- One player takes a step of its caller.
 pub one_takes : (players : List Player) (j : ℕ) (old new : Player) (e : Event) (a : Option Answer)
-    → j < length players → old ≡ slice_index_or players j old → e.seat ≡ seat.Caller j → TakesStep (is_last e.step) a old new
+    → j < length players → old ≡ slice_index_or players j old → e.seat ≡ seat.Caller j → TakesStep (ends_call e.step) a old new
     → TakeEvent e a players (slice_set players j new)
 one_takes players j old new e a lt at is takes = λ program k d x less h.
     elim (cases_eq j k) [
@@ -102,10 +106,10 @@ one_takes players j old new e a lt at is takes = λ program k d x less h.
     ]
 
 -- At a call's last step the answer that was kept, or is decided there, is given.
-pub last_takes : (old new : Player) (decided : Option Answer) (a : Answer) → newer decided old.kept ≡ Some a
+pub last_takes : (old new : Player) (decided : Option Answer) (a : Answer) → option_or decided old.kept ≡ Some a
     → TakesAnswer a (record old { kept = None }) new → TakesStep true decided old new
 last_takes old new decided a is takes = λ program k x h.
-    let given : newer decided x.kept ≡ Some a = ap (λ (o : Option Answer). newer decided o) (sym h.kept) ∙ is in
+    let given : option_or decided x.kept ≡ Some a = ap (λ (o : Option Answer). option_or decided o) (sym h.kept) ∙ is in
     rw given (takes program k (record { answers = x.answers; kept = None }) (record { fed = h.fed; kept = refl; ops = h.ops; refused = h.refused }))
 
 -- One player more.
@@ -114,8 +118,8 @@ pub players_push : (program : List Item) (players : List Player) (p : Player) �
 players_push program players p h new = λ k d less.
     let total = length-append players (p ∷ []) in
     elim (cases_eq k (length players)) [
-      | inl e ↦ rw (get_or_push players p d k (sym e)) (subst (λ (i : ℕ). IsPlayerOf program i (served (config_of program) [] i) p) (sym e)
-          (subst (λ (x : Served). IsPlayerOf program (length players) x p) (sym (served_first (config_of program) (length players))) new))
+      | inl e ↦ rw (get_or_push players p d k (sym e)) (subst (λ (i : ℕ). IsPlayerOf program i (served (config_of program 8) [] i) p) (sym e)
+          (subst (λ (x : Served). IsPlayerOf program (length players) x p) (sym (served_first (config_of program 8) (length players))) new))
       | inr ne ↦ (let lt : k < length players = omega arith in rw (get_or_append_left players (p ∷ []) d k lt) (h k d lt))
     ]
 
@@ -131,24 +135,24 @@ texts_push program es texts t h new = λ k d less.
 
 -- The players behind an event that decides this answer.
 players_more : (program : List Item) (es : List Event) (e : Event) (a : Option Answer) (players new : List Player)
-    → length new ≡ length players → a ≡ answer_decided (config_of program) (left (config_of program) es).now e
+    → length new ≡ length players → AreEnabled (config_of program 8) (es ++ e ∷ []) → a ≡ answer_decided (config_of program 8) (left (config_of program 8) es).now e
     → TakeEvent e a players new → ArePlayersOf program es players → ArePlayersOf program (es ++ e ∷ []) new
-players_more program es e a players new count is takes h = λ k d less.
+players_more program es e a players new count enabled is takes h = λ k d less.
     let lt : k < length players = omega arith in
-    let c = config_of program in
+    let c = config_of program 8 in
     subst (λ (x : Served). IsPlayerOf program k x (get_or new k d))
-    (ap (λ (b : Option Answer). served_by k e b (served c es k)) is ∙ sym (served_more c es k e))
+    (ap (λ (b : Option Answer). served_by k e b (served c es k)) is ∙ sym (served_more c es k e enabled))
     (takes program k d (served c es k) lt (h k d lt))
 
 -- A run goes on behind an event of the core.
 pub run_goes : (program : List Item) (es : List Event) (x : Entry) (old new : Run) (core : CoreState) (e : Event) (a : Option Answer)
-    → IsRunOf program es old → (IsTrue (seat_exists (config_of program) x.seat) → e ≡ event_of program es x) → e.seat ≡ x.seat
+    → IsRunOf program es old → (IsTrue (seat_exists (config_of program 8) x.seat) → e ≡ event_of program es x) → e.seat ≡ x.seat
     → core.config ≡ old.core.config → CoreStandsFor core (es ++ e ∷ [])
     → calls old.core.config (es ++ e ∷ []) ≡ calls old.core.config es ++ entry_of (caller_number e.seat) (flight_of (left old.core.config es).now e.seat).op a
     → new.core ≡ core → length new.players.items ≡ length old.players.items → TakeEvent e a old.players.items new.players.items
     → TakesEntry program es x new
 run_goes program es x old new core e a h event seat same stands answers keeps count takes =
-    let c = config_of program in
+    let c = config_of program 8 in
     let config : core.config ≡ c = same ∙ h.config in
     let all : AreEnabled c (es ++ e ∷ []) = subst (λ (k : Config). AreEnabled k (es ++ e ∷ [])) config stands.enabled in
     let enabled : IsEnabled c (left c es).now e = last_enabled c (first_world c) es e all in
@@ -163,6 +167,6 @@ run_goes program es x old new core e a h event seat same stands answers keeps co
             config = ap (λ (k : CoreState). k.config) keeps ∙ config;
             stands = subst (λ (k : CoreState). CoreStandsFor k (es ++ e ∷ [])) (sym keeps) stands;
             count = count ∙ h.count;
-            players = players_more program es e a old.players.items new.players.items count decided takes h.players;
+            players = players_more program es e a old.players.items new.players.items count all decided takes h.players;
           });
     }

@@ -13,16 +13,18 @@ use Rattle.mk_replay.specs.declared.replaying.Run.{Run}
 use Rattle.mk_replay.specs.declared.replaying.ReplayStop.{ReplayStop}
 use Rattle.mk_replay.specs.declared.replaying.ReplayStop.TheVariants.{NotEnabled}
 use Rattle.mk_replay.specs.declared.schedule.Entry.{Entry}
-use Rattle.mk_replay.specs.Replays.{config_of, event_of, failing_entry, is_refusal, answers_given, history_from, history_of, refusal_from, refusal_of}
+use Rattle.mk_replay.specs.Replays.{event_of, failing_entry, is_refusal, history_from, history_of, refusal_from, refusal_of}
 use Rattle.mk_replay.specs.Players.{EachHasRoom, IsRunOf, TakesEntry, IsNotEnabled, IsUnderWay}
-use Rattle.mk_replay.proofs.ServedMore.{few_answers}
+use Rattle.mk_check.specs.Declarations.{config_of}
+use Rattle.mk_check.specs.Output.{answers_given}
+use Rattle.mk_check.proofs.GivenAnswers.{few_answers}
 
 -- There are fewer answers than the counts can hold.
 pub room_of : (program : List Item) (schedule : List Entry) (n : ℕ) (run : Run) → IsUnderWay program schedule n run → n < 18446744073709551615 → EachHasRoom run.players.items
 room_of program schedule n run h few = λ k d less.
     let p = h.is_run.players k d less in
-    let answers = answers_given (config_of program) h.events k in
-    let so_few : length answers ≤ length h.events = few_answers (config_of program) h.events k in
+    let answers = answers_given (config_of program 8) h.events k in
+    let so_few : length answers ≤ length h.events = few_answers (config_of program 8) h.events k in
     let fewer = count_by-le-length is_refusal answers in
     let ops = p.ops in
     let refused = p.refused in
@@ -88,7 +90,7 @@ refused_here program schedule entries n run d stop same lt h t =
 pub record IsOver (program : List Item) (schedule : List Entry) (run : Run) : Type 0 where
   pub is_run : IsRunOf program (history_of program schedule) run
   pub refusal : refusal_of program schedule ≡ None
-  pub enabled : AreEnabled (config_of program) (history_of program schedule)
+  pub enabled : AreEnabled (config_of program 8) (history_of program schedule)
 
 pub over : (program : List Item) (schedule entries : List Entry) (n : ℕ) (run : Run)
     → entries ≡ schedule → length entries ≤ n → IsUnderWay program schedule n run → IsOver program schedule run

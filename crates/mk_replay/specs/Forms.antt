@@ -49,22 +49,27 @@ plain_forms =
     (codes "enter", form.Enter) ∷ (codes "leave", form.Leave) ∷ (codes "reg", form.Reg) ∷ (codes "probe", form.Probe)
     ∷ (codes "read", form.Read) ∷ (codes "write", form.Write) ∷ (codes "cas", form.Cas) ∷ (codes "getg", form.Getg)
     ∷ (codes "setg", form.Setg) ∷ (codes "take", form.Take) ∷ (codes "give", form.Give) ∷ (codes "grant", form.Grant)
-    ∷ (codes "full", form.Full) ∷ (codes "begin", form.Begin) ∷ (codes "close", form.Close) ∷ (codes "release", form.Release)
+    ∷ (codes "full", form.Full) ∷ (codes "begin", form.Begin) ∷ (codes "close", form.Close)
+    ∷ (codes "release", form.Release)
     ∷ (codes "end", form.End) ∷ (codes "want", form.Want) ∷ (codes "dirty", form.Dirty) ∷ (codes "attend", form.Attend)
-    ∷ (codes "quit", form.Quit) ∷ (codes "mload", form.Mload) ∷ (codes "mmark", form.Mmark) ∷ (codes "mblack", form.Mblack)
+    ∷ (codes "quit", form.Quit) ∷ (codes "mload", form.Mload) ∷ (codes "mmark", form.Mmark)
+    ∷ (codes "mblack", form.Mblack)
     ∷ (codes "over", form.Over) ∷ []
 
 -- forms of one number
 abbrev pub forms_of_number : List (List ℕ × (ℕ → Form))
 forms_of_number =
     (codes "hold", (λ n. form.Hold n)) ∷ (codes "open", (λ n. form.Open n)) ∷ (codes "clear", (λ n. form.Clear n))
-    ∷ (codes "wipe", (λ n. form.Wipe n)) ∷ (codes "undirty", (λ n. form.Undirty n)) ∷ (codes "unblack", (λ n. form.Unblack n)) ∷ []
+    ∷ (codes "wipe", (λ n. form.Wipe n)) ∷ (codes "undirty", (λ n. form.Undirty n))
+    ∷ (codes "unblack", (λ n. form.Unblack n)) ∷ []
 
 -- forms of two numbers
 abbrev pub forms_of_numbers : List (List ℕ × (ℕ → ℕ → Form))
 forms_of_numbers =
-    (codes "head", (λ p v. form.Head p v)) ∷ (codes "used", (λ p v. form.Used p v)) ∷ (codes "quar", (λ p v. form.Quar p v))
-    ∷ (codes "mark", (λ p v. form.Mark p v)) ∷ (codes "black", (λ p v. form.Black p v)) ∷ (codes "claim", (λ p k. form.Claim p k)) ∷ []
+    (codes "head", (λ p v. form.Head p v)) ∷ (codes "used", (λ p v. form.Used p v))
+    ∷ (codes "quar", (λ p v. form.Quar p v))
+    ∷ (codes "mark", (λ p v. form.Mark p v)) ∷ (codes "black", (λ p v. form.Black p v))
+    ∷ (codes "claim", (λ p k. form.Claim p k)) ∷ []
 
 -- forms of a word of the table
 abbrev pub forms_of_word : List (List ℕ × (Word → Form))
@@ -77,14 +82,16 @@ tallies =
 
 abbrev pub plain_words : List (List ℕ × Word)
 plain_words =
-    (codes "phase", word.Phase) ∷ (codes "held", word.Held) ∷ (codes "fresh", word.Fresh) ∷ (codes "cycles", word.Cycles)
+    (codes "phase", word.Phase) ∷ (codes "held", word.Held) ∷ (codes "fresh", word.Fresh)
+    ∷ (codes "cycles", word.Cycles)
     ∷ (codes "released", word.Released) ∷ (codes "full", word.Full) ∷ []
 
 abbrev pub words_of_number : List (List ℕ × (ℕ → Word))
 words_of_number =
     (codes "gate", (λ n. word.Gate n)) ∷ (codes "global", (λ n. word.Global n)) ∷ (codes "head", (λ n. word.Head n))
     ∷ (codes "used", (λ n. word.Used n)) ∷ (codes "quar", (λ n. word.Quar n)) ∷ (codes "mark", (λ n. word.Mark n))
-    ∷ (codes "black", (λ n. word.Black n)) ∷ (codes "dirty", (λ n. word.Dirty n)) ∷ (codes "heap", (λ n. word.Heap n)) ∷ []
+    ∷ (codes "black", (λ n. word.Black n)) ∷ (codes "dirty", (λ n. word.Dirty n))
+    ∷ (codes "heap", (λ n. word.Heap n)) ∷ []
 
 abbrev pub or_word : {A : Type 0} → Option A → Result A TextKind
 or_word (Some x) = Ok x
@@ -102,7 +109,8 @@ with_numbers (Some f) v w = both f (number v) (number w)
 abbrev pub table_word : List (List ℕ) → Result Word TextKind
 table_word (a ∷ []) = or_word (among plain_words a)
 table_word (a ∷ n ∷ []) = with_number (among words_of_number a) n
-table_word (a ∷ c ∷ r ∷ []) = with_numbers (if bytes_eq a (codes "reg") then Some (λ caller register. word.Reg caller register) else None) c r
+table_word (a ∷ c ∷ r ∷ []) =
+    with_numbers (if bytes_eq a (codes "reg") then Some (λ caller register. word.Reg caller register) else None) c r
 table_word _ = Err kind.Word
 
 abbrev pub with_table_word : Option (Word → Form) → List (List ℕ) → Result Form TextKind
@@ -111,10 +119,6 @@ with_table_word (Some f) ws = on_ok f (table_word ws)
 
 abbrev pub tally_form : List ℕ → List ℕ → Result Form TextKind
 tally_form n v = both (λ t value. form.Tally t value) (or_word (among tallies n)) (number v)
-
-abbrev pub or_else_form : Option (List ℕ → Result Form TextKind) → Result Form TextKind → List ℕ → Result Form TextKind
-or_else_form None other w = other
-or_else_form (Some f) other w = f w
 
 -- an event of two numbers, a tally or a word of one number
 abbrev pub two_operands : List ℕ → List ℕ → List ℕ → Result Form TextKind

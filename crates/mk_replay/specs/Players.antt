@@ -1,21 +1,26 @@
 -- What a run keeps for each script, and what it stands for.
+-- Private functions alone cite these words.
 use Rattle.std.specs.Prelude.{◌≡◌, ◌<◌, ◌≤◌, ℕ, Bool, true, false, List, [], ◌∷◌, ◌++◌, length, count_by, slice_index_or, drop, Option, None, if◌then◌else◌}
 use Rattle.mk_script.specs.declared.items.Item.{Item}
 use Rattle.mk_script.specs.Scopes.{script_names}
+use Rattle.std.specs.List.{cons_option}
+use Rattle.std.specs.Option.{option_or}
+use Rattle.mk_check.specs.Declarations.{config_of}
 use Rattle.mk_check.specs.Feed.{feed}
+use Rattle.mk_check.specs.Output.{ends_call, answers_given, answer_waiting}
 use Rattle.mk_check.specs.Feeding.{FeedState, FeedStandsFor}
 use Rattle.mk_core.specs.declared.config.Config.{Config}
 use Rattle.mk_core.specs.declared.events.Event.{Event}
 use Rattle.mk_core.specs.declared.events.Answer.{Answer}
-use Rattle.mk_core.specs.Effects.{answer_decided}
-use Rattle.mk_core.specs.History.{World, first_world, world_behind}
+use Rattle.mk_core.specs.declared.events.Seat.TheVariants.{Caller}
+use Rattle.mk_core.specs.Growing.{is_same_seat}
 use Rattle.mk_core.specs.Standing.{CoreStandsFor}
 use Rattle.mk_replay.specs.declared.players.Player.{Player}
 use Rattle.mk_replay.specs.declared.replaying.Run.{Run}
 use Rattle.mk_replay.specs.declared.replaying.ReplayStop.{ReplayStop}
 use Rattle.mk_replay.specs.declared.replaying.ReplayStop.TheVariants.{NotEnabled}
 use Rattle.mk_replay.specs.declared.schedule.Entry.{Entry}
-use Rattle.mk_replay.specs.Replays.{config_of, is_of_caller, is_last, newer, as_list, is_refusal, answers_given, event_of, failing_entry, refusal_from, refusal_of, history_from, history_of}
+use Rattle.mk_replay.specs.Replays.{is_refusal, event_of, failing_entry, refusal_from, refusal_of, history_from, history_of}
 
 -- The answers of a caller's calls that ended, and the one that was decided in the call in flight.
 pub record Served : Type 0 where
@@ -24,26 +29,15 @@ pub record Served : Type 0 where
 
 -- behind one of the caller's steps, which may be its call's last one, and may decide an answer
 abbrev pub served_behind : Bool → Option Answer → Served → Served
-served_behind true decided x = record { answers = x.answers ++ as_list (newer decided x.kept); kept = None }
-served_behind false decided x = record { answers = x.answers; kept = newer decided x.kept }
+served_behind true decided x = record { answers = x.answers ++ cons_option (option_or decided x.kept) []; kept = None }
+served_behind false decided x = record { answers = x.answers; kept = option_or decided x.kept }
 
 -- caller k behind an event that decides this answer, if any
 abbrev pub served_by : ℕ → Event → Option Answer → Served → Served
-served_by k e decided x = if is_of_caller k e.seat then served_behind (is_last e.step) decided x else x
-
--- the answer that is kept for caller k behind events
-unfoldable pub kept_from : Config → World → ℕ → Option Answer → List Event → Option Answer
-kept_from c w k decided [] = decided
-kept_from c w k decided (e ∷ es) =
-    if is_of_caller k e.seat
-    then
-    (if is_last e.step
-    then kept_from c (world_behind c w e) k None es
-    else kept_from c (world_behind c w e) k (newer (answer_decided c w.now e) decided) es)
-    else kept_from c (world_behind c w e) k decided es
+served_by k e decided x = if is_same_seat (Caller k) e.seat then served_behind (ends_call e.step) decided x else x
 
 abbrev pub served : Config → List Event → ℕ → Served
-served c es k = record { answers = answers_given c es k; kept = kept_from c (first_world c) k None es }
+served c es k = record { answers = answers_given c es k; kept = answer_waiting c es k }
 
 -- A feed that is where script k of a program is behind these answers. One that has ended took none of those behind
 -- its end.
@@ -85,15 +79,16 @@ EachHasRoom players = (k : ℕ) (d : Player) → k < length players → HasRoom 
 -- the players behind an event that decides this answer, if any
 abbrev pub TakeEvent : Event → Option Answer → List Player → List Player → Type 0
 TakeEvent e decided old new = (program : List Item) (k : ℕ) (d : Player) (x : Served) → k < length old
-    → IsPlayerOf program k x (slice_index_or old k d) → IsPlayerOf program k (served_by k e decided x) (slice_index_or new k d)
+    → IsPlayerOf program k x (slice_index_or old k d)
+    → IsPlayerOf program k (served_by k e decided x) (slice_index_or new k d)
 
 abbrev pub ArePlayersOf : List Item → List Event → List Player → Type 0
 ArePlayersOf program es players = (k : ℕ) (d : Player) → k < length players
-    → IsPlayerOf program k (served (config_of program) es k) (slice_index_or players k d)
+    → IsPlayerOf program k (served (config_of program 8) es k) (slice_index_or players k d)
 
 -- a run behind events
 pub record IsRunOf (program : List Item) (es : List Event) (run : Run) : Type 0 where
-  pub config : run.core.config ≡ config_of program
+  pub config : run.core.config ≡ config_of program 8
   pub stands : CoreStandsFor run.core es
   pub count : length run.players.items ≡ length (script_names program)
   pub players : ArePlayersOf program es run.players.items

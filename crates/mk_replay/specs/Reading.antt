@@ -1,4 +1,5 @@
 -- What the reader of a whole text finds on its way.
+-- Private functions alone cite these words.
 use Rattle.std.specs.Prelude.{◌≡◌, ℕ, ◌+◌, ◌<◌, List, [], ◌∷◌, length, take, drop, Some, None}
 use Rattle.mk_script.specs.declared.faults.TextStop.{TextStop}
 use Rattle.mk_script.specs.declared.faults.TextStop.TheVariants as stop

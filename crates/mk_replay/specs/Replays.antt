@@ -1,15 +1,15 @@
--- What a schedule makes of a program: the history, the first event that isn't enabled, and the texts of the scripts.
-use Rattle.std.specs.List.{flat_map, range_with_len}
+-- What a schedule makes of a program, on a heap with eight markers: the history, the first event that isn't enabled,
+-- and the
+-- texts of the scripts.
 use Rattle.std.specs.Prelude.{◌≡◌, ◌<◌, ℕ, Bool, true, false, List, [], ◌∷◌, ◌++◌, length, count_by, slice_index_or, Option, Some, None, ◌==◌, if◌then◌else◌}
 use Rattle.mk_never.specs.declared.operations.Op.{Op}
 use Rattle.mk_never.specs.declared.operations.Op.TheVariants as op
 use Rattle.mk_script.specs.declared.items.Item.{Item}
 use Rattle.mk_script.specs.Scopes.{script_names}
-use Rattle.mk_check.specs.Declarations.{types_of, globals_of, pages_of, resident_of}
+use Rattle.mk_check.specs.Declarations.{config_of}
 use Rattle.mk_check.specs.declared.text.Text.{Text}
-use Rattle.mk_check.specs.Feed.{feed}
 use Rattle.mk_check.specs.Feeding.{next_op}
-use Rattle.mk_core.specs.declared.config.Config.{Config}
+use Rattle.mk_check.specs.Output.{answers_given, text_behind}
 use Rattle.mk_core.specs.declared.events.Seat.{Seat}
 use Rattle.mk_core.specs.declared.events.Seat.TheVariants as seat
 use Rattle.mk_core.specs.declared.events.Step.{Step}
@@ -18,61 +18,16 @@ use Rattle.mk_core.specs.declared.events.Event.{Event}
 use Rattle.mk_core.specs.declared.events.Answer.{Answer}
 use Rattle.mk_core.specs.declared.events.Answer.TheVariants as answer
 use Rattle.mk_core.specs.Enabled.{failing}
-use Rattle.mk_core.specs.Effects.{answer_decided}
-use Rattle.mk_core.specs.History.{World, first_world, world_behind, left}
+use Rattle.mk_core.specs.History.{left}
 use Rattle.mk_replay.specs.declared.schedule.Form.{Form}
 use Rattle.mk_replay.specs.declared.schedule.Form.TheVariants as form
 use Rattle.mk_replay.specs.declared.schedule.Entry.{Entry}
 use Rattle.mk_replay.specs.declared.replaying.ReplayStop.{ReplayStop}
 use Rattle.mk_replay.specs.declared.replaying.ReplayStop.TheVariants.{NotEnabled}
 
--- The heap that a program's scripts share, with eight markers.
-abbrev pub config_of : List Item → Config
-config_of program =
-    record {
-      pages = pages_of program;
-      resident = resident_of program;
-      callers = length (script_names program);
-      markers = 8;
-      types = types_of program;
-      globals = globals_of program;
-    }
-
-abbrev pub is_of_caller : ℕ → Seat → Bool
-is_of_caller k (seat.Caller j) = j == k
-is_of_caller k _ = false
-
--- the last step of a call
-abbrev pub is_last : Step → Bool
-is_last step.Leave = true
-is_last step.Give = true
-is_last _ = false
-
-abbrev pub newer : Option Answer → Option Answer → Option Answer
-newer (Some a) older = Some a
-newer None older = older
-
-abbrev pub as_list : Option Answer → List Answer
-as_list (Some a) = a ∷ []
-as_list None = []
-
--- The answers of caller k's calls, each at its call's last step; `decided` is that of the call in flight.
-unfoldable pub answers_from : Config → World → ℕ → Option Answer → List Event → List Answer
-answers_from c w k decided [] = []
-answers_from c w k decided (e ∷ es) =
-    if is_of_caller k e.seat
-    then
-    (if is_last e.step
-    then as_list (newer (answer_decided c w.now e) decided) ++ answers_from c (world_behind c w e) k None es
-    else answers_from c (world_behind c w e) k (newer (answer_decided c w.now e) decided) es)
-    else answers_from c (world_behind c w e) k decided es
-
-abbrev pub answers_given : Config → List Event → ℕ → List Answer
-answers_given c es k = answers_from c (first_world c) k None es
-
 -- A caller's operation is its script's next one, fed with the answers so far. Other seats have none.
 abbrev pub op_for : List Item → List Event → Seat → Option Op
-op_for program es (seat.Caller k) = next_op program k (answers_given (config_of program) es k)
+op_for program es (seat.Caller k) = next_op program k (answers_given (config_of program 8) es k)
 op_for program es _ = None
 
 -- The step of a form. Where there is no operation, `enter` carries a New, which no `enter` may carry.
@@ -133,7 +88,7 @@ history_of program schedule = history_from program [] schedule
 
 -- the first condition of an entry's event that fails behind others, or 0
 abbrev pub failing_entry : List Item → List Event → Entry → ℕ
-failing_entry program es x = failing (config_of program) (left (config_of program) es).now (event_of program es x)
+failing_entry program es x = failing (config_of program 8) (left (config_of program 8) es).now (event_of program es x)
 
 -- The refusal that names the first event that isn't enabled.
 unfoldable pub refusal_from : List Item → List Event → List Entry → Option ReplayStop
@@ -155,21 +110,17 @@ is_refusal _ = false
 
 -- The text of script k, fed with the answers of its calls that ended, and the counts of these and of the refused ones.
 pub record IsTextOf (program : List Item) (es : List Event) (k : ℕ) (bytes : List ℕ) (ops refused : ℕ) : Type 0 where
-  pub text : bytes ≡ (feed program k (answers_given (config_of program) es k)).text
-  pub all : ops ≡ length (answers_given (config_of program) es k)
-  pub refusals : refused ≡ count_by is_refusal (answers_given (config_of program) es k)
+  pub text : bytes ≡ text_behind program (config_of program 8) es k
+  pub all : ops ≡ length (answers_given (config_of program 8) es k)
+  pub refusals : refused ≡ count_by is_refusal (answers_given (config_of program 8) es k)
 
 -- the texts of the first scripts, in order
 abbrev pub AreFirstTexts : List Item → List Event → List Text → Type 0
 AreFirstTexts program es texts = (k : ℕ) (d : Text) → k < length texts
-    → IsTextOf program es k (slice_index_or texts k d).bytes.items (slice_index_or texts k d).ops (slice_index_or texts k d).refused
+    → IsTextOf program es k (slice_index_or texts k d).bytes.items (slice_index_or texts k d).ops
+    (slice_index_or texts k d).refused
 
 -- A text for each script, in order.
 pub record AreTextsOf (program : List Item) (es : List Event) (texts : List Text) : Type 0 where
   pub count : length texts ≡ length (script_names program)
   pub each : AreFirstTexts program es texts
-
--- all that a run prints: the texts of the scripts, one behind the other
-abbrev pub printed : List Item → List Event → List ℕ
-printed program es =
-    flat_map (λ k. (feed program k (answers_given (config_of program) es k)).text) (range_with_len 0 (length (script_names program)))

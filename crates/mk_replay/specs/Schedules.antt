@@ -80,14 +80,16 @@ abbrev pub schedule_behind : ℕ → Option (List (List ℕ)) → Result (List E
 schedule_behind count None = Err (stop.Text count kind.End)
 schedule_behind count (Some lines) = entries_of_lines (count + 2) lines
 
-abbrev pub with_schedule : Result (List Item) TextStop → Result (List Entry) TextStop → Result (List Item × List Entry) TextStop
+abbrev pub with_schedule : Result (List Item) TextStop → Result (List Entry) TextStop
+    → Result (List Item × List Entry) TextStop
 with_schedule (Err fault) entries = Err fault
 with_schedule (Ok items) (Err fault) = Err fault
 with_schedule (Ok items) (Ok entries) = Ok (items, entries)
 
 abbrev pub replay_of_lines : List (List ℕ) → Result (List Item × List Entry) TextStop
 replay_of_lines lines =
-    with_schedule (items_of_lines (script_lines lines)) (schedule_behind (length (script_lines lines)) (schedule_lines lines))
+    with_schedule (items_of_lines (script_lines lines))
+    (schedule_behind (length (script_lines lines)) (schedule_lines lines))
 
 -- The program and the schedule of a text of at most 1,048,576 bytes, or the first fault. Faults of the script part come
 -- first.

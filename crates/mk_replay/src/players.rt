@@ -1,14 +1,13 @@
 //! A script that takes part in a run.
 ghost use Rattle.std.specs.Prelude.{◌≡◌, ◌<◌, ◌+◌, ℕ, [], ◌∷◌, length, count_by, IfOk, OnOk, None};
-ghost use Rattle.mk_script.specs.Grammar.{IsOfSomeText};
-ghost use Rattle.mk_script.specs.Scopes.{script_names};
-ghost use Rattle.mk_replay.specs.Replays.{is_refusal, newer, config_of, IsTextOf};
+ghost use Rattle.mk_check.specs.Laws.{IsScript};
+ghost use Rattle.mk_check.specs.Declarations.{config_of};
+ghost use Rattle.mk_replay.specs.Replays.{is_refusal, IsTextOf};
 ghost use Rattle.mk_replay.specs.Players.{Served, served, IsPlayerOf, TakesAnswer, TakesStep, FeedsOn, HasRoom};
 
-use mk_check::{Feed, Text};
+use mk_check::{Checked, Feed, Text};
 use mk_core::Answer;
 use mk_never::NoMemory;
-use mk_script::Item;
 use std::alloc::Global;
 
 /// A script, the answer that was decided in its call in flight, and the counts of its answers and of
@@ -30,12 +29,6 @@ fn is_refusal(answer: Answer) -> bool
     )
 }
 
-fn newer(decided: Option<Answer>, kept: Option<Answer>) -> Option<Answer>
-    ensures { result ≡ newer decided kept }
-{
-    decided.or(kept)
-}
-
 /// Answers a script's operation; one that has ended takes none.
 fn feed_on(feed: &mut Feed, alloc: Global, answer: Answer) -> Result<(), NoMemory>
     ensures { OnOk result (FeedsOn answer feed.old feed.new) }
@@ -52,9 +45,8 @@ impl Player {
     ghost use Rattle.mk_script.specs.declared.items.Item.{Item};
 
     /// Script `script` of a program, before its first answer.
-    pub(crate) fn start(alloc: Global, program: &[Item], script: u64) -> Result<Player, NoMemory>
-        requires exists { script < length (script_names program.now) }
-        requires text { IsOfSomeText program.now }
+    pub(crate) fn start(alloc: Global, program: &Checked, script: u64) -> Result<Player, NoMemory>
+        requires { IsScript program.now script }
         ensures { IfOk result (IsPlayerOf program.now script (record { answers = []; kept = None })) }
     {
         Ok(Player {
@@ -96,7 +88,7 @@ impl Player {
         requires { HasRoom self.old }
         ensures { OnOk result (TakesStep is_last decided self.old self.new) }
     {
-        let kept = newer(decided, self.kept);
+        let kept = decided.or(self.kept);
         if !is_last {
             self.kept = kept;
             return Ok(());
@@ -111,7 +103,7 @@ impl Player {
     /// Its text so far.
     pub(crate) fn text(&self, alloc: Global) -> Result<Text, NoMemory>
         ensures { (program : List Item) (es : List Event) (k : ℕ)
-            → IsPlayerOf program k (served (config_of program) es k) self.now
+            → IsPlayerOf program k (served (config_of program 8) es k) self.now
             → IfOk result (λ t. IsTextOf program es k t.bytes.items t.ops t.refused) }
     {
         let Ok(bytes) = self.feed.text().to_vec(alloc) else {

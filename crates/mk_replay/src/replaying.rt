@@ -4,11 +4,12 @@ ghost use Rattle.mk_script.specs.Scopes.{script_names};
 ghost use Rattle.mk_replay.specs.declared.replaying.ReplayStop.TheVariants as ReplayStop;
 ghost use Rattle.mk_core.specs.Order.{seat_exists};
 ghost use Rattle.mk_core.specs.History.{AreEnabled};
-ghost use Rattle.mk_replay.specs.Replays.{config_of, event_of, failing_entry, op_for, history_of, refusal_of, AreTextsOf};
+ghost use Rattle.mk_check.specs.Declarations.{config_of};
+ghost use Rattle.mk_replay.specs.Replays.{event_of, failing_entry, op_for, history_of, refusal_of, AreTextsOf};
 ghost use Rattle.mk_replay.specs.Players.{EachHasRoom, TakeEvent, IsRunOf, ArePlayersOf, TakesEntry, IsNotEnabled};
 
 use crate::players::Player;
-use crate::steps::{is_last, step_of};
+use crate::steps::{ends_call, step_of};
 use crate::{Entry, Schedule};
 use mk_check::{Checked, Text};
 use mk_core::{Answer, Core, Event, NotEnabled, Seat};
@@ -52,7 +53,7 @@ fn players(alloc: Global, program: &Checked) -> Result<Vec<Player>, NoMemory>
 {
     let mut players = Vec::new(alloc);
     for script in 0..program.scripts() {
-        let player = Player::start(alloc, program.program().items(), script)?;
+        let player = Player::start(alloc, program, script)?;
         let Ok(()) = players.push(player) else {
             return Err(NoMemory);
         };
@@ -79,7 +80,7 @@ impl Run {
     /// The next operation of a caller's script.
     fn op(&self, seat: Seat) -> Option<Op>
         ensures { (program : List Item) (es : List Event) → IsRunOf program es self.now
-            → IsTrue (seat_exists (config_of program) seat) → result ≡ op_for program es seat }
+            → IsTrue (seat_exists (config_of program 8) seat) → result ≡ op_for program es seat }
     {
         let Seat::Caller(caller) = seat else {
             return None;
@@ -92,7 +93,7 @@ impl Run {
     fn event(&self, entry: Entry) -> Event
         ensures seat { result.seat ≡ entry.seat }
         ensures exact { (program : List Item) (es : List Event) → IsRunOf program es self.now
-            → IsTrue (seat_exists (config_of program) entry.seat) → result ≡ event_of program es entry }
+            → IsTrue (seat_exists (config_of program 8) entry.seat) → result ≡ event_of program es entry }
     {
         Event {
             seat: entry.seat,
@@ -118,7 +119,7 @@ impl Run {
         let Some(player) = self.players.get_mut(caller as usize) else {
             return Ok(());
         };
-        player.follow(alloc, decided, is_last(event.step))
+        player.follow(alloc, decided, ends_call(event.step))
     }
 
     /// One entry of the schedule.
@@ -167,7 +168,7 @@ pub fn replay(
     schedule: &Schedule,
 ) -> Result<Vec<Text>, ReplayStop>
     ensures enabled { OnOk result (refusal_of program.now schedule.now ≡ None) }
-    ensures history { OnOk result (AreEnabled (config_of program.now) (history_of program.now schedule.now)) }
+    ensures history { OnOk result (AreEnabled (config_of program.now 8) (history_of program.now schedule.now)) }
     ensures texts { IfOk result (λ texts. AreTextsOf program.now (history_of program.now schedule.now) texts.items) }
     ensures not_enabled { IfErr result (λ stop. stop ≢ ReplayStop.NoMemory → refusal_of program.now schedule.now ≡ Some stop) }
 {

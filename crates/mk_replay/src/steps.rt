@@ -1,14 +1,15 @@
 //! The steps of a schedule's forms.
 ghost use Rattle.std.specs.Prelude.{◌≡◌};
-ghost use Rattle.mk_replay.specs.Replays.{is_last, step_of};
+ghost use Rattle.mk_check.specs.Output.{ends_call};
+ghost use Rattle.mk_replay.specs.Replays.{step_of};
 
 use crate::Form;
 use mk_core::Step;
 use mk_never::Op;
 
 /// Whether the step is the last one of a call.
-pub(crate) fn is_last(step: Step) -> bool
-    ensures { result ≡ is_last step }
+pub(crate) fn ends_call(step: Step) -> bool
+    ensures { result ≡ ends_call step }
 {
     matches!(step, Step::Leave | Step::Give)
 }

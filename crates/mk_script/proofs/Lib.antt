@@ -1,14 +1,17 @@
 pub mod CanonicalLines
+pub mod ClosedBlocks
 pub mod PrintedFields
 pub mod PrintedForms
 pub mod LineWords
 pub mod LinesAgain
+pub mod PassedLines
 pub mod PrintedNumbers
 pub mod RoundTrip
 pub mod Said
 pub mod Spacing
 mod Converted
 mod Digits
+mod Ends
 mod FirstPlace
 mod LastPiece
 mod NamesSoFar

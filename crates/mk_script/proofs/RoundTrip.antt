@@ -1,20 +1,17 @@
 -- The canonical text of a text's program has the same program.
-use Rattle.std.proofs.Common.{◌≡◌, ℕ, suc, ◌+◌, ◌<◌, ◌≤◌, nat_le, List, [], ◌∷◌, ◌++◌, length, refl, ap, ◌∙◌, sym, subst, arith, append_assoc, Ok, Err}
-use Rattle.std.specs.declared.result.Result.{Result}
+use Rattle.std.proofs.Common.{◌≡◌, ◌+◌, ◌≤◌, List, [], ◌∷◌, ◌++◌, length, refl, ap, ◌∙◌, sym, subst, append_assoc, Ok}
 use Rattle.std.proofs.lemmas.List.{append-nil}
 use Rattle.std.proofs.lemmas.Bool.{le-leb, cond-true}
 use Rattle.mk_script.specs.declared.items.Item.{Item}
-use Rattle.mk_script.specs.declared.faults.LineFault.{LineFault}
-use Rattle.mk_script.specs.declared.faults.TextStop.{TextStop}
-use Rattle.mk_script.specs.Words.{lines_of, words_of}
-use Rattle.mk_script.specs.Scopes.{open_blocks}
-use Rattle.mk_script.specs.Lines.{line_of, has_script, has_none}
+use Rattle.mk_script.specs.Words.{words_of}
+use Rattle.mk_script.specs.Lines.{line_of}
 use Rattle.mk_script.specs.Grammar.{at_end, go_on, items_behind, items_of_lines, program_of, IsOfSomeText}
 use Rattle.mk_script.specs.Canonical.{words_of_item, canonical_text}
 use Rattle.mk_script.specs.Spaced.{joined}
 use Rattle.mk_script.proofs.LineWords.{AreWords, words_of-joined}
 use Rattle.mk_script.proofs.CanonicalLines.{lines_of_items, HaveWords, lines_of-canonical_text}
-use Rattle.mk_script.proofs.LinesAgain.{cond_ok, line_again}
+use Rattle.mk_script.proofs.LinesAgain.{line_again}
+use Rattle.mk_script.proofs.PassedLines.{ArePassed, IsWhole, is_whole}
 
 -- each item is said again by its own words, behind the ones before it
 pub record IsSaidAgain (before : List Item) (line : Item) : Type 0 where
@@ -25,39 +22,14 @@ abbrev pub AreSaidAgain : List Item → List Item → Type 0
 AreSaidAgain before [] = Unit {0}
 AreSaidAgain before (line ∷ lines) = IsSaidAgain before line × AreSaidAgain (before ++ line ∷ []) lines
 
--- the items that the lines gave behind others
-pub record AreBehind (before items : List Item) (count : ℕ) : Type 0 where
-  pub rest : List Item
-  pub whole : before ++ rest ≡ items
-  pub again : AreSaidAgain before rest
-  pub end : at_end items ≡ Ok items
-  pub long : length rest ≡ count
+said_again : (before rest : List Item) → ArePassed before rest → AreSaidAgain before rest
+said_again before [] passed = tt
+said_again before (line ∷ rest) passed =
+    let again = line_again before passed.0.words line passed.0.reads in
+    (record { reads = again.0; apart = again.1 }, said_again (before ++ line ∷ []) rest passed.1)
 
-go_on_was : {A : Type 0} (line : ℕ) (r : Result Item LineFault) (next : Item → Result A TextStop) (y : A) → go_on line r next ≡ Ok y → (x : Item) × (r ≡ Ok x) × (next x ≡ Ok y)
-go_on_was line (Ok x) next y e = (x, refl, e)
-go_on_was line (Err fault) next y e = absurd cc
-
-at_end_was : (before items : List Item) → at_end before ≡ Ok items → before ≡ items
-at_end_was before items e =
-    let closed = (cond_ok (has_none (open_blocks before)) _ _ items e).1 in
-    let done : ◌≡◌ {A = Result (List Item) TextStop} (Ok before) (Ok items) = (cond_ok (has_script before) _ _ items closed).1 in
-    cc
-
-items_were : (lines : List (List ℕ)) (before items : List Item) → items_behind lines before ≡ Ok items → AreBehind before items (length lines)
-items_were [] before items e =
-    let same = at_end_was before items e in
-    record { rest = []; whole = append-nil before ∙ same; again = tt; end = subst (λ b. at_end b ≡ Ok items) same e; long = refl }
-items_were (line ∷ lines) before items e =
-    let was = go_on_was (length before + 1) (line_of before (words_of line)) (λ x. items_behind lines (before ++ x ∷ [])) items e in
-    let more = items_were lines (before ++ was.0 ∷ []) items was.2 in
-    let again = line_again before (words_of line) was.0 was.1 in
-    record {
-      rest = was.0 ∷ more.rest;
-      whole = sym (append_assoc before (was.0 ∷ []) more.rest) ∙ more.whole;
-      again = (record { reads = again.0; apart = again.1 }, more.again);
-      end = more.end;
-      long = ap suc more.long;
-    }
+ends_again : (items : List Item) → IsWhole items → at_end items ≡ Ok items
+ends_again items is = rw (is.closed, is.script) refl
 
 items_again : (rest before items : List Item) → AreSaidAgain before rest → before ++ rest ≡ items → at_end items ≡ Ok items → items_behind (lines_of_items rest) before ≡ Ok items
 items_again [] before items again whole end =
@@ -72,25 +44,14 @@ have_words : (rest before : List Item) → AreSaidAgain before rest → HaveWord
 have_words [] before again = tt
 have_words (line ∷ rest) before again = (again.0.apart, have_words rest (before ++ line ∷ []) again.1)
 
--- the items of a text are not none, and are said again
-record AreWhole (items : List Item) : Type 0 where
-  some : 0 < length items
-  again : AreSaidAgain [] items
-  end : at_end items ≡ Ok items
-
-lines_were : (lines : List (List ℕ)) (items : List Item) → items_of_lines lines ≡ Ok items → AreWhole items
-lines_were [] items e = absurd cc
-lines_were (line ∷ lines) items e =
-    let were = items_were (line ∷ lines) [] items e in
-    record { some = omega (arith, were.long, ap length were.whole); again = subst (λ xs. AreSaidAgain [] xs) were.whole were.again; end = were.end }
-
-lines_again : (items : List Item) → AreWhole items → items_of_lines (lines_of_items items) ≡ Ok items
-lines_again [] is = absurd (omega (arith, is.some))
-lines_again (line ∷ items) is = items_again (line ∷ items) [] (line ∷ items) is.again refl is.end
+lines_again : (items : List Item) → IsWhole items → items_of_lines (lines_of_items items) ≡ Ok items
+lines_again [] is = absurd (let none = is.script in cc)
+lines_again (line ∷ items) is =
+    items_again (line ∷ items) [] (line ∷ items) (said_again [] (line ∷ items) is.lines) refl (ends_again (line ∷ items) is)
 
 pub program_of-canonical_text : (items : List Item) → IsOfSomeText items → length (canonical_text items) ≤ 1048576 → program_of (canonical_text items) ≡ Ok items
-program_of-canonical_text items (text, e) small =
-    let is = lines_were (lines_of text) items (cond_ok (nat_le (length text) 1048576) _ _ items e).1 in
+program_of-canonical_text items text small =
+    let is = is_whole items text in
     cond-true _ _ _ (le-leb _ _ small)
-    ∙ ap items_of_lines (lines_of-canonical_text items (have_words items [] is.again))
+    ∙ ap items_of_lines (lines_of-canonical_text items (have_words items [] (said_again [] items is.lines)))
     ∙ lines_again items is

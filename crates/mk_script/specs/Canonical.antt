@@ -41,7 +41,8 @@ words_of_item (Getn number pointer index) = codes "getn" ∷ number ∷ pointer 
 words_of_item (Setn pointer index number) = codes "setn" ∷ pointer ∷ decimal index ∷ number ∷ []
 words_of_item (Getp loaded pointer index) = codes "getp" ∷ loaded ∷ pointer ∷ decimal index ∷ []
 words_of_item (Setp pointer index stored) = codes "setp" ∷ pointer ∷ decimal index ∷ stored ∷ []
-words_of_item (Casp number pointer index expected stored) = codes "casp" ∷ number ∷ pointer ∷ decimal index ∷ expected ∷ stored ∷ []
+words_of_item (Casp number pointer index expected stored) =
+    codes "casp" ∷ number ∷ pointer ∷ decimal index ∷ expected ∷ stored ∷ []
 words_of_item (Lea moved pointer index) = codes "lea" ∷ moved ∷ pointer ∷ decimal index ∷ []
 words_of_item (Move copied pointer) = codes "move" ∷ copied ∷ pointer ∷ []
 words_of_item (Clear pointer) = codes "clear" ∷ pointer ∷ []

@@ -1,4 +1,5 @@
 -- The words of a field.
+-- Private functions alone cite these words.
 use Rattle.std.specs.Prelude.{List, [], ◌∷◌, replicate}
 use Rattle.mk_script.specs.declared.items.TypeWord.{TypeWord}
 use Rattle.mk_script.specs.declared.items.TypeWord.TheVariants as word

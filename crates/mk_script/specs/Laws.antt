@@ -6,4 +6,5 @@ use Rattle.mk_script.specs.Canonical.{canonical_text}
 
 -- A program's canonical text is a text of the same program, where it isn't too long for a text.
 abbrev pub IsReadBack : List Item → Type 0
-IsReadBack items = IsOfSomeText items → length (canonical_text items) ≤ 1048576 → program_of (canonical_text items) ≡ Ok items
+IsReadBack items =
+    IsOfSomeText items → length (canonical_text items) ≤ 1048576 → program_of (canonical_text items) ≡ Ok items

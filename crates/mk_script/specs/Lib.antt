@@ -1,4 +1,3 @@
-pub mod Accesses
 pub mod Canonical
 pub mod Fields
 pub mod Grammar

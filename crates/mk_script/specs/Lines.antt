@@ -34,13 +34,16 @@ is_placed before form = has_script before
 
 -- line 1: `heap` with two more words
 abbrev pub heap_line : List (List ℕ) → Result Item LineFault
-heap_line (word ∷ pages ∷ resident ∷ []) = if bytes_eq word (codes "heap") then item_from keyword.Heap (pages ∷ resident ∷ []) else Err (Text kind.Header)
+heap_line (word ∷ pages ∷ resident ∷ []) =
+    if bytes_eq word (codes "heap") then item_from keyword.Heap (pages ∷ resident ∷ []) else Err (Text kind.Header)
 heap_line words = Err (Text kind.Header)
 
 abbrev pub placed_item : List Item → Option Keyword → List (List ℕ) → Result Item LineFault
 placed_item before None operands = Err (Text kind.Word)
 placed_item before (Some form) operands =
-    if has_operands form (length operands) && have_form form operands && is_placed before form then item_from form operands else Err (Text kind.Word)
+    if has_operands form (length operands) && have_form form operands && is_placed before form
+    then item_from form operands
+    else Err (Text kind.Word)
 
 abbrev pub other_line : List Item → List (List ℕ) → Result Item LineFault
 other_line before [] = Err (Text kind.Word)
@@ -72,14 +75,16 @@ abbrev pub at_most : ℕ → ℕ → Which → Option LineFault
 at_most found greatest which = if nat_le found greatest then None else Some (Limit which (min found (2 ^ 64 - 1)))
 
 abbrev pub within : ℕ → ℕ → ℕ → Which → Option LineFault
-within least found greatest which = if nat_le least found && nat_le found greatest then None else Some (Limit which found)
+within least found greatest which =
+    if nat_le least found && nat_le found greatest then None else Some (Limit which found)
 
 abbrev pub or_else : Option LineFault → Option LineFault → Option LineFault
 or_else (Some fault) other = Some fault
 or_else None other = other
 
 abbrev pub limit_fault : List Item → Item → Option LineFault
-limit_fault before (Heap pages resident) = or_else (within 1 pages 4096 which.Pages) (within 1 resident pages which.Resident)
+limit_fault before (Heap pages resident) =
+    or_else (within 1 pages 4096 which.Pages) (within 1 resident pages which.Resident)
 limit_fault before (TypeLine name words) =
     or_else (at_most (length (type_names before) + 1) 64 which.Types) (at_most (length words) 4096 which.Words)
 limit_fault before (Global name ty) = at_most (length (global_names before) + 1) 64 which.Globals
@@ -116,7 +121,8 @@ or_item (Some fault) item = Err fault
 abbrev pub checked_item : List Item → Item → Result Item LineFault
 checked_item before item =
     if is_twice before item then Err (Text kind.Twice) else
-    (or_item (limit_fault before item) item >>= (λ item'. if ends_rightly (open_blocks before) item then Ok item' else Err (Text kind.End)))
+    (or_item (limit_fault before item) item
+    >>= (λ item'. if ends_rightly (open_blocks before) item then Ok item' else Err (Text kind.End)))
 
 abbrev pub line_of : List Item → List (List ℕ) → Result Item LineFault
 line_of before words = line_item before words >>= checked_item before

@@ -10,7 +10,9 @@ is_name_byte byte = is_ascii_alphanumeric byte || (byte == 95)
 
 -- 1 to 16 of these, the first a letter
 abbrev pub is_name : List ℕ → Bool
-is_name word = nat_lt 0 (length word) && nat_le (length word) 16 && is_ascii_alphabetic (slice_index word 0) && list_all is_name_byte word
+is_name word =
+    nat_lt 0 (length word) && nat_le (length word) 16 && is_ascii_alphabetic (slice_index word 0)
+    && list_all is_name_byte word
 
 abbrev pub name_of : List ℕ → Option (List ℕ)
 name_of word = if is_name word then Some word else None
@@ -22,11 +24,13 @@ value_from high (digit ∷ digits) = value_from (10 * high + (digit - 48)) digit
 
 -- the number that digits stand for, if they are digits and it is below 2^64
 abbrev pub value_of_digits : List ℕ → Option ℕ
-value_of_digits digits = if all_ascii_digits digits && nat_lt (value_from 0 digits) (2 ^ 64) then Some (value_from 0 digits) else None
+value_of_digits digits =
+    if all_ascii_digits digits && nat_lt (value_from 0 digits) (2 ^ 64) then Some (value_from 0 digits) else None
 
 -- digits, without a leading zero except 0 itself
 abbrev pub is_numeral : List ℕ → Bool
-is_numeral word = all_ascii_digits word && nat_lt 0 (length word) && ((length word == 1) || not (slice_index word 0 == 48))
+is_numeral word =
+    all_ascii_digits word && nat_lt 0 (length word) && ((length word == 1) || not (slice_index word 0 == 48))
 
 -- a number is a numeral below 2^64
 abbrev pub number_of : List ℕ → Option ℕ

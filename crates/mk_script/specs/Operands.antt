@@ -42,7 +42,8 @@ pub record IsCutAtPlus (word front back : List ℕ) : Type 0 where
 abbrev pub at : List ℕ → Result At LineFault
 at word =
     if list_any is_plus word
-    then name (before_first is_plus word) >>= (λ t. number (after_first is_plus word) >>= (λ k. Ok (record { name = t; offset = k })))
+    then name (before_first is_plus word)
+    >>= (λ t. number (after_first is_plus word) >>= (λ k. Ok (record { name = t; offset = k })))
     else name word >>= (λ t. Ok (record { name = t; offset = 0 }))
 
 abbrev pub ok_part : {A : Type 0} → Result A LineFault → Option A
@@ -78,35 +79,66 @@ abbrev pub have_form : Keyword → List (List ℕ) → Bool
 have_form TypeLine (name' ∷ fields) = are_fields fields
 have_form keyword operands = true
 
+-- The item of what operands say, or the first of their faults.
+
+abbrev pub says1 : {A : Type 0} → (A → Item) → Result A LineFault → Result Item LineFault
+says1 f a = a >>= (λ x. Ok (f x))
+
+abbrev pub says2 : {A B : Type 0} → (A → B → Item) → Result A LineFault → Result B LineFault → Result Item LineFault
+says2 f a b = a >>= (λ x. b >>= (λ y. Ok (f x y)))
+
+abbrev pub says3 : {A B C : Type 0} → (A → B → C → Item)
+    → Result A LineFault → Result B LineFault → Result C LineFault → Result Item LineFault
+says3 f a b c = a >>= (λ x. b >>= (λ y. c >>= (λ z. Ok (f x y z))))
+
+abbrev pub says5 : {A B C D E : Type 0} → (A → B → C → D → E → Item)
+    → Result A LineFault → Result B LineFault → Result C LineFault → Result D LineFault → Result E LineFault
+    → Result Item LineFault
+says5 f a b c d e = a >>= (λ x. b >>= (λ y. c >>= (λ z. d >>= (λ u. e >>= (λ v. Ok (f x y z u v))))))
+
 -- the item of a line, where each operand says what the form has in its place; else the first that doesn't
 unfoldable pub item_from : Keyword → List (List ℕ) → Result Item LineFault
 item_from TypeLine (t ∷ fields) = name t >>= (λ t'. Ok (item.TypeLine t' (fields_of fields)))
-item_from Heap (a ∷ b ∷ []) = number a >>= (λ pages. number b >>= (λ resident. Ok (item.Heap pages resident)))
-item_from Global (a ∷ b ∷ []) = name a >>= (λ name'. name b >>= (λ ty. Ok (item.Global name' ty)))
-item_from Script (a ∷ []) = name a >>= (λ name'. Ok (item.Script name'))
-item_from Ptr (a ∷ b ∷ []) = name a >>= (λ name'. at b >>= (λ at'. Ok (item.Ptr name' at')))
-item_from Num (a ∷ []) = name a >>= (λ name'. Ok (item.Num name'))
-item_from New (a ∷ b ∷ []) = name a >>= (λ pointer. name b >>= (λ ty. Ok (item.New pointer ty)))
-item_from Free (a ∷ []) = name a >>= (λ pointer. Ok (item.Free pointer))
-item_from Getn (a ∷ b ∷ c ∷ []) = name a >>= (λ number'. name b >>= (λ pointer. number c >>= (λ index. Ok (item.Getn number' pointer index))))
-item_from Setn (a ∷ b ∷ c ∷ []) = name a >>= (λ pointer. number b >>= (λ index. name c >>= (λ number'. Ok (item.Setn pointer index number'))))
-item_from Getp (a ∷ b ∷ c ∷ []) = name a >>= (λ loaded. name b >>= (λ pointer. number c >>= (λ index. Ok (item.Getp loaded pointer index))))
-item_from Setp (a ∷ b ∷ c ∷ []) = name a >>= (λ pointer. number b >>= (λ index. name c >>= (λ stored. Ok (item.Setp pointer index stored))))
-item_from Casp (a ∷ b ∷ c ∷ d ∷ e ∷ []) = name a >>= (λ number'. name b >>= (λ pointer. number c >>= (λ index. name d >>= (λ expected. name e >>= (λ stored. Ok (item.Casp number' pointer index expected stored))))))
-item_from Lea (a ∷ b ∷ c ∷ []) = name a >>= (λ moved. name b >>= (λ pointer. number c >>= (λ index. Ok (item.Lea moved pointer index))))
-item_from Move (a ∷ b ∷ []) = name a >>= (λ copied. name b >>= (λ pointer. Ok (item.Move copied pointer)))
-item_from Clear (a ∷ []) = name a >>= (λ pointer. Ok (item.Clear pointer))
-item_from Loadg (a ∷ b ∷ []) = name a >>= (λ loaded. name b >>= (λ global. Ok (item.Loadg loaded global)))
-item_from Storeg (a ∷ b ∷ []) = name a >>= (λ stored. name b >>= (λ global. Ok (item.Storeg stored global)))
-item_from Same (a ∷ b ∷ c ∷ []) = name a >>= (λ number'. name b >>= (λ first. name c >>= (λ second. Ok (item.Same number' first second))))
-item_from Isnull (a ∷ b ∷ []) = name a >>= (λ number'. name b >>= (λ pointer. Ok (item.Isnull number' pointer)))
-item_from Show (a ∷ []) = name a >>= (λ pointer. Ok (item.Show pointer))
-item_from Const (a ∷ b ∷ []) = name a >>= (λ number'. number b >>= (λ value. Ok (item.Const number' value)))
-item_from Add (a ∷ b ∷ c ∷ []) = name a >>= (λ number'. name b >>= (λ left. name c >>= (λ right. Ok (item.Add number' left right))))
-item_from Sub (a ∷ b ∷ c ∷ []) = name a >>= (λ number'. name b >>= (λ left. name c >>= (λ right. Ok (item.Sub number' left right))))
-item_from Print (a ∷ []) = name a >>= (λ number'. Ok (item.Print number'))
-item_from Repeat (a ∷ []) = number a >>= (λ rounds. Ok (item.Repeat rounds))
-item_from If (a ∷ []) = name a >>= (λ number'. Ok (item.If number'))
+item_from Heap (a ∷ b ∷ []) = says2 (λ pages resident. item.Heap pages resident) (number a) (number b)
+item_from Global (a ∷ b ∷ []) = says2 (λ name' ty. item.Global name' ty) (name a) (name b)
+item_from Script (a ∷ []) = says1 (λ name'. item.Script name') (name a)
+item_from Ptr (a ∷ b ∷ []) = says2 (λ name' at'. item.Ptr name' at') (name a) (at b)
+item_from Num (a ∷ []) = says1 (λ name'. item.Num name') (name a)
+item_from New (a ∷ b ∷ []) = says2 (λ pointer ty. item.New pointer ty) (name a) (name b)
+item_from Free (a ∷ []) = says1 (λ pointer. item.Free pointer) (name a)
+item_from Getn (a ∷ b ∷ c ∷ []) =
+    says3 (λ number' pointer index. item.Getn number' pointer index)
+    (name a) (name b) (number c)
+item_from Setn (a ∷ b ∷ c ∷ []) =
+    says3 (λ pointer index number'. item.Setn pointer index number')
+    (name a) (number b) (name c)
+item_from Getp (a ∷ b ∷ c ∷ []) =
+    says3 (λ loaded pointer index. item.Getp loaded pointer index)
+    (name a) (name b) (number c)
+item_from Setp (a ∷ b ∷ c ∷ []) =
+    says3 (λ pointer index stored. item.Setp pointer index stored)
+    (name a) (number b) (name c)
+item_from Casp (a ∷ b ∷ c ∷ d ∷ e ∷ []) =
+    says5 (λ number' pointer index expected stored. item.Casp number' pointer index expected stored)
+    (name a) (name b) (number c) (name d) (name e)
+item_from Lea (a ∷ b ∷ c ∷ []) =
+    says3 (λ moved pointer index. item.Lea moved pointer index)
+    (name a) (name b) (number c)
+item_from Move (a ∷ b ∷ []) = says2 (λ copied pointer. item.Move copied pointer) (name a) (name b)
+item_from Clear (a ∷ []) = says1 (λ pointer. item.Clear pointer) (name a)
+item_from Loadg (a ∷ b ∷ []) = says2 (λ loaded global. item.Loadg loaded global) (name a) (name b)
+item_from Storeg (a ∷ b ∷ []) = says2 (λ stored global. item.Storeg stored global) (name a) (name b)
+item_from Same (a ∷ b ∷ c ∷ []) =
+    says3 (λ number' first second. item.Same number' first second)
+    (name a) (name b) (name c)
+item_from Isnull (a ∷ b ∷ []) = says2 (λ number' pointer. item.Isnull number' pointer) (name a) (name b)
+item_from Show (a ∷ []) = says1 (λ pointer. item.Show pointer) (name a)
+item_from Const (a ∷ b ∷ []) = says2 (λ number' value. item.Const number' value) (name a) (number b)
+item_from Add (a ∷ b ∷ c ∷ []) = says3 (λ number' left right. item.Add number' left right) (name a) (name b) (name c)
+item_from Sub (a ∷ b ∷ c ∷ []) = says3 (λ number' left right. item.Sub number' left right) (name a) (name b) (name c)
+item_from Print (a ∷ []) = says1 (λ number'. item.Print number') (name a)
+item_from Repeat (a ∷ []) = says1 (λ rounds. item.Repeat rounds) (number a)
+item_from If (a ∷ []) = says1 (λ number'. item.If number') (name a)
 item_from Else [] = Ok item.Else
 item_from End [] = Ok item.End
 item_from keyword operands = Err (Text kind.Word)

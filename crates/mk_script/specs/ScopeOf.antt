@@ -1,4 +1,5 @@
 -- What it means that a scope says what the lines so far say.
+-- Private functions alone cite these words.
 use Rattle.std.specs.Prelude.{◌≡◌, ℕ, Bool, true, false, List, [], ◌∷◌, ◌++◌, reverse, Ok, Err}
 use Rattle.std.specs.List.{list_any}
 use Rattle.std.specs.List.Sorted.{IsPermutation}
@@ -27,7 +28,8 @@ pub record IsScopeOf (scope : Scope) (before : List Item) : Type 0 where
 -- the new scope is the old one where a script of this name begins, but for its blocks
 pub record BeginsScript (old : Scope) (name : List ℕ) (new : Scope) : Type 0 where
   pub scripts : IsPermutation (old.scripts ++ name ∷ []) new.scripts
-  pub new_is : new ≡ record old { has_script = true; has_instruction = false; scripts = new.scripts; pointers = []; numbers = [] }
+  pub new_is :
+      new ≡ record old { has_script = true; has_instruction = false; scripts = new.scripts; pointers = []; numbers = [] }
 
 -- a line was read behind others: there is its item more, and the scope is of all of them
 pub record ReadsLine (before : List Item) (words : List (List ℕ)) (items : List Item) (scope : Scope) : Type 0 where

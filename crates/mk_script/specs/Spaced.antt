@@ -1,6 +1,10 @@
--- A line's words as a text.
+-- A line's words as a text. Private functions alone cite these.
 use Rattle.std.specs.Prelude.{ℕ, List, [], ◌∷◌, ◌++◌}
+use Rattle.std.specs.Fmt.{decimal}
 use lib.Chars.{codes}
+use Rattle.mk_script.specs.Canonical.{at_text}
+use Rattle.mk_script.specs.declared.printing.Operand.{Operand}
+use Rattle.mk_script.specs.declared.printing.Operand.TheVariants.{Name, Number, At}
 
 -- words behind another, each with a space before it
 abbrev pub spaced : List (List ℕ) → List ℕ
@@ -11,3 +15,8 @@ spaced (word ∷ words) = codes " " ++ (word ++ spaced words)
 abbrev pub joined : List (List ℕ) → List ℕ
 joined [] = []
 joined (word ∷ words) = word ++ spaced words
+
+abbrev pub operand_text : Operand → List ℕ
+operand_text (Name name) = name.now
+operand_text (Number number) = decimal number
+operand_text (At at) = at_text at.now

@@ -1,4 +1,5 @@
 -- What a call gives, unless memory runs out.
+-- Private functions alone cite these words.
 use Rattle.std.specs.Prelude.{◌≡◌, ℕ, List, Ok, Err}
 use Rattle.std.specs.declared.result.Result.{Result}
 use Rattle.mk_script.specs.declared.faults.LineFault.{LineFault}

@@ -47,7 +47,7 @@ pub enum Which {
 }
 
 /// What is wrong with a line.
-#[derive(Clone, Copy, Debug, PartialEq, Eq)]
+#[derive(Clone, Copy)]
 pub enum LineFault {
     Text(TextKind),
     Limit { which: Which, found: u64 },
@@ -57,7 +57,7 @@ pub enum LineFault {
 pub const WORD: LineFault = LineFault::Text(TextKind::Word);
 
 /// Why a line has no item.
-#[derive(Clone, Copy, Debug, PartialEq, Eq)]
+#[derive(Clone, Copy)]
 pub enum LineStop {
     Fault(LineFault),
     NoMemory,

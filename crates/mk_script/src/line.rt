@@ -29,6 +29,7 @@ pub fn item(alloc: Global, scope: &Scope, words: &[&[u8]]) -> Result<Item, LineS
 }
 
 /// Line 1.
+#[tactic(auto, unfolding(crate::specs::Operands::item_from))]
 fn header(words: &[&[u8]]) -> Result<Item, LineFault>
     ensures { result ≡ spec.heap_line (texts_of words.now) }
 {

@@ -1,11 +1,9 @@
 //! The canonical text of a program.
-ghost use Rattle.std.specs.Prelude.{◌≡◌, ◌++◌, [], ◌∷◌, IfOk, IsTrue, map};
+ghost use Rattle.std.specs.Prelude.{◌≡◌, ◌++◌, [], ◌∷◌, IfOk, map};
 ghost use Rattle.std.specs.Fmt.{decimal};
 ghost use lib.Chars.{codes};
 ghost use Rattle.mk_script.specs.Canonical.{at_text, numbers_before, fields_behind, words_of_item, line_text, canonical_text};
-ghost use Rattle.mk_script.specs.Accesses.{is_access};
-ghost use Rattle.mk_script.specs.Scopes.{is_instruction};
-ghost use Rattle.mk_script.specs.Spaced.{spaced, joined};
+ghost use Rattle.mk_script.specs.Spaced.{spaced, joined, operand_text};
 
 use crate::{At, Item, Name, Program, TypeWord};
 use mk_never::NoMemory;
@@ -17,6 +15,14 @@ use std::marker::Model;
 struct Printer {
     text: Vec<u8>,
     alloc: Global,
+}
+
+/// What stands behind a line's first word.
+#[derive(Clone, Copy)]
+enum Operand<'a> {
+    Name(&'a Name),
+    Number(u64),
+    At(&'a At),
 }
 
 impl Model for Printer {
@@ -75,25 +81,16 @@ impl Printer {
         self.piece(b" ")?.piece(word)
     }
 
-    /// Appends a name behind another word.
-    fn name(self, name: &Name) -> Result<Printer, NoMemory>
-        ensures { IfOk result (λ printer. printer ≡ self ++ (codes " " ++ name.now)) }
+    /// Appends an operand behind another word.
+    fn operand(self, operand: &Operand) -> Result<Printer, NoMemory>
+        ensures { IfOk result (λ printer. printer ≡ self ++ (codes " " ++ operand_text operand.now)) }
     {
-        self.word(name.as_bytes())
-    }
-
-    /// Appends a number behind another word.
-    fn number(self, number: u64) -> Result<Printer, NoMemory>
-        ensures { IfOk result (λ printer. printer ≡ self ++ (codes " " ++ decimal number)) }
-    {
-        self.piece(b" ")?.digits(number)
-    }
-
-    /// Appends a place of a type behind another word.
-    fn at(self, at: &At) -> Result<Printer, NoMemory>
-        ensures { IfOk result (λ printer. printer ≡ self ++ (codes " " ++ at_text at.now)) }
-    {
-        self.piece(b" ")?.place(at)
+        let behind = self.piece(b" ")?;
+        match operand {
+            Operand::Name(name) => behind.piece(name.as_bytes()),
+            Operand::Number(number) => behind.digits(*number),
+            Operand::At(at) => behind.place(at),
+        }
     }
 
     /// Appends the field of so many neighbouring numbers, if there are any.
@@ -125,106 +122,22 @@ impl Printer {
         printer.numbers(count)
     }
 
-    /// Appends names behind another word.
-    fn names(self, names: &[&Name]) -> Result<Printer, NoMemory>
-        ensures { IfOk result (λ printer. printer ≡ self ++ spaced (map (λ name. name.now) names.now)) }
+    /// Appends operands behind another word.
+    fn operands(self, operands: &[Operand]) -> Result<Printer, NoMemory>
+        ensures { IfOk result (λ printer. printer ≡ self ++ spaced (map operand_text operands.now)) }
     {
         let mut printer = self;
-        for name in names {
-            printer = printer.name(name)?;
+        for operand in operands {
+            printer = printer.operand(operand)?;
         }
         Ok(printer)
     }
 
-    /// Appends a line's head: its first word, and names behind it.
-    fn head(self, keyword: &[u8], names: &[&Name]) -> Result<Printer, NoMemory>
-        ensures { IfOk result (λ printer. printer ≡ self ++ joined (keyword.now ∷ map (λ name. name.now) names.now)) }
+    /// Appends a line's first word, and operands behind it.
+    fn line_words(self, keyword: &[u8], operands: &[Operand]) -> Result<Printer, NoMemory>
+        ensures { IfOk result (λ printer. printer ≡ self ++ joined (keyword.now ∷ map operand_text operands.now)) }
     {
-        self.piece(keyword)?.names(names)
-    }
-
-    /// Appends the words of a line that reaches a word from a pointer.
-    fn access(self, item: &Item) -> Result<Printer, NoMemory>
-        requires { IsTrue (is_access item.now) }
-        ensures { IfOk result (λ printer. printer ≡ self ++ joined (words_of_item item.now)) }
-    {
-        match item {
-            Item::Getn {
-                number,
-                pointer,
-                index,
-            } => self.head(b"getn", &[number, pointer])?.number(*index),
-            Item::Setn {
-                pointer,
-                index,
-                number,
-            } => self.head(b"setn", &[pointer])?.number(*index)?.name(number),
-            Item::Getp {
-                loaded,
-                pointer,
-                index,
-            } => self.head(b"getp", &[loaded, pointer])?.number(*index),
-            Item::Setp {
-                pointer,
-                index,
-                stored,
-            } => self.head(b"setp", &[pointer])?.number(*index)?.name(stored),
-            Item::Casp {
-                number,
-                pointer,
-                index,
-                expected,
-                stored,
-            } => {
-                let access = self.head(b"casp", &[number, pointer])?.number(*index)?;
-                access.names(&[expected, stored])
-            }
-            Item::Lea {
-                moved,
-                pointer,
-                index,
-            } => self.head(b"lea", &[moved, pointer])?.number(*index),
-            _ => unreachable!(),
-        }
-    }
-
-    /// Appends the words of an instruction.
-    fn instruction(self, item: &Item) -> Result<Printer, NoMemory>
-        requires { IsTrue (is_instruction item.now) }
-        ensures { IfOk result (λ printer. printer ≡ self ++ joined (words_of_item item.now)) }
-    {
-        match item {
-            Item::New { pointer, ty } => self.head(b"new", &[pointer, ty]),
-            Item::Free { pointer } => self.head(b"free", &[pointer]),
-            Item::Move { copied, pointer } => self.head(b"move", &[copied, pointer]),
-            Item::Clear { pointer } => self.head(b"clear", &[pointer]),
-            Item::Loadg { loaded, global } => self.head(b"loadg", &[loaded, global]),
-            Item::Storeg { stored, global } => self.head(b"storeg", &[stored, global]),
-            Item::Same {
-                number,
-                first,
-                second,
-            } => self.head(b"same", &[number, first, second]),
-            Item::Isnull { number, pointer } => self.head(b"isnull", &[number, pointer]),
-            Item::Show { pointer } => self.head(b"show", &[pointer]),
-            Item::Const { number, value } => self.head(b"const", &[number])?.number(*value),
-            Item::Add {
-                number,
-                left,
-                right,
-            } => self.head(b"add", &[number, left, right]),
-            Item::Sub {
-                number,
-                left,
-                right,
-            } => self.head(b"sub", &[number, left, right]),
-            Item::Print { number } => self.head(b"print", &[number]),
-            Item::Repeat { rounds } => self.piece(b"repeat")?.number(*rounds),
-            Item::If { number } => self.head(b"if", &[number]),
-            Item::Else => self.piece(b"else"),
-            Item::End => self.piece(b"end"),
-            _ => self.access(item),
-        }
+        self.piece(keyword)?.operands(operands)
     }
 
     /// Appends the words of a line.
@@ -232,16 +145,167 @@ impl Printer {
         ensures { IfOk result (λ printer. printer ≡ self ++ joined (words_of_item item.now)) }
     {
         match item {
-            Item::Heap { pages, resident } => self
-                .piece(b"heap")?
-                .number(*pages)?
-                .number(*resident),
-            Item::TypeLine { name, words } => self.head(b"type", &[name])?.fields(words.as_slice()),
-            Item::Global { name, ty } => self.head(b"global", &[name, ty]),
-            Item::Script { name } => self.head(b"script", &[name]),
-            Item::Ptr { name, at } => self.head(b"ptr", &[name])?.at(at),
-            Item::Num { name } => self.head(b"num", &[name]),
-            _ => self.instruction(item),
+            Item::TypeLine { name, words } => self
+                .line_words(b"type", &[Operand::Name(name)])?
+                .fields(words.as_slice()),
+            Item::Heap { pages, resident } => self.line_words(
+                b"heap",
+                &[Operand::Number(*pages), Operand::Number(*resident)],
+            ),
+            Item::Global { name, ty } => self.line_words(
+                b"global",
+                &[Operand::Name(name), Operand::Name(ty)],
+            ),
+            Item::Script { name } => self.line_words(b"script", &[Operand::Name(name)]),
+            Item::Ptr { name, at } => self.line_words(
+                b"ptr",
+                &[Operand::Name(name), Operand::At(at)],
+            ),
+            Item::Num { name } => self.line_words(b"num", &[Operand::Name(name)]),
+            Item::New { pointer, ty } => self.line_words(
+                b"new",
+                &[Operand::Name(pointer), Operand::Name(ty)],
+            ),
+            Item::Free { pointer } => self.line_words(b"free", &[Operand::Name(pointer)]),
+            Item::Getn {
+                number,
+                pointer,
+                index,
+            } => self.line_words(
+                b"getn",
+                &[
+                    Operand::Name(number),
+                    Operand::Name(pointer),
+                    Operand::Number(*index),
+                ],
+            ),
+            Item::Setn {
+                pointer,
+                index,
+                number,
+            } => self.line_words(
+                b"setn",
+                &[
+                    Operand::Name(pointer),
+                    Operand::Number(*index),
+                    Operand::Name(number),
+                ],
+            ),
+            Item::Getp {
+                loaded,
+                pointer,
+                index,
+            } => self.line_words(
+                b"getp",
+                &[
+                    Operand::Name(loaded),
+                    Operand::Name(pointer),
+                    Operand::Number(*index),
+                ],
+            ),
+            Item::Setp {
+                pointer,
+                index,
+                stored,
+            } => self.line_words(
+                b"setp",
+                &[
+                    Operand::Name(pointer),
+                    Operand::Number(*index),
+                    Operand::Name(stored),
+                ],
+            ),
+            Item::Casp {
+                number,
+                pointer,
+                index,
+                expected,
+                stored,
+            } => self.line_words(
+                b"casp",
+                &[
+                    Operand::Name(number),
+                    Operand::Name(pointer),
+                    Operand::Number(*index),
+                    Operand::Name(expected),
+                    Operand::Name(stored),
+                ],
+            ),
+            Item::Lea {
+                moved,
+                pointer,
+                index,
+            } => self.line_words(
+                b"lea",
+                &[
+                    Operand::Name(moved),
+                    Operand::Name(pointer),
+                    Operand::Number(*index),
+                ],
+            ),
+            Item::Move { copied, pointer } => self.line_words(
+                b"move",
+                &[Operand::Name(copied), Operand::Name(pointer)],
+            ),
+            Item::Clear { pointer } => self.line_words(b"clear", &[Operand::Name(pointer)]),
+            Item::Loadg { loaded, global } => self.line_words(
+                b"loadg",
+                &[Operand::Name(loaded), Operand::Name(global)],
+            ),
+            Item::Storeg { stored, global } => self.line_words(
+                b"storeg",
+                &[Operand::Name(stored), Operand::Name(global)],
+            ),
+            Item::Same {
+                number,
+                first,
+                second,
+            } => self.line_words(
+                b"same",
+                &[
+                    Operand::Name(number),
+                    Operand::Name(first),
+                    Operand::Name(second),
+                ],
+            ),
+            Item::Isnull { number, pointer } => self.line_words(
+                b"isnull",
+                &[Operand::Name(number), Operand::Name(pointer)],
+            ),
+            Item::Show { pointer } => self.line_words(b"show", &[Operand::Name(pointer)]),
+            Item::Const { number, value } => self.line_words(
+                b"const",
+                &[Operand::Name(number), Operand::Number(*value)],
+            ),
+            Item::Add {
+                number,
+                left,
+                right,
+            } => self.line_words(
+                b"add",
+                &[
+                    Operand::Name(number),
+                    Operand::Name(left),
+                    Operand::Name(right),
+                ],
+            ),
+            Item::Sub {
+                number,
+                left,
+                right,
+            } => self.line_words(
+                b"sub",
+                &[
+                    Operand::Name(number),
+                    Operand::Name(left),
+                    Operand::Name(right),
+                ],
+            ),
+            Item::Print { number } => self.line_words(b"print", &[Operand::Name(number)]),
+            Item::Repeat { rounds } => self.line_words(b"repeat", &[Operand::Number(*rounds)]),
+            Item::If { number } => self.line_words(b"if", &[Operand::Name(number)]),
+            Item::Else => self.line_words(b"else", &[]),
+            Item::End => self.line_words(b"end", &[]),
         }
     }
 

@@ -13,7 +13,7 @@ use crate::names::Name;
 use std::alloc::{AllocError, Global};
 
 /// An open block.
-#[derive(Clone, Copy, Debug, PartialEq, Eq)]
+#[derive(Clone, Copy)]
 pub enum OpenBlock {
     InRepeat,
     /// An `if` in its first branch.

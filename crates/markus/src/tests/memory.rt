@@ -2,7 +2,7 @@
 
 use mk_books::Book;
 use mk_geom::{FREE_PAGE, Page};
-use mk_io::{Failed, ReadStop, StdinSource, StdoutSink, read_all, write_all};
+use mk_io::{Failed, ReadStop, Sink, Source, StdinSource, StdoutSink, read_all, write_all};
 use mk_never::{Kind, NeverHeap, Op, Reply, TypeTable};
 use std::io::{self, ErrorKind, Read, Write};
 use std::test::Fail;
@@ -88,6 +88,52 @@ fn streams_pass_on_bytes_and_errors(rt: HostRuntime) -> Result<(), Fail> {
     for is_broken in [false, true] {
         let outcome = write_all(&mut StdoutSink::new(StuckWriter { is_broken }), text);
         assert_eq!(rt; outcome, Err(Failed), "is_broken {is_broken}");
+    }
+    Ok(())
+}
+
+/// A stream whose first call answers an error, and whose others move all bytes.
+#[derive(Drop)]
+struct Stumbling {
+    calls: u64,
+}
+
+impl Read for Stumbling {
+    fn read(&mut self, buf: &mut [u8]) -> io::Result<usize> {
+        self.calls = self.calls.saturating_add(1);
+        if self.calls == 1 {
+            return Err(io::Error::from(ErrorKind::Other));
+        }
+        Ok(buf.len())
+    }
+}
+
+impl Write for Stumbling {
+    fn write(&mut self, buf: &[u8]) -> io::Result<usize> {
+        self.calls = self.calls.saturating_add(1);
+        if self.calls == 1 {
+            return Err(io::Error::from(ErrorKind::Other));
+        }
+        Ok(buf.len())
+    }
+
+    fn flush(&mut self) -> io::Result<()> {
+        Ok(())
+    }
+}
+
+/// An error isn't tried again, and a call moves as much as the reader or the writer does.
+#[test]
+fn streams_make_one_call_of_each(rt: HostRuntime) -> Result<(), Fail> {
+    let mut source = StdinSource::new(Stumbling { calls: 0 });
+    let mut sink = StdoutSink::new(Stumbling { calls: 0 });
+    let mut buffer = [0; 4];
+    assert_eq!(rt; source.read(&mut buffer), Err(Failed));
+    assert_eq!(rt; sink.write(&buffer), Err(Failed));
+    for len in [1, 4096, 4097, 1_048_576] {
+        let mut buffer = "x".repeat(rt.alloc(), len)?.into_bytes();
+        assert_eq!(rt; source.read(&mut buffer), Ok(len), "{len} bytes");
+        assert_eq!(rt; sink.write(&buffer), Ok(len), "{len} bytes");
     }
     Ok(())
 }

@@ -1,23 +1,21 @@
 //! Blocks.
-#![tactic(auto, unfolding(crate::specs::Operands::item_from))]
-
-ghost use Rattle.std.specs.Prelude.{◌≡◌, [], ◌∷◌};
-ghost use Rattle.mk_script.specs.Operands.{item_from};
+ghost use Rattle.std.specs.Prelude.{◌≡◌};
+ghost use Rattle.mk_script.specs.Operands as spec;
+ghost use Rattle.mk_script.specs.Operands.{says1};
 
 use crate::faults::LineFault;
 use crate::items::Item;
-use crate::keywords::Keyword;
 use crate::operands;
 
 pub fn repeat(rounds: &[u8]) -> Result<Item, LineFault>
-    ensures { result ≡ item_from Keyword.Repeat (rounds.now ∷ []) }
+    ensures { result ≡ says1 (λ rounds. Item.Repeat rounds) (spec.number rounds.now) }
 {
     let rounds = operands::number(rounds)?;
     Ok(Item::Repeat { rounds })
 }
 
 pub fn condition(number: &[u8]) -> Result<Item, LineFault>
-    ensures { result ≡ item_from Keyword.If (number.now ∷ []) }
+    ensures { result ≡ says1 (λ number'. Item.If number') (spec.name number.now) }
 {
     let number = operands::name(number)?;
     Ok(Item::If { number })

@@ -1,16 +1,15 @@
 //! Declarations.
-#![tactic(auto, unfolding(crate::specs::Operands::item_from))]
-
-ghost use Rattle.std.specs.Prelude.{◌≡◌, [], ◌∷◌};
-ghost use Rattle.mk_script.specs.Operands.{item_from};
+ghost use Rattle.std.specs.Prelude.{◌≡◌};
+ghost use Rattle.mk_script.specs.Operands as spec;
+ghost use Rattle.mk_script.specs.Operands.{says1, says2};
 
 use crate::faults::LineFault;
 use crate::items::Item;
-use crate::keywords::Keyword;
 use crate::operands;
 
 pub fn heap(pages: &[u8], resident: &[u8]) -> Result<Item, LineFault>
-    ensures { result ≡ item_from Keyword.Heap (pages.now ∷ resident.now ∷ []) }
+    ensures { result ≡ says2 (λ pages resident. Item.Heap pages resident)
+        (spec.number pages.now) (spec.number resident.now) }
 {
     let pages = operands::number(pages)?;
     let resident = operands::number(resident)?;
@@ -18,7 +17,7 @@ pub fn heap(pages: &[u8], resident: &[u8]) -> Result<Item, LineFault>
 }
 
 pub fn global(name: &[u8], ty: &[u8]) -> Result<Item, LineFault>
-    ensures { result ≡ item_from Keyword.Global (name.now ∷ ty.now ∷ []) }
+    ensures { result ≡ says2 (λ name' ty. Item.Global name' ty) (spec.name name.now) (spec.name ty.now) }
 {
     let name = operands::name(name)?;
     let ty = operands::name(ty)?;
@@ -26,14 +25,14 @@ pub fn global(name: &[u8], ty: &[u8]) -> Result<Item, LineFault>
 }
 
 pub fn script(name: &[u8]) -> Result<Item, LineFault>
-    ensures { result ≡ item_from Keyword.Script (name.now ∷ []) }
+    ensures { result ≡ says1 (λ name'. Item.Script name') (spec.name name.now) }
 {
     let name = operands::name(name)?;
     Ok(Item::Script { name })
 }
 
 pub fn ptr(name: &[u8], at: &[u8]) -> Result<Item, LineFault>
-    ensures { result ≡ item_from Keyword.Ptr (name.now ∷ at.now ∷ []) }
+    ensures { result ≡ says2 (λ name' at'. Item.Ptr name' at') (spec.name name.now) (spec.at at.now) }
 {
     let name = operands::name(name)?;
     let at = operands::at(at)?;
@@ -41,7 +40,7 @@ pub fn ptr(name: &[u8], at: &[u8]) -> Result<Item, LineFault>
 }
 
 pub fn num(name: &[u8]) -> Result<Item, LineFault>
-    ensures { result ≡ item_from Keyword.Num (name.now ∷ []) }
+    ensures { result ≡ says1 (λ name'. Item.Num name') (spec.name name.now) }
 {
     let name = operands::name(name)?;
     Ok(Item::Num { name })

@@ -1,16 +1,14 @@
 //! Instructions on pointers and what they point to.
-#![tactic(auto, unfolding(crate::specs::Operands::item_from))]
-
-ghost use Rattle.std.specs.Prelude.{◌≡◌, [], ◌∷◌};
-ghost use Rattle.mk_script.specs.Operands.{item_from};
+ghost use Rattle.std.specs.Prelude.{◌≡◌};
+ghost use Rattle.mk_script.specs.Operands as spec;
+ghost use Rattle.mk_script.specs.Operands.{says1, says2, says3, says5};
 
 use crate::faults::LineFault;
 use crate::items::Item;
-use crate::keywords::Keyword;
 use crate::operands;
 
 pub fn new(pointer: &[u8], ty: &[u8]) -> Result<Item, LineFault>
-    ensures { result ≡ item_from Keyword.New (pointer.now ∷ ty.now ∷ []) }
+    ensures { result ≡ says2 (λ pointer ty. Item.New pointer ty) (spec.name pointer.now) (spec.name ty.now) }
 {
     let pointer = operands::name(pointer)?;
     let ty = operands::name(ty)?;
@@ -18,14 +16,15 @@ pub fn new(pointer: &[u8], ty: &[u8]) -> Result<Item, LineFault>
 }
 
 pub fn free(pointer: &[u8]) -> Result<Item, LineFault>
-    ensures { result ≡ item_from Keyword.Free (pointer.now ∷ []) }
+    ensures { result ≡ says1 (λ pointer. Item.Free pointer) (spec.name pointer.now) }
 {
     let pointer = operands::name(pointer)?;
     Ok(Item::Free { pointer })
 }
 
 pub fn getn(number: &[u8], pointer: &[u8], index: &[u8]) -> Result<Item, LineFault>
-    ensures { result ≡ item_from Keyword.Getn (number.now ∷ pointer.now ∷ index.now ∷ []) }
+    ensures { result ≡ says3 (λ number' pointer index. Item.Getn number' pointer index)
+        (spec.name number.now) (spec.name pointer.now) (spec.number index.now) }
 {
     let number = operands::name(number)?;
     let pointer = operands::name(pointer)?;
@@ -38,7 +37,8 @@ pub fn getn(number: &[u8], pointer: &[u8], index: &[u8]) -> Result<Item, LineFau
 }
 
 pub fn setn(pointer: &[u8], index: &[u8], number: &[u8]) -> Result<Item, LineFault>
-    ensures { result ≡ item_from Keyword.Setn (pointer.now ∷ index.now ∷ number.now ∷ []) }
+    ensures { result ≡ says3 (λ pointer index number'. Item.Setn pointer index number')
+        (spec.name pointer.now) (spec.number index.now) (spec.name number.now) }
 {
     let pointer = operands::name(pointer)?;
     let index = operands::number(index)?;
@@ -51,7 +51,8 @@ pub fn setn(pointer: &[u8], index: &[u8], number: &[u8]) -> Result<Item, LineFau
 }
 
 pub fn getp(loaded: &[u8], pointer: &[u8], index: &[u8]) -> Result<Item, LineFault>
-    ensures { result ≡ item_from Keyword.Getp (loaded.now ∷ pointer.now ∷ index.now ∷ []) }
+    ensures { result ≡ says3 (λ loaded pointer index. Item.Getp loaded pointer index)
+        (spec.name loaded.now) (spec.name pointer.now) (spec.number index.now) }
 {
     let loaded = operands::name(loaded)?;
     let pointer = operands::name(pointer)?;
@@ -64,7 +65,8 @@ pub fn getp(loaded: &[u8], pointer: &[u8], index: &[u8]) -> Result<Item, LineFau
 }
 
 pub fn setp(pointer: &[u8], index: &[u8], stored: &[u8]) -> Result<Item, LineFault>
-    ensures { result ≡ item_from Keyword.Setp (pointer.now ∷ index.now ∷ stored.now ∷ []) }
+    ensures { result ≡ says3 (λ pointer index stored. Item.Setp pointer index stored)
+        (spec.name pointer.now) (spec.number index.now) (spec.name stored.now) }
 {
     let pointer = operands::name(pointer)?;
     let index = operands::number(index)?;
@@ -83,7 +85,8 @@ pub fn casp(
     expected: &[u8],
     stored: &[u8],
 ) -> Result<Item, LineFault>
-    ensures { result ≡ item_from Keyword.Casp (number.now ∷ pointer.now ∷ index.now ∷ expected.now ∷ stored.now ∷ []) }
+    ensures { result ≡ says5 (λ number' pointer index expected stored. Item.Casp number' pointer index expected stored)
+        (spec.name number.now) (spec.name pointer.now) (spec.number index.now) (spec.name expected.now) (spec.name stored.now) }
 {
     let number = operands::name(number)?;
     let pointer = operands::name(pointer)?;
@@ -100,7 +103,8 @@ pub fn casp(
 }
 
 pub fn lea(moved: &[u8], pointer: &[u8], index: &[u8]) -> Result<Item, LineFault>
-    ensures { result ≡ item_from Keyword.Lea (moved.now ∷ pointer.now ∷ index.now ∷ []) }
+    ensures { result ≡ says3 (λ moved pointer index. Item.Lea moved pointer index)
+        (spec.name moved.now) (spec.name pointer.now) (spec.number index.now) }
 {
     let moved = operands::name(moved)?;
     let pointer = operands::name(pointer)?;
@@ -113,7 +117,8 @@ pub fn lea(moved: &[u8], pointer: &[u8], index: &[u8]) -> Result<Item, LineFault
 }
 
 pub fn copy(copied: &[u8], pointer: &[u8]) -> Result<Item, LineFault>
-    ensures { result ≡ item_from Keyword.Move (copied.now ∷ pointer.now ∷ []) }
+    ensures { result ≡ says2 (λ copied pointer. Item.Move copied pointer)
+        (spec.name copied.now) (spec.name pointer.now) }
 {
     let copied = operands::name(copied)?;
     let pointer = operands::name(pointer)?;
@@ -121,14 +126,15 @@ pub fn copy(copied: &[u8], pointer: &[u8]) -> Result<Item, LineFault>
 }
 
 pub fn clear(pointer: &[u8]) -> Result<Item, LineFault>
-    ensures { result ≡ item_from Keyword.Clear (pointer.now ∷ []) }
+    ensures { result ≡ says1 (λ pointer. Item.Clear pointer) (spec.name pointer.now) }
 {
     let pointer = operands::name(pointer)?;
     Ok(Item::Clear { pointer })
 }
 
 pub fn loadg(loaded: &[u8], global: &[u8]) -> Result<Item, LineFault>
-    ensures { result ≡ item_from Keyword.Loadg (loaded.now ∷ global.now ∷ []) }
+    ensures { result ≡ says2 (λ loaded global. Item.Loadg loaded global)
+        (spec.name loaded.now) (spec.name global.now) }
 {
     let loaded = operands::name(loaded)?;
     let global = operands::name(global)?;
@@ -136,7 +142,8 @@ pub fn loadg(loaded: &[u8], global: &[u8]) -> Result<Item, LineFault>
 }
 
 pub fn storeg(stored: &[u8], global: &[u8]) -> Result<Item, LineFault>
-    ensures { result ≡ item_from Keyword.Storeg (stored.now ∷ global.now ∷ []) }
+    ensures { result ≡ says2 (λ stored global. Item.Storeg stored global)
+        (spec.name stored.now) (spec.name global.now) }
 {
     let stored = operands::name(stored)?;
     let global = operands::name(global)?;

@@ -1,16 +1,15 @@
 //! Instructions that compare, show and compute.
-#![tactic(auto, unfolding(crate::specs::Operands::item_from))]
-
-ghost use Rattle.std.specs.Prelude.{◌≡◌, [], ◌∷◌};
-ghost use Rattle.mk_script.specs.Operands.{item_from};
+ghost use Rattle.std.specs.Prelude.{◌≡◌};
+ghost use Rattle.mk_script.specs.Operands as spec;
+ghost use Rattle.mk_script.specs.Operands.{says1, says2, says3};
 
 use crate::faults::LineFault;
 use crate::items::Item;
-use crate::keywords::Keyword;
 use crate::operands;
 
 pub fn same(number: &[u8], first: &[u8], second: &[u8]) -> Result<Item, LineFault>
-    ensures { result ≡ item_from Keyword.Same (number.now ∷ first.now ∷ second.now ∷ []) }
+    ensures { result ≡ says3 (λ number' first second. Item.Same number' first second)
+        (spec.name number.now) (spec.name first.now) (spec.name second.now) }
 {
     let number = operands::name(number)?;
     let first = operands::name(first)?;
@@ -23,7 +22,8 @@ pub fn same(number: &[u8], first: &[u8], second: &[u8]) -> Result<Item, LineFaul
 }
 
 pub fn isnull(number: &[u8], pointer: &[u8]) -> Result<Item, LineFault>
-    ensures { result ≡ item_from Keyword.Isnull (number.now ∷ pointer.now ∷ []) }
+    ensures { result ≡ says2 (λ number' pointer. Item.Isnull number' pointer)
+        (spec.name number.now) (spec.name pointer.now) }
 {
     let number = operands::name(number)?;
     let pointer = operands::name(pointer)?;
@@ -31,14 +31,15 @@ pub fn isnull(number: &[u8], pointer: &[u8]) -> Result<Item, LineFault>
 }
 
 pub fn show(pointer: &[u8]) -> Result<Item, LineFault>
-    ensures { result ≡ item_from Keyword.Show (pointer.now ∷ []) }
+    ensures { result ≡ says1 (λ pointer. Item.Show pointer) (spec.name pointer.now) }
 {
     let pointer = operands::name(pointer)?;
     Ok(Item::Show { pointer })
 }
 
 pub fn constant(number: &[u8], value: &[u8]) -> Result<Item, LineFault>
-    ensures { result ≡ item_from Keyword.Const (number.now ∷ value.now ∷ []) }
+    ensures { result ≡ says2 (λ number' value. Item.Const number' value)
+        (spec.name number.now) (spec.number value.now) }
 {
     let number = operands::name(number)?;
     let value = operands::number(value)?;
@@ -46,7 +47,8 @@ pub fn constant(number: &[u8], value: &[u8]) -> Result<Item, LineFault>
 }
 
 pub fn add(number: &[u8], left: &[u8], right: &[u8]) -> Result<Item, LineFault>
-    ensures { result ≡ item_from Keyword.Add (number.now ∷ left.now ∷ right.now ∷ []) }
+    ensures { result ≡ says3 (λ number' left right. Item.Add number' left right)
+        (spec.name number.now) (spec.name left.now) (spec.name right.now) }
 {
     let number = operands::name(number)?;
     let left = operands::name(left)?;
@@ -59,7 +61,8 @@ pub fn add(number: &[u8], left: &[u8], right: &[u8]) -> Result<Item, LineFault>
 }
 
 pub fn sub(number: &[u8], left: &[u8], right: &[u8]) -> Result<Item, LineFault>
-    ensures { result ≡ item_from Keyword.Sub (number.now ∷ left.now ∷ right.now ∷ []) }
+    ensures { result ≡ says3 (λ number' left right. Item.Sub number' left right)
+        (spec.name number.now) (spec.name left.now) (spec.name right.now) }
 {
     let number = operands::name(number)?;
     let left = operands::name(left)?;
@@ -72,7 +75,7 @@ pub fn sub(number: &[u8], left: &[u8], right: &[u8]) -> Result<Item, LineFault>
 }
 
 pub fn print(number: &[u8]) -> Result<Item, LineFault>
-    ensures { result ≡ item_from Keyword.Print (number.now ∷ []) }
+    ensures { result ≡ says1 (λ number'. Item.Print number') (spec.name number.now) }
 {
     let number = operands::name(number)?;
     Ok(Item::Print { number })

@@ -28,5 +28,6 @@ loop-count-preserved g c = record {
       let kept : c.extend_from_slice.new.self.items ≡ c.loop-count.bytes.items ++ part =
       grind (arith, common_steps) in
       rw kept (Takes-append _ _ _ _ _ c.loop-count.invariant.taken c.in-Ok.ensures.bytes);
+  sound = λ h. c.in-Ok.ensures.stays_sound (c.loop-count.invariant.sound h);
   no_fault = omega (arith, c.in-Ok.ensures.no_fault, c.loop-count.invariant.no_fault);
 }

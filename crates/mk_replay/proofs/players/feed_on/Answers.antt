@@ -1,5 +1,6 @@
 use Rattle.std.proofs.Common.{rules}
 use Rattle.std.proofs.lemmas.Result.{IfOk-weaker}
+use Rattle.mk_check.proofs.FeedLaws.{waits_for_op}
 use Rattle.mk_check.specs.Feeding.{TakesAnswer as FeedTakesAnswer}
 use Rattle.mk_replay.specs.Players.{FeedsOn}
 use Rattle.mk_replay.proofs.RunLaws.{fed_more, fed_ended}
@@ -13,3 +14,6 @@ pub returns : goal.returns
 returns c =
     IfOk-weaker c.answer.result (λ _. FeedTakesAnswer c.args.feed.now c.args.answer c.answer.new.self) (λ _. FeedsOn c.args.answer c.args.feed.now c.answer.new.self)
     (λ _ takes program k answers h. fed_more program k c.args.feed.now c.answer.new.self answers c.args.answer takes h) c.answer.ensures.ok
+
+pub answer-requires : goal.answer-requires
+answer-requires c = waits_for_op c.args.feed.now c.op.result (λ program k answers st. c.op.ensures.none program k answers st) (search rules)

@@ -1,6 +1,5 @@
-use Rattle.std.proofs.Common.{List, [], ℕ, sym, ◌∙◌, subst, rules}
+use Rattle.std.proofs.Common.{List, [], ℕ, sym, subst, rules}
 use Rattle.std.specs.Prelude.{None}
-use Rattle.mk_script.specs.declared.items.Item.{Item}
 use Rattle.mk_replay.specs.declared.players.Player.{Player}
 use Rattle.mk_replay.specs.Players.{IsPlayerOf, ArePlayersOf}
 use Rattle.mk_replay.proofs.RunLaws.{players_push}
@@ -13,5 +12,5 @@ loop-script-preserved c = record {
       subst (λ (xs : List Player). ArePlayersOf c.args.program.now [] xs) (sym c.in-Ok.ensures.items)
       (players_push c.args.program.now c.loop-script.players.items c.in_ok-player.player c.loop-script.invariant.players
       (subst (λ (i : ℕ). IsPlayerOf c.args.program.now i (record { answers = []; kept = None }) c.in_ok-player.player) (sym c.loop-script.invariant.count)
-      (subst (λ (program : List Item). IsPlayerOf program c.loop-script.script (record { answers = []; kept = None }) c.in_ok-player.player) (c.items.ensures.items ∙ c.program.ensures.program) c.in_ok-player.ensures)));
+      c.in_ok-player.ensures));
 }

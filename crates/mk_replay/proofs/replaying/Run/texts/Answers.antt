@@ -1,7 +1,8 @@
 use Rattle.std.proofs.Common.{◌≡◌, List, ◌<◌, length, get_or, ℕ, sym, subst, rules}
 use Rattle.mk_check.specs.declared.text.Text.{Text}
 use Rattle.mk_replay.specs.declared.players.Player.{Player}
-use Rattle.mk_replay.specs.Replays.{config_of, IsTextOf, AreFirstTexts}
+use Rattle.mk_check.specs.Declarations.{config_of}
+use Rattle.mk_replay.specs.Replays.{IsTextOf, AreFirstTexts}
 use Rattle.mk_replay.specs.Players.{served, IsPlayerOf}
 use Rattle.mk_replay.proofs.RunLaws.{texts_push}
 use Rattle.mk_replay.proofs.replaying.Run.texts.Goals as goal
@@ -16,7 +17,7 @@ loop-player-preserved c = record {
       let p = c.player-item.result in
       let within : n < length players = search rules in
       let item : get_or players n p ≡ p = search rules in
-      let is = subst (λ (x : Player). IsPlayerOf program n (served (config_of program) es n) x) item (h n p within) in
+      let is = subst (λ (x : Player). IsPlayerOf program n (served (config_of program 8) es n) x) item (h n p within) in
       let t = c.in_ok-text.ensures program es n is in
       subst (λ (xs : List Text). AreFirstTexts program es xs) (sym c.in-Ok.ensures.items)
       (texts_push program es texts c.in_ok-text.text (c.loop-player.invariant.texts program es h)
