@@ -1,0 +1,3 @@
+pub mod InScript
+pub mod ReadLines
+pub mod ReadScripts
