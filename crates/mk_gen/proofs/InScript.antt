@@ -1,8 +1,9 @@
 -- The lines of a script are read by what stands behind its first line alone.
 use Rattle.std.proofs.Common.{◌≡◌, ℕ, ◌+◌, Bool, true, false, List, [], ◌∷◌, ◌++◌, length, refl, ap, ◌∙◌, sym, Option, Some, None}
+use Rattle.std.specs.List.{list_all}
 use Rattle.std.proofs.lemmas.List.Folds.{list_any-append}
 use Rattle.std.proofs.lemmas.List.Sums.{fold-append}
-use Rattle.std.proofs.lemmas.Bool.{false≢true, or_right}
+use Rattle.std.proofs.lemmas.Bool.{false≢true, and_parts, or_right}
 use Rattle.mk_script.specs.declared.items.Item.{Item}
 use Rattle.mk_script.specs.declared.items.Item.TheVariants.{TypeLine, Global, Script, Ptr, Num, Repeat, If}
 use Rattle.mk_script.specs.declared.keywords.Keyword.{Keyword}
@@ -45,7 +46,7 @@ alike_push a b item alike = record {
 }
 
 -- behind the first line of a script nothing else counts
-pub alike_at_first : (before : List Item) (name : List ℕ) → AreAlike (Script name ∷ []) (before ++ Script name ∷ [])
+pub alike_at_first : (before : List Item) (name : List ℕ) → AreAlike (Script [] ∷ []) (before ++ Script name ∷ [])
 alike_at_first before name = record {
   script = refl;
   script' = list_any-append is_script before (Script name ∷ []) ∙ or_right _ _ refl;
@@ -105,15 +106,12 @@ module _ (a b : List Item) (alike : AreAlike a b) where
     is_short = is.is_short;
   }
 
-abbrev pub AreInside : List Item → Type 0
-AreInside [] = Unit {0}
-AreInside (item ∷ items) = (is_inside item ≡ true) × AreInside items
-
-pub AreRead-alike : (lines : List (List ℕ)) (items a b : List Item) → AreAlike a b → AreInside items → AreRead a lines items → AreRead b lines items
+pub AreRead-alike : (lines : List (List ℕ)) (items a b : List Item) → AreAlike a b → list_all is_inside items ≡ true → AreRead a lines items → AreRead b lines items
 AreRead-alike [] [] a b alike inside are = tt
 AreRead-alike [] (item ∷ items) a b alike inside are = absurd are
 AreRead-alike (line ∷ lines) [] a b alike inside are = absurd are
-AreRead-alike (line ∷ lines) (item ∷ items) a b alike inside are = (
-  read_alike a b alike line item inside.0 are.0,
-  AreRead-alike lines items (a ++ item ∷ []) (b ++ item ∷ []) (alike_push a b item alike) inside.1 are.1,
-)
+AreRead-alike (line ∷ lines) (item ∷ items) a b alike inside are =
+    let each = and_parts _ _ inside in (
+      read_alike a b alike line item each.0 are.0,
+      AreRead-alike lines items (a ++ item ∷ []) (b ++ item ∷ []) (alike_push a b item alike) each.1 are.1,
+    )

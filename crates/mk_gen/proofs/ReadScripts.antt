@@ -1,53 +1,91 @@
--- The lines of a generated script are read.
-use Rattle.std.proofs.Common.{◌≡◌, ℕ, ◌+◌, ◌<◌, ◌≤◌, ◌^◌, Bool, true, false, nat_eq, nat_le, nat_lt, not, List, [], ◌∷◌, ◌++◌, length, refl, ap, ◌∙◌, sym, subst, arith, Ok, Err}
-use Rattle.std.specs.Fmt.{decimal}
-use Rattle.std.specs.List.{All, list_all}
-use Rattle.std.proofs.lemmas.Fmt.{length-decimal-le}
-use Rattle.std.proofs.lemmas.List.{append-nil, length-append}
-use Rattle.std.proofs.lemmas.List.Elements.{All-weaker}
-use Rattle.std.proofs.lemmas.List.Sums.{AllPass-from_list_all}
-use Rattle.std.proofs.lemmas.Bool.{leb-true}
+-- The scripts are read, each behind those before it.
+use Rattle.std.proofs.Common.{◌≡◌, ℕ, zero, suc, ◌+◌, ◌*◌, ◌/◌, ◌%◌, ◌<◌, ◌≤◌, ◌^◌, Bool, true, false, ◌&&◌, not, nat_eq, nat_le, List, [], ◌∷◌, ◌++◌, length, refl, ap, ◌∙◌, sym, subst, arith, Ok}
+use Rattle.std.specs.List.{list_all}
+use Rattle.std.proofs.Math.Nat.{mod-lt}
+use Rattle.std.proofs.lemmas.Bool.{false≢true, and_parts, not-true, leb-true}
+use Rattle.std.proofs.lemmas.List.{append-nil}
+use Rattle.std.proofs.lemmas.List.Sums.{fold-append}
 use lib.Chars.{codes}
 use Rattle.mk_script.specs.declared.items.Item.{Item}
-use Rattle.mk_script.specs.declared.items.Item.TheVariants.{Script, Ptr}
-use Rattle.mk_script.specs.Words.{words_of}
-use Rattle.mk_script.specs.Spaced.{joined}
-use Rattle.mk_script.specs.Lines.{line_item, checked_item}
+use Rattle.mk_script.specs.declared.items.Item.TheVariants.{Script}
+use Rattle.mk_script.specs.Names.{is_name}
 use Rattle.mk_script.specs.Operands.{item_from}
-use Rattle.mk_script.proofs.LineWords.{is_word-decimal, AreWords, words_of-joined, without, without_newline}
-use Rattle.mk_script.proofs.PrintedForms.{read_number}
-use Rattle.mk_gen.specs.Generated.{turns_of}
-use Rattle.mk_gen.specs.GeneratedText.{turn_lines}
-use Rattle.mk_gen.proofs.ReadLines.{IsRead, AreRead}
+use Rattle.mk_script.specs.ScopeOf.{has_lines}
+use Rattle.mk_script.specs.Scopes.{script_names, open_behind, open_blocks}
+use Rattle.mk_script.specs.Lines.{line_item, checked_item, is_among}
+use Rattle.mk_script.proofs.Said.{is_word-name}
+use Rattle.mk_script.proofs.PrintedForms.{read_name}
+use Rattle.mk_gen.specs.Draws.{next, draw}
+use Rattle.mk_gen.specs.Generated.{turns_of, scripts}
+use Rattle.mk_gen.specs.GeneratedText.{turn_lines, script_lines}
+use Rattle.mk_gen.proofs.ReadLines.{IsRead, AreRead, AreRead-append}
+use Rattle.mk_gen.proofs.InScript.{is_inside, alike_at_first, AreRead-alike}
+use Rattle.mk_gen.proofs.ReadTurns.{by_words, turns_are_read}
 
--- a line of words
-by_words : (before : List Item) (line : List ℕ) (words : List (List ℕ)) (item : Item) → line ≡ joined words → AreWords words
-    → line_item before words ≡ Ok item → checked_item before item ≡ Ok item → length line ≤ 40 → IsRead before line item
-by_words before line words item is apart says passes short =
-    record {
-      says = ap (λ text. line_item before (words_of text)) is ∙ ap (line_item before) (words_of-joined words apart) ∙ says;
-      passes = passes;
-      is_whole = subst (All (λ byte. nat_eq byte 10 ≡ false)) (sym is) (without_newline words apart);
-      is_short = short;
-    }
+-- lines with these scripts, behind which another may begin
+pub record AreReady (before : List Item) (names : List (List ℕ)) : Type 0 where
+  pub some : has_lines before ≡ true
+  pub names_are : script_names before ≡ names
+  pub closed : open_blocks before ≡ []
 
-not_true : (b : Bool) → not b ≡ true → b ≡ false
-not_true true e = sym e
-not_true false e = refl
+-- whether a script of this name may begin behind these
+abbrev pub may_begin : List (List ℕ) → List ℕ → Bool
+may_begin names name = is_name name && not (is_among name names) && nat_le (length names + 1) 16
 
--- a line that is all known
-plain : (before : List Item) (line : List ℕ) (item : Item) → line_item before (words_of line) ≡ Ok item → checked_item before item ≡ Ok item
-    → list_all (λ byte. not (nat_eq byte 10)) line ≡ true → nat_le (length line) 40 ≡ true → IsRead before line item
-plain before line item says passes whole short = record {
-  says = says;
-  passes = passes;
-  is_whole = All-weaker (λ byte. not (nat_eq byte 10) ≡ true) (λ byte. nat_eq byte 10 ≡ false) (λ byte. not_true (nat_eq byte 10)) line (AllPass-from_list_all (λ byte. not (nat_eq byte 10)) line whole);
-  is_short = leb-true _ _ short;
+abbrev pub MayBegin : List (List ℕ) → List (List ℕ) → Type 0
+MayBegin before [] = Unit {0}
+MayBegin before (name ∷ names) = (may_begin before name ≡ true) × MayBegin (before ++ name ∷ []) names
+
+script_says : (before : List Item) (name : List ℕ) → has_lines before ≡ true → is_name name ≡ true → line_item before (codes "script" ∷ name ∷ []) ≡ Ok (Script name)
+unfolding item_from
+script_says [] name some named = absurd (false≢true some)
+script_says (first ∷ before) name some named = read_name name named _ refl
+
+script_is_read : (before : List Item) (names : List (List ℕ)) (name : List ℕ) → AreReady before names → may_begin names name ≡ true → IsRead before (codes "script " ++ name) (Script name)
+script_is_read before names name ready may =
+    let parts = and_parts _ _ may in
+    let begins = and_parts _ _ parts.0 in
+    let short : length name ≤ 16 = leb-true _ _ (and_parts _ _ (and_parts _ _ (and_parts _ _ begins.0).0).0).1 in
+    by_words before (codes "script " ++ name) (codes "script" ∷ name ∷ []) (Script name)
+      (ap (λ word. codes "script " ++ word) (sym (append-nil name)))
+      (refl, (is_word-name name begins.0, tt))
+      (script_says before name ready.some begins.0)
+      (rw (ready.names_are, not-true _ begins.1, parts.1, ready.closed) refl)
+      (omega (arith, short))
+
+script_names-append : (items behind : List Item) → script_names (items ++ behind) ≡ script_names items ++ script_names behind
+script_names-append [] behind = refl
+script_names-append (Script name ∷ items) behind = ap (λ names. name ∷ names) (script_names-append items behind)
+script_names-append (item ∷ items) behind = script_names-append items behind
+
+has_lines-append : (items behind : List Item) → has_lines items ≡ true → has_lines (items ++ behind) ≡ true
+has_lines-append [] behind some = absurd (false≢true some)
+has_lines-append (item ∷ items) behind some = refl
+
+pub ready_behind : (before : List Item) (names : List (List ℕ)) (name : List ℕ) (turns number place : ℕ) → AreReady before names
+    → AreReady (before ++ Script name ∷ turns_of turns number place) (names ++ name ∷ [])
+ready_behind before names name turns number place ready = record {
+  some = has_lines-append before (Script name ∷ turns_of turns number place) ready.some;
+  names_are = script_names-append before (Script name ∷ turns_of turns number place) ∙ ap (λ ns. ns ++ name ∷ []) ready.names_are;
+  closed = fold-append open_behind [] before (Script name ∷ turns_of turns number place);
 }
 
-digits_short : (n : ℕ) → n < 2 ^ 64 → length (decimal n) ≤ 20
-digits_short n small = length-decimal-le 20 n (omega arith) (omega arith) small
+draw-lt : (x m : ℕ) → 0 < m → draw x m < m
+draw-lt x m some = mod-lt (x / 2 ^ 33) some
 
-turns_are_read : (turns number place : ℕ) → turns < 2 ^ 64 → number < 2 ^ 64 → place < 2 ^ 64 → AreRead (Script [] ∷ []) (turn_lines turns number place) (turns_of turns number place)
-unfolding item_from
-turns_are_read turns number place t a i = (plain _ _ _ refl refl refl refl, (plain _ _ _ refl refl refl refl, (plain _ _ _ refl refl refl refl, (plain _ _ _ refl refl refl refl, (plain _ _ _ refl refl refl refl, (by_words _ _ (codes "repeat" ∷ decimal turns ∷ []) _ (ap (λ digits. codes "repeat " ++ digits) (sym (append-nil (decimal turns)))) (refl, (is_word-decimal turns t, tt)) (read_number turns t _ refl) refl (omega (arith, digits_short turns t)), (plain _ _ _ refl refl refl refl, (by_words _ _ (codes "const" ∷ codes "n" ∷ decimal number ∷ []) _ (ap (λ digits. codes "const n " ++ digits) (sym (append-nil (decimal number)))) (refl, (refl, (is_word-decimal number a, tt))) (read_number number a _ refl) refl (omega (arith, digits_short number a)), (plain _ _ _ refl refl refl refl, (plain _ _ _ refl refl refl refl, (plain _ _ _ refl refl refl refl, (plain _ _ _ refl refl refl refl, (plain _ _ _ refl refl refl refl, (plain _ _ _ refl refl refl refl, (by_words _ _ (codes "setn" ∷ codes "b" ∷ decimal place ∷ codes "n" ∷ []) _ refl (refl, (refl, (is_word-decimal place i, (refl, tt)))) (read_number place i _ refl) refl (omega (arith, digits_short place i, length-append (decimal place) (codes " n"))), (plain _ _ _ refl refl refl refl, (plain _ _ _ refl refl refl refl, (plain _ _ _ refl refl refl refl, (plain _ _ _ refl refl refl refl, (plain _ _ _ refl refl refl refl, tt))))))))))))))))))))
+pub scripts_are_read : (turns numbers x : ℕ) → turns < 2 ^ 64 → 0 < numbers → numbers ≤ 100
+    → (names before_names : List (List ℕ)) (before : List Item) → AreReady before before_names → MayBegin before_names names
+    → AreRead before (script_lines turns numbers x names) (scripts turns numbers x names)
+scripts_are_read turns numbers x t some few [] before_names before ready may = tt
+scripts_are_read turns numbers x t some few (name ∷ names) before_names before ready may =
+    let number = draw (next x) 1000 in
+    let place = draw (next (next x)) numbers in
+    let number_small : number < 2 ^ 64 = omega (arith, draw-lt (next x) 1000 (omega arith)) in
+    let place_small : place < 2 ^ 64 = omega (arith, draw-lt (next (next x)) numbers some, few) in
+    AreRead-append ((codes "script " ++ name) ∷ turn_lines turns number place) (script_lines turns numbers (next (next x)) names)
+      before (Script name ∷ turns_of turns number place) (scripts turns numbers (next (next x)) names)
+      (script_is_read before before_names name ready may.0,
+        AreRead-alike (turn_lines turns number place) (turns_of turns number place) (Script [] ∷ []) (before ++ Script name ∷ [])
+          (alike_at_first before name) refl (turns_are_read turns number place t number_small place_small))
+      (scripts_are_read turns numbers (next (next x)) t some few names (before_names ++ name ∷ []) (before ++ Script name ∷ turns_of turns number place)
+        (ready_behind before before_names name turns number place ready) may.1)

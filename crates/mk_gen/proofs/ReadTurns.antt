@@ -1,0 +1,49 @@
+-- The lines of a script behind its first are read.
+use Rattle.std.proofs.Common.{◌≡◌, ℕ, ◌+◌, ◌<◌, ◌≤◌, ◌^◌, Bool, true, false, nat_eq, nat_le, nat_lt, not, List, [], ◌∷◌, ◌++◌, length, refl, ap, ◌∙◌, sym, subst, arith, Ok, Err}
+use Rattle.std.specs.Fmt.{decimal}
+use Rattle.std.specs.List.{All, list_all}
+use Rattle.std.proofs.lemmas.Fmt.{length-decimal-le}
+use Rattle.std.proofs.lemmas.List.{append-nil, length-append}
+use Rattle.std.proofs.lemmas.List.Elements.{All-weaker}
+use Rattle.std.proofs.lemmas.List.Sums.{AllPass-from_list_all}
+use Rattle.std.proofs.lemmas.Bool.{not-true, leb-true}
+use lib.Chars.{codes}
+use Rattle.mk_script.specs.declared.items.Item.{Item}
+use Rattle.mk_script.specs.declared.items.Item.TheVariants.{Script, Ptr}
+use Rattle.mk_script.specs.Words.{words_of}
+use Rattle.mk_script.specs.Spaced.{joined}
+use Rattle.mk_script.specs.Lines.{line_item, checked_item}
+use Rattle.mk_script.specs.Operands.{item_from}
+use Rattle.mk_script.proofs.LineWords.{is_word-decimal, AreWords, words_of-joined, without, without_newline}
+use Rattle.mk_script.proofs.PrintedForms.{read_number}
+use Rattle.mk_gen.specs.Generated.{turns_of}
+use Rattle.mk_gen.specs.GeneratedText.{turn_lines}
+use Rattle.mk_gen.proofs.ReadLines.{IsRead, AreRead}
+
+-- a line of words
+pub by_words : (before : List Item) (line : List ℕ) (words : List (List ℕ)) (item : Item) → line ≡ joined words → AreWords words
+    → line_item before words ≡ Ok item → checked_item before item ≡ Ok item → length line ≤ 40 → IsRead before line item
+by_words before line words item is apart says passes short =
+    record {
+      says = ap (λ text. line_item before (words_of text)) is ∙ ap (line_item before) (words_of-joined words apart) ∙ says;
+      passes = passes;
+      is_whole = subst (All (λ byte. nat_eq byte 10 ≡ false)) (sym is) (without_newline words apart);
+      is_short = short;
+    }
+
+-- a line that is all known
+pub plain : (before : List Item) (line : List ℕ) (item : Item) → line_item before (words_of line) ≡ Ok item → checked_item before item ≡ Ok item
+    → list_all (λ byte. not (nat_eq byte 10)) line ≡ true → nat_le (length line) 40 ≡ true → IsRead before line item
+plain before line item says passes whole short = record {
+  says = says;
+  passes = passes;
+  is_whole = All-weaker (λ byte. not (nat_eq byte 10) ≡ true) (λ byte. nat_eq byte 10 ≡ false) (λ byte. not-true (nat_eq byte 10)) line (AllPass-from_list_all (λ byte. not (nat_eq byte 10)) line whole);
+  is_short = leb-true _ _ short;
+}
+
+pub digits_short : (n : ℕ) → n < 2 ^ 64 → length (decimal n) ≤ 20
+digits_short n small = length-decimal-le 20 n (omega arith) (omega arith) small
+
+pub turns_are_read : (turns number place : ℕ) → turns < 2 ^ 64 → number < 2 ^ 64 → place < 2 ^ 64 → AreRead (Script [] ∷ []) (turn_lines turns number place) (turns_of turns number place)
+unfolding item_from
+turns_are_read turns number place t a i = (plain _ _ _ refl refl refl refl, (plain _ _ _ refl refl refl refl, (plain _ _ _ refl refl refl refl, (plain _ _ _ refl refl refl refl, (plain _ _ _ refl refl refl refl, (by_words _ _ (codes "repeat" ∷ decimal turns ∷ []) _ (ap (λ digits. codes "repeat " ++ digits) (sym (append-nil (decimal turns)))) (refl, (is_word-decimal turns t, tt)) (read_number turns t _ refl) refl (omega (arith, digits_short turns t)), (plain _ _ _ refl refl refl refl, (by_words _ _ (codes "const" ∷ codes "n" ∷ decimal number ∷ []) _ (ap (λ digits. codes "const n " ++ digits) (sym (append-nil (decimal number)))) (refl, (refl, (is_word-decimal number a, tt))) (read_number number a _ refl) refl (omega (arith, digits_short number a)), (plain _ _ _ refl refl refl refl, (plain _ _ _ refl refl refl refl, (plain _ _ _ refl refl refl refl, (plain _ _ _ refl refl refl refl, (plain _ _ _ refl refl refl refl, (plain _ _ _ refl refl refl refl, (by_words _ _ (codes "setn" ∷ codes "b" ∷ decimal place ∷ codes "n" ∷ []) _ refl (refl, (refl, (is_word-decimal place i, (refl, tt)))) (read_number place i _ refl) refl (omega (arith, digits_short place i, length-append (decimal place) (codes " n"))), (plain _ _ _ refl refl refl refl, (plain _ _ _ refl refl refl refl, (plain _ _ _ refl refl refl refl, (plain _ _ _ refl refl refl refl, (plain _ _ _ refl refl refl refl, tt))))))))))))))))))))
