@@ -1,10 +1,10 @@
 -- A text is read as these items, where each line is, behind those before it.
-use Rattle.std.proofs.Common.{◌≡◌, ℕ, ◌+◌, ◌*◌, ◌<◌, ◌≤◌, Bool, true, false, ◌&&◌, not, nat_eq, nat_le, List, [], ◌∷◌, ◌++◌, length, refl, ap, ◌∙◌, sym, subst, arith, append_assoc, length-append, Ok, Err}
+use Rattle.std.proofs.Common.{◌≡◌, ℕ, ◌+◌, ◌*◌, ◌<◌, ◌≤◌, Bool, true, false, ◌&&◌, not, nat_eq, nat_lt, nat_le, List, [], ◌∷◌, ◌++◌, length, refl, ap, ◌∙◌, sym, subst, arith, append_assoc, length-append, Ok, Err}
 use Rattle.std.specs.List.{All, list_all, flat_map, slice_split}
 use Rattle.std.proofs.lemmas.List.{append-nil}
 use Rattle.std.proofs.lemmas.List.Splits.{slice_split_at}
 use Rattle.std.proofs.lemmas.List.Sums.{AllPass-from_list_all}
-use Rattle.std.proofs.lemmas.Bool.{le-leb, cond-true}
+use Rattle.std.proofs.lemmas.Bool.{false≢true, leb-true, le-leb, cond-true}
 use Rattle.mk_script.specs.declared.items.Item.{Item}
 use Rattle.mk_script.specs.Words.{lines_of, words_of, without_empty_last}
 use Rattle.mk_script.specs.Lines.{line_item, checked_item, line_of}
@@ -73,9 +73,10 @@ items_are (line ∷ lines) before (item ∷ items) are end =
     ∙ (items_are lines (before ++ item ∷ []) items are.1 (subst (λ b. at_end b ≡ Ok b) (sym same) end) ∙ ap Ok same)
 
 -- a text of 1 to 1,000 lines that are read
-pub program_of-lines : (line : List ℕ) (lines : List (List ℕ)) (items : List Item) → AreRead [] (line ∷ lines) items → at_end items ≡ Ok items → length (line ∷ lines) ≤ 1000
-    → program_of (text_of_lines (line ∷ lines)) ≡ Ok items
-program_of-lines line lines items are end few =
-    let small : length (text_of_lines (line ∷ lines)) ≤ 1048576 = omega (arith, length-text (line ∷ lines) [] items are, few) in
+pub program_of-lines : (lines : List (List ℕ)) (items : List Item) → AreRead [] lines items → at_end items ≡ Ok items → nat_lt 0 (length lines) ≡ true → nat_le (length lines) 1000 ≡ true
+    → program_of (text_of_lines lines) ≡ Ok items
+program_of-lines [] items are end some few = absurd (false≢true some)
+program_of-lines (line ∷ lines) items are end some few =
+    let small : length (text_of_lines (line ∷ lines)) ≤ 1048576 = omega (arith, length-text (line ∷ lines) [] items are, leb-true _ _ few) in
     cond-true _ _ _ (le-leb _ _ small)
     ∙ (ap items_of_lines (lines_of-text (line ∷ lines) [] items are) ∙ items_are (line ∷ lines) [] items are end)

@@ -70,7 +70,7 @@ ready_behind before names name turns number place ready = record {
   closed = fold-append open_behind [] before (Script name ∷ turns_of turns number place);
 }
 
-draw-lt : (x m : ℕ) → 0 < m → draw x m < m
+pub draw-lt : (x m : ℕ) → 0 < m → draw x m < m
 draw-lt x m some = mod-lt (x / 2 ^ 33) some
 
 pub scripts_are_read : (turns numbers x : ℕ) → turns < 2 ^ 64 → 0 < numbers → numbers ≤ 100
