@@ -5,3 +5,4 @@ pub mod ReadScripts
 pub mod ReadText
 pub mod ReadTurns
 pub mod TypedLines
+pub mod TypedTurns
