@@ -6,3 +6,4 @@ pub mod ReadText
 pub mod ReadTurns
 pub mod TypedLines
 pub mod TypedTurns
+pub mod TypedProgram

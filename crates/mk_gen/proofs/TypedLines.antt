@@ -26,7 +26,7 @@ script_inside : (script : List Item) (item : Item) → is_inside item ≡ true �
 script_inside script (Script name) inside = absurd (false≢true inside)
 script_inside script item inside = refl
 
-go_on : (line : ℕ) (fault : Option TypeKind) (other : Option TypingFault) → fault ≡ None → other ≡ None → at_line line fault other ≡ None
+pub go_on : (line : ℕ) (fault : Option TypeKind) (other : Option TypingFault) → fault ≡ None → other ≡ None → at_line line fault other ≡ None
 go_on line fault other none none' = rw (none, none') refl
 
 -- Lines that are well typed have no fault before those behind them.

@@ -1,0 +1,66 @@
+-- The generated program is well typed.
+use Rattle.std.proofs.Common.{◌≡◌, ℕ, zero, suc, ◌+◌, ◌*◌, ◌/◌, ◌<◌, ◌≤◌, List, [], ◌∷◌, ◌++◌, refl, ap, ◌∙◌, sym, arith, None}
+use Rattle.std.specs.Prelude.{replicate}
+use Rattle.std.proofs.lemmas.Bool.{le-leb}
+use Rattle.std.proofs.lemmas.List.{append-nil}
+use Rattle.mk_script.specs.declared.items.Item.{Item}
+use Rattle.mk_script.specs.declared.items.Item.TheVariants.{Script, Heap, TypeLine, Global}
+use Rattle.mk_script.specs.declared.items.TypeWord.TheVariants.{Number}
+use Rattle.mk_script.specs.Scopes.{this_script}
+use Rattle.mk_check.specs.Blocks.{before_next_script, blocks_from}
+use Rattle.mk_check.specs.Lengths.{length_of}
+use Rattle.mk_check.specs.Typing.{Around, is_short, pointers_have_types, pointers_are_inside, typing_fault, fault_from, IsWellTyped}
+use Rattle.mk_check.proofs.LookupLemmas.{this_script-push}
+use Rattle.mk_gen.specs.Draws.{next, draw}
+use Rattle.mk_gen.specs.Generated.{script_names, declarations, turns_of, scripts, numbers_of, generated}
+use Rattle.mk_gen.proofs.ReadScripts.{draw-lt}
+use Rattle.mk_gen.proofs.ReadText.{numbers_some}
+use Rattle.mk_gen.proofs.TypedLines.{go_on, typed_then}
+use Rattle.mk_gen.proofs.TypedTurns.{turns_are_typed}
+
+-- A turn is 13 instructions, so 62,500 turns are 875,001.
+turns_are_short : (line turns number place : ℕ) → turns ≤ 62500 → length_of (blocks_from line (turns_of turns number place)) ≤ 875001
+turns_are_short line turns number place few = omega (arith, few)
+
+none_before_scripts : (turns numbers x : ℕ) (names : List (List ℕ)) → before_next_script (scripts turns numbers x names) ≡ []
+none_before_scripts turns numbers x [] = refl
+none_before_scripts turns numbers x (name ∷ names) = refl
+
+is_short-none : (count : ℕ) → count ≤ 1000000 → is_short count ≡ None
+is_short-none count small = rw (le-leb count 1000000 small) refl
+
+script_is_typed : (a : Around) (line turns number place : ℕ) (more : List Item) (name : List ℕ) → turns ≤ 62500 → before_next_script more ≡ []
+    → typing_fault a line (turns_of turns number place ++ more) (Script name) ≡ None
+script_is_typed a line turns number place more name few none =
+    rw none (is_short-none (length_of (blocks_from (line + 1) (turns_of turns number place))) (omega (arith, turns_are_short (line + 1) turns number place few)))
+
+scripts_are_typed : (turns numbers : ℕ) (rest : List Item) → turns ≤ 62500 → 0 < numbers
+    → (names : List (List ℕ)) (x line : ℕ) (before : List Item) → fault_from (declarations numbers ++ rest) line before (scripts turns numbers x names) ≡ None
+scripts_are_typed turns numbers rest few some [] x line before = refl
+scripts_are_typed turns numbers rest few some (name ∷ names) x line before =
+    let number = draw (next x) 1000 in
+    let place = draw (next (next x)) numbers in
+    let more = scripts turns numbers (next (next x)) names in
+    go_on line _ _
+    (script_is_typed (record { program = declarations numbers ++ rest; script = this_script before }) line turns number place more name few (none_before_scripts turns numbers (next (next x)) names))
+    (typed_then (declarations numbers ++ rest) [] (before ++ Script name ∷ []) (turns_of turns number place) more (line + 1)
+      (this_script-push before (Script name)) (turns_are_typed numbers turns number place rest (draw-lt (next (next x)) numbers some))
+      (λ later. scripts_are_typed turns numbers rest few some names (next (next x)) later ((before ++ Script name ∷ []) ++ turns_of turns number place)))
+
+numbers_have_types : (a : Around) (n : ℕ) → pointers_have_types a (replicate n Number) ≡ None
+numbers_have_types a zero = refl
+numbers_have_types a (suc n) = numbers_have_types a n
+
+numbers_are_inside : (a : Around) (n : ℕ) → pointers_are_inside a (replicate n Number) ≡ None
+numbers_are_inside a zero = refl
+numbers_are_inside a (suc n) = numbers_are_inside a n
+
+declarations_are_typed : (numbers : ℕ) (rest : List Item) → fault_from (declarations numbers ++ rest) 5 (declarations numbers) rest ≡ None
+    → IsWellTyped (declarations numbers ++ rest)
+declarations_are_typed numbers rest none = rw (numbers_have_types _ numbers, numbers_are_inside _ numbers) none
+
+pub generated_is_well_typed : (start count : ℕ) → count ≤ 3000000 → IsWellTyped (generated start count)
+generated_is_well_typed start count most =
+    let rest = scripts (count / 48) (numbers_of start) (next start) script_names in
+    declarations_are_typed (numbers_of start) rest
+    (scripts_are_typed (count / 48) (numbers_of start) rest (omega (arith, most)) (omega (arith, numbers_some start)) script_names (next start) 5 (declarations (numbers_of start)))
