@@ -7,3 +7,4 @@ pub mod ReadTurns
 pub mod TypedLines
 pub mod TypedTurns
 pub mod TypedProgram
+pub mod Pieces

@@ -41,8 +41,7 @@ split_lines : (lines : List (List ℕ)) (before items : List Item) → AreRead b
 split_lines [] before items are = refl
 split_lines (line ∷ lines) before [] are = absurd are
 split_lines (line ∷ lines) before (item ∷ items) are =
-    ap (λ bytes. slice_split (λ byte. nat_eq byte 10) bytes) (append_assoc line (10 ∷ []) (text_of_lines lines))
-    ∙ slice_split_at (λ byte. nat_eq byte 10) line 10 (text_of_lines lines) are.0.is_whole refl
+    slice_split_at (λ byte. nat_eq byte 10) line 10 (text_of_lines lines) are.0.is_whole refl
     ∙ ap (λ rest. line ∷ rest) (split_lines lines (before ++ item ∷ []) items are.1)
 
 without_last : (lines : List (List ℕ)) → without_empty_last (lines ++ [] ∷ []) ≡ lines
@@ -57,7 +56,7 @@ length-text : (lines : List (List ℕ)) (before items : List Item) → AreRead b
 length-text [] before items are = omega arith
 length-text (line ∷ lines) before [] are = absurd are
 length-text (line ∷ lines) before (item ∷ items) are =
-    omega (arith, length-append (line ++ 10 ∷ []) (text_of_lines lines), length-append line (10 ∷ []), are.0.is_short, length-text lines (before ++ item ∷ []) items are.1)
+    omega (arith, length-append line (10 ∷ text_of_lines lines), are.0.is_short, length-text lines (before ++ item ∷ []) items are.1)
 
 is_line : (before : List Item) (line : List ℕ) (item : Item) → IsRead before line item → line_of before (words_of line) ≡ Ok item
 is_line before line item is = then_again (line_item before (words_of line)) (checked_item before) item (Ok item) is.says is.passes

@@ -1,6 +1,5 @@
 -- The texts of the generator's programs.
 use Rattle.std.specs.Prelude.{ℕ, ◌+◌, ◌/◌, List, [], ◌∷◌, ◌++◌}
-use Rattle.std.specs.List.{flat_map}
 use Rattle.std.specs.Fmt.{decimal}
 use lib.Chars.{codes}
 use Rattle.mk_gen.specs.Draws.{next, draw}
@@ -51,7 +50,8 @@ generated_lines start count =
 
 -- the lines, each with its newline
 abbrev pub text_of_lines : List (List ℕ) → List ℕ
-text_of_lines lines = flat_map (λ line. line ++ codes "\n") lines
+text_of_lines [] = []
+text_of_lines (line ∷ lines) = line ++ (codes "\n" ++ text_of_lines lines)
 
 abbrev pub generated_text : ℕ → ℕ → List ℕ
 generated_text start count = text_of_lines (generated_lines start count)

@@ -1,12 +1,8 @@
-//! The programs of the generator.
+//! The programs of the generator: four scripts that link, store, overwrite and free, with numbers that are drawn.
 #![tactic(auto)]
 
-ghost use Rattle.std.specs.Prelude.{◌≡◌};
-ghost use Rattle.mk_gen.specs.Draws.{next};
+mod draws;
+mod generating;
+mod text;
 
-/// The state of the next draw.
-pub fn next(x: u64) -> u64
-    ensures { result ≡ next x }
-{
-    x.wrapping_mul(6_364_136_223_846_793_005).wrapping_add(1_442_695_040_888_963_407)
-}
+pub use generating::generate;

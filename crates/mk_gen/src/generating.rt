@@ -1,0 +1,31 @@
+//! The programs of the generator.
+ghost use Rattle.std.specs.Prelude.{◌≡◌, ◌≤◌, IfOk, Ok};
+ghost use Rattle.mk_script.specs.Grammar.{program_of};
+ghost use Rattle.mk_gen.specs.Generated.{generated};
+ghost use Rattle.mk_gen.specs.GeneratedText.{generated_text as text_of};
+
+use crate::text::generated_text;
+use mk_check::{Checked, TypeStop, check};
+use mk_never::NoMemory;
+use mk_script::{TextStop, parse};
+use std::alloc::Global;
+
+/// The program that the draws of START make, with as many turns as COUNT has 48s. It is refused only
+/// where memory runs out.
+pub fn generate(alloc: Global, start: u64, count: u64) -> Result<Checked, NoMemory>
+    requires { count ≤ 3000000 }
+    ensures program { IfOk result (λ checked. checked ≡ generated start count) }
+    ensures of_text { IfOk result (λ checked. program_of (text_of start count) ≡ Ok checked) }
+{
+    let text = generated_text(alloc, start, count)?;
+    let program = match parse(alloc, text.as_bytes()) {
+        Ok(program) => program,
+        Err(TextStop::NoMemory) => return Err(NoMemory),
+        Err(_) => unreachable!(),
+    };
+    match check(alloc, program) {
+        Ok(checked) => Ok(checked),
+        Err(TypeStop::NoMemory) => Err(NoMemory),
+        Err(_) => unreachable!(),
+    }
+}
