@@ -8,3 +8,4 @@ pub mod TypedLines
 pub mod TypedTurns
 pub mod TypedProgram
 pub mod Pieces
+pub mod Accepted

@@ -20,12 +20,16 @@ pub fn generate(alloc: Global, start: u64, count: u64) -> Result<Checked, NoMemo
     let text = generated_text(alloc, start, count)?;
     let program = match parse(alloc, text.as_bytes()) {
         Ok(program) => program,
-        Err(TextStop::NoMemory) => return Err(NoMemory),
-        Err(_) => unreachable!(),
+        Err(stop) => match stop {
+            TextStop::NoMemory => return Err(NoMemory),
+            _ => unreachable!(),
+        },
     };
     match check(alloc, program) {
         Ok(checked) => Ok(checked),
-        Err(TypeStop::NoMemory) => Err(NoMemory),
-        Err(_) => unreachable!(),
+        Err(stop) => match stop {
+            TypeStop::NoMemory => Err(NoMemory),
+            TypeStop::IllTyped { .. } => unreachable!(),
+        },
     }
 }
