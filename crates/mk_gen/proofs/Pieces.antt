@@ -5,15 +5,15 @@ use Rattle.std.specs.Fmt.{decimal}
 use lib.Chars.{codes}
 use Rattle.mk_script.proofs.Spacing.{drop_next}
 use Rattle.mk_gen.specs.Draws.{next, draw}
-use Rattle.mk_gen.specs.Generated.{script_names, numbers_of}
-use Rattle.mk_gen.specs.GeneratedText.{declaration_lines, turn_lines, script_lines, text_of_lines, generated_text}
+use Rattle.mk_gen.specs.Generated.{all_names, numbers_of}
+use Rattle.mk_gen.specs.GeneratedText.{declaration_lines, body_lines, script_lines, text_of_lines, generated_text}
 
 -- what is written for a script
 pub script_pieces : (name : List ℕ) (turns number place : ℕ)
     → codes "script " ++ (name ++ (codes "\nptr p Node\nptr q Node\nptr z Node\nptr b Buf\nnum n\nrepeat " ++ (decimal turns
       ++ (codes "\nnew p Node\nconst n " ++ (decimal number ++ (codes "\nsetn p 0 n\nstoreg p g\nloadg q g\ngetn n q 0\nsetp p 1 q\nnew b Buf\nsetn b " ++ (decimal place
       ++ codes " n\nfree b\nclear b\nsetp p 1 z\nfree p\nend\n")))))))
-      ≡ text_of_lines ((codes "script " ++ name) ∷ turn_lines turns number place)
+      ≡ text_of_lines ((codes "script " ++ name) ∷ body_lines turns number place)
 script_pieces name turns number place = rw (append_assoc (decimal place) (codes " n") (codes "\nfree b\nclear b\nsetp p 1 z\nfree p\nend\n")) refl
 
 pub text_of_lines-append : (lines more : List (List ℕ)) → text_of_lines (lines ++ more) ≡ text_of_lines lines ++ text_of_lines more
@@ -25,12 +25,12 @@ text_of_lines-append (line ∷ lines) more =
 pub one_script_more : (turns numbers x number y place z i : ℕ) (names : List (List ℕ)) (name before after whole : List ℕ)
     → number ≡ draw (next x) 1000 → y ≡ next x → place ≡ draw (next y) numbers → z ≡ next y → i < length names
     → before ++ text_of_lines (script_lines turns numbers x (drop i names)) ≡ whole
-    → after ≡ before ++ text_of_lines ((codes "script " ++ name) ∷ turn_lines turns number place)
+    → after ≡ before ++ text_of_lines ((codes "script " ++ name) ∷ body_lines turns number place)
     → name ≡ get_or names i name
     → after ++ text_of_lines (script_lines turns numbers z (drop (i + 1) names)) ≡ whole
 one_script_more turns numbers x number y place z i names name before after whole drawn is drawn' is' inside was more named =
     let rest = script_lines turns numbers z (drop (i + 1) names) in
-    let script = (codes "script " ++ name) ∷ turn_lines turns number place in
+    let script = (codes "script " ++ name) ∷ body_lines turns number place in
     let left : script ++ rest ≡ script_lines turns numbers x (drop i names) =
         rw (drop_next names i name inside named, drawn, drawn', is', is) refl in
     ap (λ text. text ++ text_of_lines rest) more
@@ -39,9 +39,9 @@ one_script_more turns numbers x number y place z i names name before after whole
 
 -- The lines before the first script are written, and all scripts are left.
 pub all_scripts_left : (start count numbers x : ℕ) (text : List ℕ) → numbers ≡ numbers_of start → x ≡ next start → text ≡ text_of_lines (declaration_lines numbers)
-    → text ++ text_of_lines (script_lines (count / 48) numbers x script_names) ≡ generated_text start count
+    → text ++ text_of_lines (script_lines (count / 48) numbers x all_names) ≡ generated_text start count
 all_scripts_left start count numbers x text are is written =
-    rw (written, is, are) (sym (text_of_lines-append (declaration_lines (numbers_of start)) (script_lines (count / 48) (numbers_of start) (next start) script_names)))
+    rw (written, is, are) (sym (text_of_lines-append (declaration_lines (numbers_of start)) (script_lines (count / 48) (numbers_of start) (next start) all_names)))
 
 -- a name that is read behind its reference
 pub name_read : (names : List (Bor (List ℕ))) (i : ℕ) (other : Bor (List ℕ)) → i < length names → (get_or names i other).now ≡ get_or (map (λ name. name.now) names) i (get_or names i other).now

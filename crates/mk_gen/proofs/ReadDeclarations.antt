@@ -11,7 +11,7 @@ use Rattle.mk_script.specs.Operands.{field_of, item_from}
 use Rattle.mk_script.specs.Lines.{line_item, checked_item}
 use Rattle.mk_script.proofs.PrintedNumbers.{number_of-decimal}
 use Rattle.mk_script.proofs.LineWords.{is_solid-decimal, is_word-append}
-use Rattle.mk_gen.specs.Generated.{node, buf, start_of, declarations}
+use Rattle.mk_gen.specs.Generated.{buf, declarations}
 use Rattle.mk_gen.specs.GeneratedText.{declaration_lines}
 use Rattle.mk_gen.proofs.ReadLines.{AreRead}
 use Rattle.mk_gen.proofs.ReadTurns.{by_words, plain, digits_short}

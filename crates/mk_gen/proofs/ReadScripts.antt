@@ -16,8 +16,8 @@ use Rattle.mk_script.specs.Lines.{line_item, checked_item, is_among}
 use Rattle.mk_script.proofs.Said.{is_word-name}
 use Rattle.mk_script.proofs.PrintedForms.{read_name}
 use Rattle.mk_gen.specs.Draws.{next, draw}
-use Rattle.mk_gen.specs.Generated.{turns_of, scripts}
-use Rattle.mk_gen.specs.GeneratedText.{turn_lines, script_lines}
+use Rattle.mk_gen.specs.Generated.{script_body, scripts}
+use Rattle.mk_gen.specs.GeneratedText.{body_lines, script_lines}
 use Rattle.mk_gen.proofs.ReadLines.{IsRead, AreRead, AreRead-append}
 use Rattle.mk_gen.proofs.InScript.{is_inside, alike_at_first, AreRead-alike}
 use Rattle.mk_gen.proofs.ReadTurns.{by_words, turns_are_read}
@@ -63,11 +63,11 @@ has_lines-append [] behind some = absurd (false≢true some)
 has_lines-append (item ∷ items) behind some = refl
 
 pub ready_behind : (before : List Item) (names : List (List ℕ)) (name : List ℕ) (turns number place : ℕ) → AreReady before names
-    → AreReady (before ++ Script name ∷ turns_of turns number place) (names ++ name ∷ [])
+    → AreReady (before ++ Script name ∷ script_body turns number place) (names ++ name ∷ [])
 ready_behind before names name turns number place ready = record {
-  some = has_lines-append before (Script name ∷ turns_of turns number place) ready.some;
-  names_are = script_names-append before (Script name ∷ turns_of turns number place) ∙ ap (λ ns. ns ++ name ∷ []) ready.names_are;
-  closed = fold-append open_behind [] before (Script name ∷ turns_of turns number place);
+  some = has_lines-append before (Script name ∷ script_body turns number place) ready.some;
+  names_are = script_names-append before (Script name ∷ script_body turns number place) ∙ ap (λ ns. ns ++ name ∷ []) ready.names_are;
+  closed = fold-append open_behind [] before (Script name ∷ script_body turns number place);
 }
 
 pub draw-lt : (x m : ℕ) → 0 < m → draw x m < m
@@ -82,10 +82,10 @@ scripts_are_read turns numbers x t some few (name ∷ names) before_names before
     let place = draw (next (next x)) numbers in
     let number_small : number < 2 ^ 64 = omega (arith, draw-lt (next x) 1000 (omega arith)) in
     let place_small : place < 2 ^ 64 = omega (arith, draw-lt (next (next x)) numbers some, few) in
-    AreRead-append ((codes "script " ++ name) ∷ turn_lines turns number place) (script_lines turns numbers (next (next x)) names)
-      before (Script name ∷ turns_of turns number place) (scripts turns numbers (next (next x)) names)
+    AreRead-append ((codes "script " ++ name) ∷ body_lines turns number place) (script_lines turns numbers (next (next x)) names)
+      before (Script name ∷ script_body turns number place) (scripts turns numbers (next (next x)) names)
       (script_is_read before before_names name ready may.0,
-        AreRead-alike (turn_lines turns number place) (turns_of turns number place) (Script [] ∷ []) (before ++ Script name ∷ [])
+        AreRead-alike (body_lines turns number place) (script_body turns number place) (Script [] ∷ []) (before ++ Script name ∷ [])
           (alike_at_first before name) refl (turns_are_read turns number place t number_small place_small))
-      (scripts_are_read turns numbers (next (next x)) t some few names (before_names ++ name ∷ []) (before ++ Script name ∷ turns_of turns number place)
+      (scripts_are_read turns numbers (next (next x)) t some few names (before_names ++ name ∷ []) (before ++ Script name ∷ script_body turns number place)
         (ready_behind before before_names name turns number place ready) may.1)

@@ -2,7 +2,7 @@
 use Rattle.std.proofs.Common.{◌≡◌, ℕ, ◌+◌, ◌/◌, ◌<◌, ◌≤◌, ◌^◌, List, [], ◌∷◌, ◌++◌, refl, arith, Ok}
 use Rattle.mk_script.specs.Grammar.{at_end, program_of}
 use Rattle.mk_gen.specs.Draws.{next, draw}
-use Rattle.mk_gen.specs.Generated.{script_names, declarations, scripts, numbers_of, generated}
+use Rattle.mk_gen.specs.Generated.{all_names, declarations, scripts, numbers_of, generated}
 use Rattle.mk_gen.specs.GeneratedText.{declaration_lines, script_lines, generated_lines, generated_text}
 use Rattle.mk_gen.proofs.ReadLines.{AreRead, AreRead-append, program_of-lines}
 use Rattle.mk_gen.proofs.ReadDeclarations.{declarations_are_read}
@@ -18,13 +18,13 @@ declarations_are_ready : (numbers : ℕ) → AreReady (declarations numbers) []
 declarations_are_ready numbers = record { some = refl; names_are = refl; closed = refl }
 
 lines_are_read : (turns numbers x : ℕ) → turns < 2 ^ 64 → 1 ≤ numbers → numbers ≤ 100
-    → AreRead [] (declaration_lines numbers ++ script_lines turns numbers x script_names) (declarations numbers ++ scripts turns numbers x script_names)
+    → AreRead [] (declaration_lines numbers ++ script_lines turns numbers x all_names) (declarations numbers ++ scripts turns numbers x all_names)
 lines_are_read turns numbers x small some few =
-    AreRead-append (declaration_lines numbers) (script_lines turns numbers x script_names) [] (declarations numbers) (scripts turns numbers x script_names)
+    AreRead-append (declaration_lines numbers) (script_lines turns numbers x all_names) [] (declarations numbers) (scripts turns numbers x all_names)
     (declarations_are_read numbers some few)
-    (scripts_are_read turns numbers x small (omega (arith, some)) few script_names [] (declarations numbers) (declarations_are_ready numbers) (refl, (refl, (refl, (refl, tt)))))
+    (scripts_are_read turns numbers x small (omega (arith, some)) few all_names [] (declarations numbers) (declarations_are_ready numbers) (refl, (refl, (refl, (refl, tt)))))
 
-ends : (turns numbers x : ℕ) → at_end (declarations numbers ++ scripts turns numbers x script_names) ≡ Ok (declarations numbers ++ scripts turns numbers x script_names)
+ends : (turns numbers x : ℕ) → at_end (declarations numbers ++ scripts turns numbers x all_names) ≡ Ok (declarations numbers ++ scripts turns numbers x all_names)
 ends turns numbers x = refl
 
 pub program_of-generated_text : (start count : ℕ) → count ≤ 3000000 → program_of (generated_text start count) ≡ Ok (generated start count)

@@ -16,8 +16,8 @@ use Rattle.mk_script.specs.Lines.{line_item, checked_item}
 use Rattle.mk_script.specs.Operands.{item_from}
 use Rattle.mk_script.proofs.LineWords.{is_word-decimal, AreWords, words_of-joined, without, without_newline}
 use Rattle.mk_script.proofs.PrintedForms.{read_number}
-use Rattle.mk_gen.specs.Generated.{turns_of}
-use Rattle.mk_gen.specs.GeneratedText.{turn_lines}
+use Rattle.mk_gen.specs.Generated.{script_body}
+use Rattle.mk_gen.specs.GeneratedText.{body_lines}
 use Rattle.mk_gen.proofs.ReadLines.{IsRead, AreRead}
 
 -- a line of words
@@ -44,6 +44,6 @@ plain before line item says passes whole short = record {
 pub digits_short : (n : ℕ) → n < 2 ^ 64 → length (decimal n) ≤ 20
 digits_short n small = length-decimal-le 20 n (omega arith) (omega arith) small
 
-pub turns_are_read : (turns number place : ℕ) → turns < 2 ^ 64 → number < 2 ^ 64 → place < 2 ^ 64 → AreRead (Script [] ∷ []) (turn_lines turns number place) (turns_of turns number place)
+pub turns_are_read : (turns number place : ℕ) → turns < 2 ^ 64 → number < 2 ^ 64 → place < 2 ^ 64 → AreRead (Script [] ∷ []) (body_lines turns number place) (script_body turns number place)
 unfolding item_from
 turns_are_read turns number place t a i = (plain _ _ _ refl refl refl refl, (plain _ _ _ refl refl refl refl, (plain _ _ _ refl refl refl refl, (plain _ _ _ refl refl refl refl, (plain _ _ _ refl refl refl refl, (by_words _ _ (codes "repeat" ∷ decimal turns ∷ []) _ (ap (λ digits. codes "repeat " ++ digits) (sym (append-nil (decimal turns)))) (refl, (is_word-decimal turns t, tt)) (read_number turns t _ refl) refl (omega (arith, digits_short turns t)), (plain _ _ _ refl refl refl refl, (by_words _ _ (codes "const" ∷ codes "n" ∷ decimal number ∷ []) _ (ap (λ digits. codes "const n " ++ digits) (sym (append-nil (decimal number)))) (refl, (refl, (is_word-decimal number a, tt))) (read_number number a _ refl) refl (omega (arith, digits_short number a)), (plain _ _ _ refl refl refl refl, (plain _ _ _ refl refl refl refl, (plain _ _ _ refl refl refl refl, (plain _ _ _ refl refl refl refl, (plain _ _ _ refl refl refl refl, (plain _ _ _ refl refl refl refl, (by_words _ _ (codes "setn" ∷ codes "b" ∷ decimal place ∷ codes "n" ∷ []) _ refl (refl, (refl, (is_word-decimal place i, (refl, tt)))) (read_number place i _ refl) refl (omega (arith, digits_short place i, length-append (decimal place) (codes " n"))), (plain _ _ _ refl refl refl refl, (plain _ _ _ refl refl refl refl, (plain _ _ _ refl refl refl refl, (plain _ _ _ refl refl refl refl, (plain _ _ _ refl refl refl refl, tt))))))))))))))))))))

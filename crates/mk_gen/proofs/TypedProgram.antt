@@ -12,14 +12,14 @@ use Rattle.mk_check.specs.Lengths.{length_of}
 use Rattle.mk_check.specs.Typing.{Around, is_short, pointers_have_types, pointers_are_inside, typing_fault, fault_from, IsWellTyped}
 use Rattle.mk_check.proofs.LookupLemmas.{this_script-push}
 use Rattle.mk_gen.specs.Draws.{next, draw}
-use Rattle.mk_gen.specs.Generated.{script_names, declarations, turns_of, scripts, numbers_of, generated}
+use Rattle.mk_gen.specs.Generated.{all_names, declarations, script_body, scripts, numbers_of, generated}
 use Rattle.mk_gen.proofs.ReadScripts.{draw-lt}
 use Rattle.mk_gen.proofs.ReadText.{numbers_some}
 use Rattle.mk_gen.proofs.TypedLines.{go_on, typed_then}
 use Rattle.mk_gen.proofs.TypedTurns.{turns_are_typed}
 
 -- A turn is 13 instructions, so 62,500 turns are 875,001.
-turns_are_short : (line turns number place : ℕ) → turns ≤ 62500 → length_of (blocks_from line (turns_of turns number place)) ≤ 875001
+turns_are_short : (line turns number place : ℕ) → turns ≤ 62500 → length_of (blocks_from line (script_body turns number place)) ≤ 875001
 turns_are_short line turns number place few = omega (arith, few)
 
 none_before_scripts : (turns numbers x : ℕ) (names : List (List ℕ)) → before_next_script (scripts turns numbers x names) ≡ []
@@ -30,9 +30,9 @@ is_short-none : (count : ℕ) → count ≤ 1000000 → is_short count ≡ None
 is_short-none count small = rw (le-leb count 1000000 small) refl
 
 script_is_typed : (a : Around) (line turns number place : ℕ) (more : List Item) (name : List ℕ) → turns ≤ 62500 → before_next_script more ≡ []
-    → typing_fault a line (turns_of turns number place ++ more) (Script name) ≡ None
+    → typing_fault a line (script_body turns number place ++ more) (Script name) ≡ None
 script_is_typed a line turns number place more name few none =
-    rw none (is_short-none (length_of (blocks_from (line + 1) (turns_of turns number place))) (omega (arith, turns_are_short (line + 1) turns number place few)))
+    rw none (is_short-none (length_of (blocks_from (line + 1) (script_body turns number place))) (omega (arith, turns_are_short (line + 1) turns number place few)))
 
 scripts_are_typed : (turns numbers : ℕ) (rest : List Item) → turns ≤ 62500 → 0 < numbers
     → (names : List (List ℕ)) (x line : ℕ) (before : List Item) → fault_from (declarations numbers ++ rest) line before (scripts turns numbers x names) ≡ None
@@ -43,9 +43,9 @@ scripts_are_typed turns numbers rest few some (name ∷ names) x line before =
     let more = scripts turns numbers (next (next x)) names in
     go_on line _ _
     (script_is_typed (record { program = declarations numbers ++ rest; script = this_script before }) line turns number place more name few (none_before_scripts turns numbers (next (next x)) names))
-    (typed_then (declarations numbers ++ rest) [] (before ++ Script name ∷ []) (turns_of turns number place) more (line + 1)
+    (typed_then (declarations numbers ++ rest) [] (before ++ Script name ∷ []) (script_body turns number place) more (line + 1)
       (this_script-push before (Script name)) (turns_are_typed numbers turns number place rest (draw-lt (next (next x)) numbers some))
-      (λ later. scripts_are_typed turns numbers rest few some names (next (next x)) later ((before ++ Script name ∷ []) ++ turns_of turns number place)))
+      (λ later. scripts_are_typed turns numbers rest few some names (next (next x)) later ((before ++ Script name ∷ []) ++ script_body turns number place)))
 
 numbers_have_types : (a : Around) (n : ℕ) → pointers_have_types a (replicate n Number) ≡ None
 numbers_have_types a zero = refl
@@ -61,6 +61,6 @@ declarations_are_typed numbers rest none = rw (numbers_have_types _ numbers, num
 
 pub generated_is_well_typed : (start count : ℕ) → count ≤ 3000000 → IsWellTyped (generated start count)
 generated_is_well_typed start count most =
-    let rest = scripts (count / 48) (numbers_of start) (next start) script_names in
+    let rest = scripts (count / 48) (numbers_of start) (next start) all_names in
     declarations_are_typed (numbers_of start) rest
-    (scripts_are_typed (count / 48) (numbers_of start) rest (omega (arith, most)) (omega (arith, numbers_some start)) script_names (next start) 5 (declarations (numbers_of start)))
+    (scripts_are_typed (count / 48) (numbers_of start) rest (omega (arith, most)) (omega (arith, numbers_some start)) all_names (next start) 5 (declarations (numbers_of start)))

@@ -1,9 +1,9 @@
--- The texts of the generator's programs.
-use Rattle.std.specs.Prelude.{ℕ, ◌+◌, ◌/◌, List, [], ◌∷◌, ◌++◌}
+-- The texts of the generator's programs, with `n*1` where a Buf has one number.
+use Rattle.std.specs.Prelude.{ℕ, List, [], ◌∷◌, ◌++◌}
 use Rattle.std.specs.Fmt.{decimal}
 use lib.Chars.{codes}
 use Rattle.mk_gen.specs.Draws.{next, draw}
-use Rattle.mk_gen.specs.Generated.{script_names, numbers_of}
+use Rattle.mk_gen.specs.Generated.{all_names, numbers_of, turns_of}
 
 abbrev pub declaration_lines : ℕ → List (List ℕ)
 declaration_lines numbers =
@@ -13,9 +13,9 @@ declaration_lines numbers =
     codes "global g Node" ∷
     []
 
--- the lines of a script behind its first
-abbrev pub turn_lines : ℕ → ℕ → ℕ → List (List ℕ)
-turn_lines turns number place =
+-- the lines of a script behind its name line
+abbrev pub body_lines : ℕ → ℕ → ℕ → List (List ℕ)
+body_lines turns number place =
     codes "ptr p Node" ∷
     codes "ptr q Node" ∷
     codes "ptr z Node" ∷
@@ -41,12 +41,12 @@ turn_lines turns number place =
 abbrev pub script_lines : ℕ → ℕ → ℕ → List (List ℕ) → List (List ℕ)
 script_lines turns numbers x [] = []
 script_lines turns numbers x (name ∷ names) =
-    ((codes "script " ++ name) ∷ turn_lines turns (draw (next x) 1000) (draw (next (next x)) numbers))
+    ((codes "script " ++ name) ∷ body_lines turns (draw (next x) 1000) (draw (next (next x)) numbers))
     ++ script_lines turns numbers (next (next x)) names
 
 abbrev pub generated_lines : ℕ → ℕ → List (List ℕ)
 generated_lines start count =
-    declaration_lines (numbers_of start) ++ script_lines (count / 48) (numbers_of start) (next start) script_names
+    declaration_lines (numbers_of start) ++ script_lines (turns_of count) (numbers_of start) (next start) all_names
 
 -- the lines, each with its newline
 abbrev pub text_of_lines : List (List ℕ) → List ℕ

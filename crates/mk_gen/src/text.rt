@@ -3,7 +3,7 @@ ghost use Rattle.std.specs.Prelude.{◌≡◌, ◌+◌, ◌/◌, ◌<◌, ◌≤
 ghost use Rattle.std.specs.String.{string_bytes};
 ghost use lib.Chars.{codes};
 ghost use Rattle.mk_gen.specs.Draws.{next, draw};
-ghost use Rattle.mk_gen.specs.GeneratedText.{declaration_lines, turn_lines, script_lines, text_of_lines, generated_text};
+ghost use Rattle.mk_gen.specs.GeneratedText.{declaration_lines, body_lines, script_lines, text_of_lines, generated_text};
 
 use crate::draws::Draws;
 use mk_never::NoMemory;
@@ -27,7 +27,7 @@ fn declarations(alloc: Global, numbers: u64) -> Result<String, NoMemory>
 
 /// Appends a script of so many turns, with a number for the node and a place in the buffer.
 fn push_script(text: &mut String, name: &str, turns: u64, number: u64, place: u64) -> Result<(), NoMemory>
-    ensures { OnOk result (string_bytes text.new ≡ string_bytes text.old ++ text_of_lines ((codes "script " ++ name.now) ∷ turn_lines turns number place)) }
+    ensures { OnOk result (string_bytes text.new ≡ string_bytes text.old ++ text_of_lines ((codes "script " ++ name.now) ∷ body_lines turns number place)) }
 {
     let written = write!(
         text,

@@ -2,7 +2,7 @@ use Rattle.std.proofs.Common.{◌≡◌, ◌+◌, ◌++◌, ◌/◌, List, [], �
 use lib.Chars.{codes}
 use Rattle.std.specs.String.{string_bytes}
 use Rattle.mk_gen.specs.Draws.{next, draw}
-use Rattle.mk_gen.specs.Generated.{script_names}
+use Rattle.mk_gen.specs.Generated.{all_names}
 use Rattle.mk_gen.proofs.Pieces.{all_scripts_left, name_read, one_script_more}
 use Rattle.mk_gen.proofs.text.generated_text.Goals as goal
 
@@ -16,7 +16,7 @@ loop-name-init c =
 pub loop-name-preserved : goal.loop-name-preserved
 loop-name-preserved c =
     one_script_more (c.args.count / 48) (1 + c.below-numbers.result) c.loop-name.draws.state c.below-number.result c.below-number.new.self.state c.below-place.result c.below-place.new.self.state
-    c.loop-name.name-index script_names _ (string_bytes c.loop-name.text) (string_bytes c.push_script.new.text) _
+    c.loop-name.name-index all_names _ (string_bytes c.loop-name.text) (string_bytes c.push_script.new.text) _
     c.below-number.ensures.drawn c.below-number.ensures.state c.below-place.ensures.drawn c.below-place.ensures.state c.loop-name-test.true
     c.loop-name.invariant c.in_ok-push_script.ensures 
     (name_read (record { ref_ptr = _; now = codes "s0" } ∷ record { ref_ptr = _; now = codes "s1" } ∷ record { ref_ptr = _; now = codes "s2" } ∷ record { ref_ptr = _; now = codes "s3" } ∷ []) c.loop-name.name-index _ c.loop-name-test.true)

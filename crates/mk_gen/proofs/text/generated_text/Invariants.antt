@@ -1,10 +1,10 @@
 -- The text so far, and the lines of the scripts that are left.
 use Rattle.std.proofs.Common.{◌≡◌, ◌++◌, ◌/◌, drop, map}
 use Rattle.std.specs.String.{string_bytes}
-use Rattle.mk_gen.specs.Generated.{script_names}
+use Rattle.mk_gen.specs.Generated.{all_names}
 use Rattle.mk_gen.specs.GeneratedText.{script_lines, text_of_lines, generated_text}
 use Rattle.mk_gen.proofs.text.generated_text.Given as goal
 
 abbrev pub invariant-loop-name : goal.invariant-loop-name
 invariant-loop-name l =
-    string_bytes l.text ++ text_of_lines (script_lines (l.count / 48) l.numbers l.draws.state (drop l.name-index script_names)) ≡ generated_text l.start l.count
+    string_bytes l.text ++ text_of_lines (script_lines (l.count / 48) l.numbers l.draws.state (drop l.name-index all_names)) ≡ generated_text l.start l.count
