@@ -9,3 +9,4 @@ pub mod TypedTurns
 pub mod TypedProgram
 pub mod Pieces
 pub mod Accepted
+pub mod Calls
