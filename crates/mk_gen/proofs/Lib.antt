@@ -10,3 +10,4 @@ pub mod TypedProgram
 pub mod Pieces
 pub mod Accepted
 pub mod Calls
+pub mod GeneratedLaws

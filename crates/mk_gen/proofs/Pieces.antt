@@ -40,6 +40,7 @@ one_script_more turns numbers x number y place z i names name before after whole
 -- The lines before the first script are written, and all scripts are left.
 pub all_scripts_left : (start count numbers x : ℕ) (text : List ℕ) → numbers ≡ numbers_of start → x ≡ next start → text ≡ text_of_lines (declaration_lines numbers)
     → text ++ text_of_lines (script_lines (count / 48) numbers x all_names) ≡ generated_text start count
+unfolding generated_text
 all_scripts_left start count numbers x text are is written =
     rw (written, is, are) (sym (text_of_lines-append (declaration_lines (numbers_of start)) (script_lines (count / 48) (numbers_of start) (next start) all_names)))
 

@@ -28,6 +28,7 @@ ends : (turns numbers x : ℕ) → at_end (declarations numbers ++ scripts turns
 ends turns numbers x = refl
 
 pub program_of-generated_text : (start count : ℕ) → count ≤ 3000000 → program_of (generated_text start count) ≡ Ok (generated start count)
+unfolding generated generated_text
 program_of-generated_text start count most =
     program_of-lines (generated_lines start count) (generated start count)
     (lines_are_read (count / 48) (numbers_of start) (next start) (omega (arith, most)) (numbers_some start) (numbers_few start))

@@ -60,6 +60,7 @@ declarations_are_typed : (numbers : ℕ) (rest : List Item) → fault_from (decl
 declarations_are_typed numbers rest none = rw (numbers_have_types _ numbers, numbers_are_inside _ numbers) none
 
 pub generated_is_well_typed : (start count : ℕ) → count ≤ 3000000 → IsWellTyped (generated start count)
+unfolding generated
 generated_is_well_typed start count most =
     let rest = scripts (count / 48) (numbers_of start) (next start) all_names in
     declarations_are_typed (numbers_of start) rest

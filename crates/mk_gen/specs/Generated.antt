@@ -87,5 +87,6 @@ numbers_of start = 1 + draw (next start) 100
 abbrev pub turns_of : ℕ → ℕ
 turns_of count = count / 48
 
-abbrev pub generated : ℕ → ℕ → List Item
+-- the program
+unfoldable pub generated : ℕ → ℕ → List Item
 generated start count = declarations (numbers_of start) ++ scripts (turns_of count) (numbers_of start) (next start) all_names

@@ -53,5 +53,6 @@ abbrev pub text_of_lines : List (List ℕ) → List ℕ
 text_of_lines [] = []
 text_of_lines (line ∷ lines) = line ++ (codes "\n" ++ text_of_lines lines)
 
-abbrev pub generated_text : ℕ → ℕ → List ℕ
+-- the text
+unfoldable pub generated_text : ℕ → ℕ → List ℕ
 generated_text start count = text_of_lines (generated_lines start count)

@@ -3,6 +3,7 @@
 
 mod draws;
 mod generating;
+pub mod laws;
 mod text;
 
 pub use generating::generate;
