@@ -1,5 +1,5 @@
 -- How many operations a script without `if` asks for, whatever it is answered.
-use Rattle.std.proofs.Common.{◌≡◌, ℕ, zero, suc, ◌+◌, ◌*◌, Bool, true, false, List, [], ◌∷◌, ◌++◌, length, Option, Some, None, refl, ap, ◌∙◌, sym, subst, arith, if◌then◌else◌}
+use Rattle.std.proofs.Common.{◌≡◌, ℕ, zero, suc, ◌+◌, ◌*◌, Bool, true, false, List, [], ◌∷◌, length, Option, Some, None, refl, ap, ◌∙◌, sym, subst, arith, if◌then◌else◌}
 use Rattle.std.specs.Prelude.{⊤, is_some}
 use Rattle.std.proofs.lemmas.Bool.{false≢true}
 use Rattle.std.proofs.lemmas.List.{length_push}
@@ -8,7 +8,7 @@ use Rattle.mk_core.specs.declared.events.Answer.{Answer}
 use Rattle.mk_script.specs.declared.items.Item.{Item}
 use Rattle.mk_script.specs.declared.items.Item.TheVariants.{Getn, Print, Else}
 use Rattle.mk_check.specs.Blocks.{Blocks, Done, Line, Rounds, Choice, followed_by, is_done, blocks_from, ScriptText}
-use Rattle.mk_check.specs.Feed.{Scope, Fed, op_of, run_line, then_run, run_rounds, run, with_answer, note, take_answer, take_answers, begun, started, feed_script, has_ended}
+use Rattle.mk_check.specs.Feed.{Scope, Fed, op_of, run_line, run_rounds, run, with_answer, note, take_answer, take_answers, begun, started, feed_script, has_ended}
 
 abbrev pub nowhere : Scope
 nowhere = record { types = []; globals = []; pointers = []; numbers = [] }
@@ -81,8 +81,8 @@ module _ (scope : Scope) where
   rounds_left (suc more) body go plain goes fed =
       let turn = goes fed in
       let all = left_then (calls_of body) fed (go fed) (run_rounds more body go) (Rounds more body Done) turn (plain, tt)
-        (λ f. let rest = rounds_left more body go plain goes f in record { ops = rest.ops; calls_are = omega (arith, rest.calls_are); plain = rest.plain })
-        (is_done (go fed).left) refl in
+      (λ f. let rest = rounds_left more body go plain goes f in record { ops = rest.ops; calls_are = omega (arith, rest.calls_are); plain = rest.plain })
+      (is_done (go fed).left) refl in
       record { ops = all.ops; calls_are = omega (arith, all.calls_are); plain = all.plain }
 
   line_keeps : (fed : Fed) (item : Item) → (run_line scope fed item).ops ≡ fed.ops
@@ -126,7 +126,7 @@ module _ (scope : Scope) where
       let answered = with_answer scope (note fed (op_of scope fed item) line a) item a in
       let behind = run_left rest h answered in
       let ops : length answered.ops ≡ length fed.ops + (if is_call item then 1 else 0) =
-          ap length (answer_keeps (note fed (op_of scope fed item) line a) item a) ∙ (noted fed (op_of scope fed item) line a ∙ rw (asks scope fed item) refl) in
+      ap length (answer_keeps (note fed (op_of scope fed item) line a) item a) ∙ (noted fed (op_of scope fed item) line a ∙ rw (asks scope fed item) refl) in
       (omega (arith, behind.ops, behind.calls_are, ops), behind.plain)
   answer_left fed b a is h = (ap (λ left. length fed.ops + calls_of left) (sym is), subst HasNoIf is h)
 

@@ -1,8 +1,7 @@
 -- What the generated programs are.
-use Rattle.std.proofs.Common.{◌≡◌, ℕ, zero, suc, ◌+◌, ◌*◌, ◌<◌, ◌≤◌, true, List, [], ◌∷◌, ◌++◌, length, map, refl, ap, ◌∙◌, sym, subst, arith, Ok}
+use Rattle.std.proofs.Common.{◌≡◌, ℕ, zero, suc, ◌+◌, ◌*◌, ◌≤◌, List, [], ◌∷◌, map, refl, ap, ◌∙◌, sym, subst, arith, Ok}
 use Rattle.std.specs.Prelude.{replicate}
 use Rattle.mk_never.specs.declared.types.Kind.TheVariants.{Num, To}
-use Rattle.mk_core.specs.declared.events.Answer.{Answer}
 use Rattle.mk_script.specs.declared.items.Item.{Item}
 use Rattle.mk_script.specs.declared.items.TypeWord.TheVariants.{Number}
 use Rattle.mk_script.specs.Grammar.{program_of}
@@ -57,8 +56,8 @@ body_makes_turns program k line turns number place starts is =
     record {
       instructions = ap length_of blocks ∙ body_instructions line turns number place;
       calls = λ answers ended.
-        ended_calls (script_scope program k) (script_of program k) answers (subst HasNoIf (sym blocks) (body_has_no_if line turns number place)) ended
-        ∙ (ap calls_of blocks ∙ body_calls line turns number place);
+          ended_calls (script_scope program k) (script_of program k) answers (subst HasNoIf (sym blocks) (body_has_no_if line turns number place)) ended
+          ∙ (ap calls_of blocks ∙ body_calls line turns number place);
     }
 
 pub generated_makes_turns : (start count k : ℕ) → IsScript (generated start count) k → MakesTurns (generated start count) k (turns_of count)

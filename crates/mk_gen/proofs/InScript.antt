@@ -12,7 +12,7 @@ use Rattle.mk_script.specs.declared.faults.Which.TheVariants as which
 use Rattle.mk_script.specs.Words.{words_of}
 use Rattle.mk_script.specs.Keywords.{keyword_of}
 use Rattle.mk_script.specs.Scopes.{pointer_names, number_names, is_script, this_script, open_behind, open_blocks}
-use Rattle.mk_script.specs.Lines.{has_script, is_among, register_names, at_most, is_placed, placed_item, other_line, line_item, is_twice, limit_fault, ends_rightly, checked_item}
+use Rattle.mk_script.specs.Lines.{has_script, is_among, register_names, at_most, is_placed, placed_item, other_line, line_item, is_twice, limit_fault, checked_item}
 use Rattle.mk_check.specs.Lookups.{lines_behind}
 use Rattle.mk_check.proofs.LookupLemmas.{this_script-push}
 use Rattle.mk_gen.proofs.ReadLines.{IsRead, AreRead}

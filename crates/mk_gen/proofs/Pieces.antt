@@ -11,9 +11,9 @@ use Rattle.mk_gen.specs.GeneratedText.{declaration_lines, body_lines, script_lin
 -- what is written for a script
 pub script_pieces : (name : List ℕ) (turns number place : ℕ)
     → codes "script " ++ (name ++ (codes "\nptr p Node\nptr q Node\nptr z Node\nptr b Buf\nnum n\nrepeat " ++ (decimal turns
-      ++ (codes "\nnew p Node\nconst n " ++ (decimal number ++ (codes "\nsetn p 0 n\nstoreg p g\nloadg q g\ngetn n q 0\nsetp p 1 q\nnew b Buf\nsetn b " ++ (decimal place
-      ++ codes " n\nfree b\nclear b\nsetp p 1 z\nfree p\nend\n")))))))
-      ≡ text_of_lines ((codes "script " ++ name) ∷ body_lines turns number place)
+    ++ (codes "\nnew p Node\nconst n " ++ (decimal number ++ (codes "\nsetn p 0 n\nstoreg p g\nloadg q g\ngetn n q 0\nsetp p 1 q\nnew b Buf\nsetn b " ++ (decimal place
+    ++ codes " n\nfree b\nclear b\nsetp p 1 z\nfree p\nend\n")))))))
+    ≡ text_of_lines ((codes "script " ++ name) ∷ body_lines turns number place)
 script_pieces name turns number place = rw (append_assoc (decimal place) (codes " n") (codes "\nfree b\nclear b\nsetp p 1 z\nfree p\nend\n")) refl
 
 pub text_of_lines-append : (lines more : List (List ℕ)) → text_of_lines (lines ++ more) ≡ text_of_lines lines ++ text_of_lines more
@@ -32,7 +32,7 @@ one_script_more turns numbers x number y place z i names name before after whole
     let rest = script_lines turns numbers z (drop (i + 1) names) in
     let script = (codes "script " ++ name) ∷ body_lines turns number place in
     let left : script ++ rest ≡ script_lines turns numbers x (drop i names) =
-        rw (drop_next names i name inside named, drawn, drawn', is', is) refl in
+    rw (drop_next names i name inside named, drawn, drawn', is', is) refl in
     ap (λ text. text ++ text_of_lines rest) more
     ∙ (append_assoc before (text_of_lines script) (text_of_lines rest)
     ∙ (ap (λ text. before ++ text) (sym (text_of_lines-append script rest) ∙ ap text_of_lines left) ∙ was))

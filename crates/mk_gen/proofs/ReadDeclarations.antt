@@ -1,17 +1,15 @@
 -- The lines before the first script are read.
-use Rattle.std.proofs.Common.{◌≡◌, ℕ, ◌<◌, ◌≤◌, ◌^◌, nat_le, List, [], ◌∷◌, ◌++◌, length, refl, ap, ◌∙◌, sym, arith, Some, Ok}
+use Rattle.std.proofs.Common.{◌≡◌, ℕ, ◌<◌, ◌≤◌, ◌^◌, [], ◌∷◌, ◌++◌, refl, ap, sym, arith, Some}
 use Rattle.std.specs.Prelude.{replicate}
 use Rattle.std.specs.Fmt.{decimal}
 use Rattle.std.proofs.lemmas.Bool.{le-leb, cond-true}
 use Rattle.std.proofs.lemmas.List.{append-nil, length-replicate}
 use lib.Chars.{codes}
 use Rattle.mk_script.specs.declared.items.TypeWord.TheVariants.{Number}
-use Rattle.mk_script.specs.declared.items.Item.TheVariants.{Heap, TypeLine}
 use Rattle.mk_script.specs.Operands.{field_of, item_from}
-use Rattle.mk_script.specs.Lines.{line_item, checked_item}
 use Rattle.mk_script.proofs.PrintedNumbers.{number_of-decimal}
 use Rattle.mk_script.proofs.LineWords.{is_solid-decimal, is_word-append}
-use Rattle.mk_gen.specs.Generated.{buf, declarations}
+use Rattle.mk_gen.specs.Generated.{declarations}
 use Rattle.mk_gen.specs.GeneratedText.{declaration_lines}
 use Rattle.mk_gen.proofs.ReadLines.{AreRead}
 use Rattle.mk_gen.proofs.ReadTurns.{by_words, plain, digits_short}
@@ -23,9 +21,16 @@ field_of-numbers numbers some small = rw (number_of-decimal numbers small) (cond
 pub declarations_are_read : (numbers : ℕ) → 1 ≤ numbers → numbers ≤ 100 → AreRead [] (declaration_lines numbers) (declarations numbers)
 unfolding item_from
 declarations_are_read numbers some few =
-    let small : numbers < 2 ^ 64 = omega (arith, few) in
-    (plain _ _ _ refl refl refl refl, (plain _ _ _ refl refl refl refl, (
-    by_words _ _ (codes "type" ∷ codes "Buf" ∷ (codes "n*" ++ decimal numbers) ∷ []) _
-      (ap (λ digits. codes "type Buf n*" ++ digits) (sym (append-nil (decimal numbers))))
-      (refl, (refl, (is_word-append (codes "n*") (decimal numbers) refl (is_solid-decimal numbers small), tt)))
-      (rw (field_of-numbers numbers some small, append-nil) refl) (rw (length-replicate numbers Number, le-leb numbers 4096 (omega (arith, few))) refl) (omega (arith, digits_short numbers small)), (plain _ _ _ refl refl refl refl, tt))))
+    let small : numbers < 2 ^ 64 = omega (arith, few) in (
+      plain _ _ _ refl refl refl refl,
+      (
+        plain _ _ _ refl refl refl refl,
+        (
+          by_words _ _ (codes "type" ∷ codes "Buf" ∷ (codes "n*" ++ decimal numbers) ∷ []) _
+              (ap (λ digits. codes "type Buf n*" ++ digits) (sym (append-nil (decimal numbers))))
+              (refl, (refl, (is_word-append (codes "n*") (decimal numbers) refl (is_solid-decimal numbers small), tt)))
+              (rw (field_of-numbers numbers some small, append-nil) refl) (rw (length-replicate numbers Number, le-leb numbers 4096 (omega (arith, few))) refl) (omega (arith, digits_short numbers small)),
+          (plain _ _ _ refl refl refl refl, tt),
+        ),
+      ),
+    )

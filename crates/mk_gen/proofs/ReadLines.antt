@@ -1,9 +1,8 @@
 -- A text is read as these items, where each line is, behind those before it.
-use Rattle.std.proofs.Common.{◌≡◌, ℕ, ◌+◌, ◌*◌, ◌<◌, ◌≤◌, Bool, true, false, ◌&&◌, not, nat_eq, nat_lt, nat_le, List, [], ◌∷◌, ◌++◌, length, refl, ap, ◌∙◌, sym, subst, arith, append_assoc, length-append, Ok, Err}
-use Rattle.std.specs.List.{All, list_all, flat_map, slice_split}
+use Rattle.std.proofs.Common.{◌≡◌, ℕ, ◌+◌, ◌*◌, ◌≤◌, true, false, nat_eq, nat_lt, nat_le, List, [], ◌∷◌, ◌++◌, length, refl, ap, ◌∙◌, sym, subst, arith, append_assoc, length-append, Ok}
+use Rattle.std.specs.List.{All, slice_split}
 use Rattle.std.proofs.lemmas.List.{append-nil}
 use Rattle.std.proofs.lemmas.List.Splits.{slice_split_at}
-use Rattle.std.proofs.lemmas.List.Sums.{AllPass-from_list_all}
 use Rattle.std.proofs.lemmas.Bool.{false≢true, leb-true, le-leb, cond-true}
 use Rattle.mk_script.specs.declared.items.Item.{Item}
 use Rattle.mk_script.specs.Words.{lines_of, words_of, without_empty_last}
@@ -34,7 +33,7 @@ AreRead-append (line ∷ lines) more before [] behind are are' = absurd are
 AreRead-append (line ∷ lines) more before (item ∷ items) behind are are' = (
   are.0,
   AreRead-append lines more (before ++ item ∷ []) items behind are.1
-  (subst (λ b. AreRead b more behind) (sym (append_assoc before (item ∷ []) items)) are'),
+      (subst (λ b. AreRead b more behind) (sym (append_assoc before (item ∷ []) items)) are'),
 )
 
 split_lines : (lines : List (List ℕ)) (before items : List Item) → AreRead before lines items → slice_split (λ byte. nat_eq byte 10) (text_of_lines lines) ≡ lines ++ [] ∷ []

@@ -1,6 +1,5 @@
 -- The scripts are read, each behind those before it.
-use Rattle.std.proofs.Common.{◌≡◌, ℕ, zero, suc, ◌+◌, ◌*◌, ◌/◌, ◌%◌, ◌<◌, ◌≤◌, ◌^◌, Bool, true, false, ◌&&◌, not, nat_eq, nat_le, List, [], ◌∷◌, ◌++◌, length, refl, ap, ◌∙◌, sym, subst, arith, Ok}
-use Rattle.std.specs.List.{list_all}
+use Rattle.std.proofs.Common.{◌≡◌, ℕ, ◌+◌, ◌/◌, ◌<◌, ◌≤◌, ◌^◌, Bool, true, ◌&&◌, not, nat_le, List, [], ◌∷◌, ◌++◌, length, refl, ap, ◌∙◌, sym, arith, Ok}
 use Rattle.std.proofs.Math.Nat.{mod-lt}
 use Rattle.std.proofs.lemmas.Bool.{false≢true, and_parts, not-true, leb-true}
 use Rattle.std.proofs.lemmas.List.{append-nil}
@@ -12,14 +11,14 @@ use Rattle.mk_script.specs.Names.{is_name}
 use Rattle.mk_script.specs.Operands.{item_from}
 use Rattle.mk_script.specs.ScopeOf.{has_lines}
 use Rattle.mk_script.specs.Scopes.{script_names, open_behind, open_blocks}
-use Rattle.mk_script.specs.Lines.{line_item, checked_item, is_among}
+use Rattle.mk_script.specs.Lines.{line_item, is_among}
 use Rattle.mk_script.proofs.Said.{is_word-name}
 use Rattle.mk_script.proofs.PrintedForms.{read_name}
 use Rattle.mk_gen.specs.Draws.{next, draw}
 use Rattle.mk_gen.specs.Generated.{script_body, scripts}
 use Rattle.mk_gen.specs.GeneratedText.{body_lines, script_lines}
 use Rattle.mk_gen.proofs.ReadLines.{IsRead, AreRead, AreRead-append}
-use Rattle.mk_gen.proofs.InScript.{is_inside, alike_at_first, AreRead-alike}
+use Rattle.mk_gen.proofs.InScript.{alike_at_first, AreRead-alike}
 use Rattle.mk_gen.proofs.ReadTurns.{by_words, turns_are_read}
 
 -- lines with these scripts, behind which another may begin
@@ -47,11 +46,11 @@ script_is_read before names name ready may =
     let begins = and_parts _ _ parts.0 in
     let short : length name ≤ 16 = leb-true _ _ (and_parts _ _ (and_parts _ _ (and_parts _ _ begins.0).0).0).1 in
     by_words before (codes "script " ++ name) (codes "script" ∷ name ∷ []) (Script name)
-      (ap (λ word. codes "script " ++ word) (sym (append-nil name)))
-      (refl, (is_word-name name begins.0, tt))
-      (script_says before name ready.some begins.0)
-      (rw (ready.names_are, not-true _ begins.1, parts.1, ready.closed) refl)
-      (omega (arith, short))
+    (ap (λ word. codes "script " ++ word) (sym (append-nil name)))
+    (refl, (is_word-name name begins.0, tt))
+    (script_says before name ready.some begins.0)
+    (rw (ready.names_are, not-true _ begins.1, parts.1, ready.closed) refl)
+    (omega (arith, short))
 
 script_names-append : (items behind : List Item) → script_names (items ++ behind) ≡ script_names items ++ script_names behind
 script_names-append [] behind = refl
@@ -83,9 +82,10 @@ scripts_are_read turns numbers x t some few (name ∷ names) before_names before
     let number_small : number < 2 ^ 64 = omega (arith, draw-lt (next x) 1000 (omega arith)) in
     let place_small : place < 2 ^ 64 = omega (arith, draw-lt (next (next x)) numbers some, few) in
     AreRead-append ((codes "script " ++ name) ∷ body_lines turns number place) (script_lines turns numbers (next (next x)) names)
-      before (Script name ∷ script_body turns number place) (scripts turns numbers (next (next x)) names)
-      (script_is_read before before_names name ready may.0,
-        AreRead-alike (body_lines turns number place) (script_body turns number place) (Script [] ∷ []) (before ++ Script name ∷ [])
-          (alike_at_first before name) refl (turns_are_read turns number place t number_small place_small))
-      (scripts_are_read turns numbers (next (next x)) t some few names (before_names ++ name ∷ []) (before ++ Script name ∷ script_body turns number place)
-        (ready_behind before before_names name turns number place ready) may.1)
+    before (Script name ∷ script_body turns number place) (scripts turns numbers (next (next x)) names) (
+      script_is_read before before_names name ready may.0,
+      AreRead-alike (body_lines turns number place) (script_body turns number place) (Script [] ∷ []) (before ++ Script name ∷ [])
+          (alike_at_first before name) refl (turns_are_read turns number place t number_small place_small),
+    )
+    (scripts_are_read turns numbers (next (next x)) t some few names (before_names ++ name ∷ []) (before ++ Script name ∷ script_body turns number place)
+    (ready_behind before before_names name turns number place ready) may.1)

@@ -1,7 +1,7 @@
 -- The generated text is a text of the generated program.
-use Rattle.std.proofs.Common.{◌≡◌, ℕ, ◌+◌, ◌/◌, ◌<◌, ◌≤◌, ◌^◌, List, [], ◌∷◌, ◌++◌, refl, arith, Ok}
+use Rattle.std.proofs.Common.{◌≡◌, ℕ, ◌/◌, ◌<◌, ◌≤◌, ◌^◌, [], ◌++◌, refl, arith, Ok}
 use Rattle.mk_script.specs.Grammar.{at_end, program_of}
-use Rattle.mk_gen.specs.Draws.{next, draw}
+use Rattle.mk_gen.specs.Draws.{next}
 use Rattle.mk_gen.specs.Generated.{all_names, declarations, scripts, numbers_of, generated}
 use Rattle.mk_gen.specs.GeneratedText.{declaration_lines, script_lines, generated_lines, generated_text}
 use Rattle.mk_gen.proofs.ReadLines.{AreRead, AreRead-append, program_of-lines}

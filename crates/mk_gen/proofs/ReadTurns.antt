@@ -1,5 +1,5 @@
 -- The lines of a script behind its first are read.
-use Rattle.std.proofs.Common.{◌≡◌, ℕ, ◌+◌, ◌<◌, ◌≤◌, ◌^◌, Bool, true, false, nat_eq, nat_le, nat_lt, not, List, [], ◌∷◌, ◌++◌, length, refl, ap, ◌∙◌, sym, subst, arith, Ok, Err}
+use Rattle.std.proofs.Common.{◌≡◌, ℕ, ◌<◌, ◌≤◌, ◌^◌, true, false, nat_eq, nat_le, not, List, [], ◌∷◌, ◌++◌, length, refl, ap, ◌∙◌, sym, subst, arith, Ok}
 use Rattle.std.specs.Fmt.{decimal}
 use Rattle.std.specs.List.{All, list_all}
 use Rattle.std.proofs.lemmas.Fmt.{length-decimal-le}
@@ -9,12 +9,12 @@ use Rattle.std.proofs.lemmas.List.Sums.{AllPass-from_list_all}
 use Rattle.std.proofs.lemmas.Bool.{not-true, leb-true}
 use lib.Chars.{codes}
 use Rattle.mk_script.specs.declared.items.Item.{Item}
-use Rattle.mk_script.specs.declared.items.Item.TheVariants.{Script, Ptr}
+use Rattle.mk_script.specs.declared.items.Item.TheVariants.{Script}
 use Rattle.mk_script.specs.Words.{words_of}
 use Rattle.mk_script.specs.Spaced.{joined}
 use Rattle.mk_script.specs.Lines.{line_item, checked_item}
 use Rattle.mk_script.specs.Operands.{item_from}
-use Rattle.mk_script.proofs.LineWords.{is_word-decimal, AreWords, words_of-joined, without, without_newline}
+use Rattle.mk_script.proofs.LineWords.{is_word-decimal, AreWords, words_of-joined, without_newline}
 use Rattle.mk_script.proofs.PrintedForms.{read_number}
 use Rattle.mk_gen.specs.Generated.{script_body}
 use Rattle.mk_gen.specs.GeneratedText.{body_lines}

@@ -1,5 +1,5 @@
 -- Lines of a script that are well typed behind others.
-use Rattle.std.proofs.Common.{◌≡◌, ℕ, ◌+◌, Bool, true, false, List, [], ◌∷◌, ◌++◌, Option, None, refl, ap, ◌∙◌, sym, subst, append_assoc}
+use Rattle.std.proofs.Common.{◌≡◌, ℕ, ◌+◌, true, List, [], ◌∷◌, ◌++◌, Option, None, refl, ap, ◌∙◌, sym, subst, append_assoc}
 use Rattle.std.proofs.lemmas.Bool.{false≢true}
 use Rattle.std.proofs.lemmas.List.{append-nil}
 use Rattle.mk_script.specs.declared.items.Item.{Item}
@@ -36,7 +36,7 @@ typed_then program script before [] more line is are rest = subst (λ b. fault_f
 typed_then program script before (item ∷ items) more line is are rest =
     go_on line _ _
     (fault_inside (record { program = program; script = this_script before }) line (items ++ more) item are.0
-      ∙ ap (λ lines. typing_fault (record { program = program; script = lines }) 0 [] item) is ∙ are.1)
+    ∙ ap (λ lines. typing_fault (record { program = program; script = lines }) 0 [] item) is ∙ are.1)
     (typed_then program (script ++ item ∷ []) (before ++ item ∷ []) items more (line + 1)
-      (this_script-push before item ∙ (ap (λ lines. lines_behind lines item) is ∙ script_inside script item are.0)) are.2
-      (λ later. subst (λ b. fault_from program later b more ≡ None) (sym (append_assoc before (item ∷ []) items)) (rest later)))
+    (this_script-push before item ∙ (ap (λ lines. lines_behind lines item) is ∙ script_inside script item are.0)) are.2
+    (λ later. subst (λ b. fault_from program later b more ≡ None) (sym (append_assoc before (item ∷ []) items)) (rest later)))

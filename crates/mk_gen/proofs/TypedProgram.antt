@@ -1,10 +1,9 @@
 -- The generated program is well typed.
-use Rattle.std.proofs.Common.{◌≡◌, ℕ, zero, suc, ◌+◌, ◌*◌, ◌/◌, ◌<◌, ◌≤◌, List, [], ◌∷◌, ◌++◌, refl, ap, ◌∙◌, sym, arith, None}
+use Rattle.std.proofs.Common.{◌≡◌, ℕ, zero, suc, ◌+◌, ◌/◌, ◌<◌, ◌≤◌, List, [], ◌∷◌, ◌++◌, refl, arith, None}
 use Rattle.std.specs.Prelude.{replicate}
 use Rattle.std.proofs.lemmas.Bool.{le-leb}
-use Rattle.std.proofs.lemmas.List.{append-nil}
 use Rattle.mk_script.specs.declared.items.Item.{Item}
-use Rattle.mk_script.specs.declared.items.Item.TheVariants.{Script, Heap, TypeLine, Global}
+use Rattle.mk_script.specs.declared.items.Item.TheVariants.{Script}
 use Rattle.mk_script.specs.declared.items.TypeWord.TheVariants.{Number}
 use Rattle.mk_script.specs.Scopes.{this_script}
 use Rattle.mk_check.specs.Blocks.{before_next_script, blocks_from}
@@ -44,8 +43,8 @@ scripts_are_typed turns numbers rest few some (name ∷ names) x line before =
     go_on line _ _
     (script_is_typed (record { program = declarations numbers ++ rest; script = this_script before }) line turns number place more name few (none_before_scripts turns numbers (next (next x)) names))
     (typed_then (declarations numbers ++ rest) [] (before ++ Script name ∷ []) (script_body turns number place) more (line + 1)
-      (this_script-push before (Script name)) (turns_are_typed numbers turns number place rest (draw-lt (next (next x)) numbers some))
-      (λ later. scripts_are_typed turns numbers rest few some names (next (next x)) later ((before ++ Script name ∷ []) ++ script_body turns number place)))
+    (this_script-push before (Script name)) (turns_are_typed numbers turns number place rest (draw-lt (next (next x)) numbers some))
+    (λ later. scripts_are_typed turns numbers rest few some names (next (next x)) later ((before ++ Script name ∷ []) ++ script_body turns number place)))
 
 numbers_have_types : (a : Around) (n : ℕ) → pointers_have_types a (replicate n Number) ≡ None
 numbers_have_types a zero = refl

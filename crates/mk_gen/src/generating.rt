@@ -1,8 +1,6 @@
 //! The programs of the generator.
-ghost use Rattle.std.specs.Prelude.{◌≡◌, ◌≤◌, IfOk, Ok};
-ghost use Rattle.mk_script.specs.Grammar.{program_of};
+ghost use Rattle.std.specs.Prelude.{◌≡◌, ◌≤◌, IfOk};
 ghost use Rattle.mk_gen.specs.Generated.{generated};
-ghost use Rattle.mk_gen.specs.GeneratedText.{generated_text as text_of};
 
 use crate::text::generated_text;
 use mk_check::{Checked, TypeStop, check};
@@ -14,8 +12,7 @@ use std::alloc::Global;
 /// where memory runs out.
 pub fn generate(alloc: Global, start: u64, count: u64) -> Result<Checked, NoMemory>
     requires { count ≤ 3000000 }
-    ensures program { IfOk result (λ checked. checked ≡ generated start count) }
-    ensures of_text { IfOk result (λ checked. program_of (text_of start count) ≡ Ok checked) }
+    ensures { IfOk result (λ checked. checked ≡ generated start count) }
 {
     let text = generated_text(alloc, start, count)?;
     let program = match parse(alloc, text.as_bytes()) {

@@ -13,8 +13,7 @@ use std::alloc::Global;
 fn declarations(alloc: Global, numbers: u64) -> Result<String, NoMemory>
     ensures { IfOk result (λ text. string_bytes text ≡ text_of_lines (declaration_lines numbers)) }
 {
-    let Ok(text) = format!(
-        in alloc;
+    let Ok(text) = format!(in alloc;
         "heap 256 256\n\
          type Node n p:Node\n\
          type Buf n*{numbers}\n\
@@ -26,7 +25,13 @@ fn declarations(alloc: Global, numbers: u64) -> Result<String, NoMemory>
 }
 
 /// Appends a script of so many turns, with a number for the node and a place in the buffer.
-fn push_script(text: &mut String, name: &str, turns: u64, number: u64, place: u64) -> Result<(), NoMemory>
+fn push_script(
+    text: &mut String,
+    name: &str,
+    turns: u64,
+    number: u64,
+    place: u64,
+) -> Result<(), NoMemory>
     ensures { OnOk result (string_bytes text.new ≡ string_bytes text.old ++ text_of_lines ((codes "script " ++ name.now) ∷ body_lines turns number place)) }
 {
     let written = write!(

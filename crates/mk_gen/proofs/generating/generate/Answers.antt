@@ -7,8 +7,8 @@ pub unreachable-requires : goal.unreachable-requires
 unreachable-requires c =
     is_read c.args.start c.args.count c.requires c.as_bytes.result.now c.in-Err.stop (c.as_bytes.ensures.value ∙ c.in_ok-text.ensures) (c.in-Err.ensures.fault c.in_default.not-NoMemory)
 
-pub returns-in-Ok-check-clause-program : goal.returns-in-Ok-check-clause-program
-returns-in-Ok-check-clause-program c =
+pub returns-in-Ok-check : goal.returns-in-Ok-check
+returns-in-Ok-check c =
     c.in-Ok-check.ensures.program
     ∙ is_the_program c.args.start c.args.count c.requires c.as_bytes.result.now c.in-Ok.program (c.as_bytes.ensures.value ∙ c.in_ok-text.ensures) c.in-Ok.ensures.program
 

@@ -1,4 +1,4 @@
-use Rattle.std.proofs.Common.{◌≡◌, ◌+◌, ◌++◌, ◌/◌, List, [], ◌∷◌, ℕ, Bor, sym, ap, ◌∙◌}
+use Rattle.std.proofs.Common.{◌+◌, ◌/◌, [], ◌∷◌, ap, ◌∙◌}
 use lib.Chars.{codes}
 use Rattle.std.specs.String.{string_bytes}
 use Rattle.mk_gen.specs.Draws.{next, draw}
@@ -18,5 +18,5 @@ loop-name-preserved c =
     one_script_more (c.args.count / 48) (1 + c.below-numbers.result) c.loop-name.draws.state c.below-number.result c.below-number.new.self.state c.below-place.result c.below-place.new.self.state
     c.loop-name.name-index all_names _ (string_bytes c.loop-name.text) (string_bytes c.push_script.new.text) _
     c.below-number.ensures.drawn c.below-number.ensures.state c.below-place.ensures.drawn c.below-place.ensures.state c.loop-name-test.true
-    c.loop-name.invariant c.in_ok-push_script.ensures 
+    c.loop-name.invariant c.in_ok-push_script.ensures
     (name_read (record { ref_ptr = _; now = codes "s0" } ∷ record { ref_ptr = _; now = codes "s1" } ∷ record { ref_ptr = _; now = codes "s2" } ∷ record { ref_ptr = _; now = codes "s3" } ∷ []) c.loop-name.name-index _ c.loop-name-test.true)

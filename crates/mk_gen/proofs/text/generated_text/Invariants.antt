@@ -1,5 +1,5 @@
 -- The text so far, and the lines of the scripts that are left.
-use Rattle.std.proofs.Common.{◌≡◌, ◌++◌, ◌/◌, drop, map}
+use Rattle.std.proofs.Common.{◌≡◌, ◌++◌, ◌/◌, drop}
 use Rattle.std.specs.String.{string_bytes}
 use Rattle.mk_gen.specs.Generated.{all_names}
 use Rattle.mk_gen.specs.GeneratedText.{script_lines, text_of_lines, generated_text}
