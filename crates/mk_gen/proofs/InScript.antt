@@ -31,13 +31,15 @@ is_inside (Global name ty) = false
 is_inside (Script name) = false
 is_inside item = true
 
-has_script-push : (items : List Item) (item : Item) → has_script items ≡ true → has_script (items ++ item ∷ []) ≡ true
+has_script-push : (items : List Item) (item : Item) → has_script items ≡ true
+    → has_script (items ++ item ∷ []) ≡ true
 has_script-push items item has = list_any-append is_script items (item ∷ []) ∙ rw has refl
 
 open_blocks-push : (items : List Item) (item : Item) → open_blocks (items ++ item ∷ []) ≡ open_behind (open_blocks items) item
 open_blocks-push items item = fold-append open_behind [] items (item ∷ [])
 
-pub alike_push : (a b : List Item) (item : Item) → AreAlike a b → AreAlike (a ++ item ∷ []) (b ++ item ∷ [])
+pub alike_push : (a b : List Item) (item : Item) → AreAlike a b
+    → AreAlike (a ++ item ∷ []) (b ++ item ∷ [])
 alike_push a b item alike = record {
   script = has_script-push a item alike.script;
   script' = has_script-push b item alike.script';
@@ -54,7 +56,8 @@ alike_at_first before name = record {
   blocks = sym (open_blocks-push before (Script name));
 }
 
-other_line_of : (before : List Item) (words : List (List ℕ)) → has_script before ≡ true → line_item before words ≡ other_line before words
+other_line_of : (before : List Item) (words : List (List ℕ)) → has_script before ≡ true
+    → line_item before words ≡ other_line before words
 other_line_of [] words has = absurd (false≢true has)
 other_line_of (first ∷ before) words has = refl
 
@@ -66,7 +69,8 @@ module _ (a b : List Item) (alike : AreAlike a b) where
   placed_alike keyword.Num = rw (alike.script, alike.script', alike.lines) refl
   placed_alike form = rw (alike.script, alike.script') refl
 
-  form_alike : (form : Option Keyword) (operands : List (List ℕ)) → placed_item a form operands ≡ placed_item b form operands
+  form_alike : (form : Option Keyword) (operands : List (List ℕ))
+      → placed_item a form operands ≡ placed_item b form operands
   form_alike None operands = refl
   form_alike (Some form) operands = rw (placed_alike form) refl
 
@@ -106,7 +110,8 @@ module _ (a b : List Item) (alike : AreAlike a b) where
     is_short = is.is_short;
   }
 
-pub AreRead-alike : (lines : List (List ℕ)) (items a b : List Item) → AreAlike a b → list_all is_inside items ≡ true → AreRead a lines items → AreRead b lines items
+pub AreRead-alike : (lines : List (List ℕ)) (items a b : List Item) → AreAlike a b → list_all is_inside items ≡ true
+    → AreRead a lines items → AreRead b lines items
 AreRead-alike [] [] a b alike inside are = tt
 AreRead-alike [] (item ∷ items) a b alike inside are = absurd are
 AreRead-alike (line ∷ lines) [] a b alike inside are = absurd are

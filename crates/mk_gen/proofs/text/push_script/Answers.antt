@@ -1,8 +1,8 @@
--- The pieces are the lines, each with its newline.
-use Rattle.std.proofs.Common.{◌++◌, ap, ◌∙◌}
-use Rattle.std.specs.String.{string_bytes}
-use Rattle.mk_gen.proofs.Pieces.{script_pieces}
+-- The pieces that are written are the lines, each with its newline.
+use Rattle.std.proofs.Common.{append_assoc}
+use Rattle.std.specs.Fmt.{decimal}
+use lib.Chars.{codes}
 use Rattle.mk_gen.proofs.text.push_script.Goals as goal
 
 pub returns-in-Ok : goal.returns-in-Ok
-returns-in-Ok c = c.in-Ok.ensures.bytes ∙ ap (λ text. string_bytes c.args.text.now ++ text) (script_pieces c.args.name.now c.args.turns c.args.number c.args.place)
+returns-in-Ok c = rw (append_assoc (decimal c.args.place) (codes " n")) c.in-Ok.ensures.bytes
