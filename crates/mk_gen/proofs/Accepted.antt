@@ -13,18 +13,22 @@ use Rattle.mk_gen.specs.GeneratedText.{generated_text}
 use Rattle.mk_gen.proofs.ReadText.{program_of-generated_text}
 use Rattle.mk_gen.proofs.TypedProgram.{generated_is_well_typed}
 
-module _ (start count : ℕ) (most : count ≤ 3000000) where
-  program_is : (text : List ℕ) → text ≡ generated_text start count → program_of text ≡ Ok (generated start count)
-  program_is text is = ap program_of is ∙ program_of-generated_text start count most
+module _ (start count : ℕ) (most : count ≤ 3000000) (text : List ℕ) (is : text ≡ generated_text start count) where
+  program_is : program_of text ≡ Ok (generated start count)
+  program_is = ap program_of is ∙ program_of-generated_text start count most
 
-  pub is_read : (text : List ℕ) (stop : TextStop) → text ≡ generated_text start count → program_of text ≡ Err stop → ⊥
-  is_read text stop is refused = Err≢Ok stop (generated start count) (sym refused ∙ program_is text is)
+  -- it is of the grammar
+  pub is_read : (stop : TextStop) → program_of text ≡ Err stop → ⊥
+  is_read stop refused = Err≢Ok stop (generated start count) (sym refused ∙ program_is)
 
-  pub is_the_program : (text : List ℕ) (program : List Item) → text ≡ generated_text start count → program_of text ≡ Ok program → program ≡ generated start count
-  is_the_program text program is read = Ok-injective {E = TextStop} program (generated start count) (sym read ∙ program_is text is)
+  module _ (program : List Item) (read : program_of text ≡ Ok program) where
+    pub is_generated : program ≡ generated start count
+    is_generated = Ok-injective {E = TextStop} program (generated start count) (sym read ∙ program_is)
 
-  pub is_typed : (text : List ℕ) (program : List Item) (line : ℕ) (kind : TypeKind) (stop : TypeStop) → text ≡ generated_text start count → program_of text ≡ Ok program
-      → stop ≡ IllTyped line kind → NamesFirstFault program stop → ⊥
-  is_typed text program line kind stop is read ill names =
-      let fault : first_typing_fault program ≡ Some (record { line = line; kind = kind }) = subst (NamesFirstFault program) ill names in
-      Some≢None (record { line = line; kind = kind }) (sym fault ∙ ap first_typing_fault (is_the_program text program is read) ∙ generated_is_well_typed start count most)
+    -- and its program is well typed
+    pub is_typed : (line : ℕ) (kind : TypeKind) (stop : TypeStop) → stop ≡ IllTyped line kind → NamesFirstFault program stop → ⊥
+    is_typed line kind stop ill names =
+        let fault : first_typing_fault program ≡ Some (record { line = line; kind = kind }) =
+        subst (NamesFirstFault program) ill names in
+        let none = ap first_typing_fault is_generated ∙ generated_is_well_typed start count most in
+        Some≢None (record { line = line; kind = kind }) (sym fault ∙ none)

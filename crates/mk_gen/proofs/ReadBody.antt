@@ -64,14 +64,14 @@ body_is_read turns number place t a i =
     and plain refl refl refl
     and plain refl refl refl
     and by_words (codes "repeat" ∷ decimal turns ∷ [])
-      (ends_with (codes "repeat ") (decimal turns))
-      (refl, (is_word-decimal turns t, tt))
-      (read_number turns t _ refl) refl (omega (arith, length-decimal turns t))
+    (ends_with (codes "repeat ") (decimal turns))
+    (refl, (is_word-decimal turns t, tt))
+    (read_number turns t _ refl) refl (omega (arith, length-decimal turns t))
     and plain refl refl refl
     and by_words (codes "const" ∷ codes "n" ∷ decimal number ∷ [])
-      (ends_with (codes "const n ") (decimal number))
-      (refl, (refl, (is_word-decimal number a, tt)))
-      (read_number number a _ refl) refl (omega (arith, length-decimal number a))
+    (ends_with (codes "const n ") (decimal number))
+    (refl, (refl, (is_word-decimal number a, tt)))
+    (read_number number a _ refl) refl (omega (arith, length-decimal number a))
     and plain refl refl refl
     and plain refl refl refl
     and plain refl refl refl
@@ -79,9 +79,9 @@ body_is_read turns number place t a i =
     and plain refl refl refl
     and plain refl refl refl
     and by_words (codes "setn" ∷ codes "b" ∷ decimal place ∷ codes "n" ∷ [])
-      refl
-      (refl, (refl, (is_word-decimal place i, (refl, tt))))
-      (read_number place i _ refl) refl (omega (arith, length-decimal place i, length-append (decimal place) (codes " n")))
+    refl
+    (refl, (refl, (is_word-decimal place i, (refl, tt))))
+    (read_number place i _ refl) refl (omega (arith, length-decimal place i, length-append (decimal place) (codes " n")))
     and plain refl refl refl
     and plain refl refl refl
     and plain refl refl refl

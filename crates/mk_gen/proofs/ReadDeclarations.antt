@@ -28,12 +28,12 @@ unfolding item_from
 declarations_are_read numbers some few =
     let small : numbers < 2 ^ 64 = omega (arith, few) in
     let short : nat_le (length (replicate numbers Number)) 4096 ≡ true =
-      rw (length-replicate numbers Number) (le-leb numbers 4096 (omega (arith, few))) in
+    rw (length-replicate numbers Number) (le-leb numbers 4096 (omega (arith, few))) in
     plain {item = Heap 256 256} refl refl refl
     and plain {item = TypeLine node (Number ∷ Pointer (base_of node) ∷ [])} refl refl refl
     and by_words (codes "type" ∷ codes "Buf" ∷ (codes "n*" ++ decimal numbers) ∷ [])
-      (ap (λ digits. codes "type Buf n*" ++ digits) (sym (append-nil (decimal numbers))))
-      (refl, (refl, (is_word-append (codes "n*") (decimal numbers) refl (is_solid-decimal numbers small), tt)))
-      (rw (field_of-numbers numbers some small, append-nil) refl) (rw short refl) (omega (arith, length-decimal numbers small))
+    (ap (λ digits. codes "type Buf n*" ++ digits) (sym (append-nil (decimal numbers))))
+    (refl, (refl, (is_word-append (codes "n*") (decimal numbers) refl (is_solid-decimal numbers small), tt)))
+    (rw (field_of-numbers numbers some small, append-nil) refl) (rw short refl) (omega (arith, length-decimal numbers small))
     and plain refl refl refl
     and tt

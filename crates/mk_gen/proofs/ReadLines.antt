@@ -83,6 +83,6 @@ pub program_of-lines : (lines : List (List ℕ)) (items : List Item) → AreRead
 program_of-lines [] items are end some few = absurd (false≢true some)
 program_of-lines (line ∷ lines) items are end some few =
     let small : length (text_of_lines (line ∷ lines)) ≤ 1048576 =
-      omega (arith, length-text (line ∷ lines) [] items are, leb-true _ _ few) in
+    omega (arith, length-text (line ∷ lines) [] items are, leb-true _ _ few) in
     cond-true _ _ _ (le-leb _ _ small)
     ∙ (ap items_of_lines (lines_of-text (line ∷ lines) [] items are) ∙ items_are (line ∷ lines) [] items are end)

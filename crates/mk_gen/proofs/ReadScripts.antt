@@ -83,7 +83,7 @@ module _ (turns number place : ℕ) where
   script_is_read t a i before names name ready may =
       first_is_read before names name ready may
       and AreRead-alike (body_lines turns number place) (script_body turns number place) (Script [] ∷ []) (before ++ Script name ∷ [])
-        (alike_at_first before name) refl (body_is_read turns number place t a i)
+      (alike_at_first before name) refl (body_is_read turns number place t a i)
 
 pub draw-lt : (x m : ℕ) → 0 < m → draw x m < m
 draw-lt x m some = mod-lt (x / 2 ^ 33) some

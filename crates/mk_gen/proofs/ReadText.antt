@@ -1,5 +1,5 @@
 -- The generated text is a text of the generated program.
-use Rattle.std.proofs.Common.{◌≡◌, ℕ, ◌/◌, ◌<◌, ◌≤◌, ◌^◌, List, [], ◌++◌, refl, arith, Ok}
+use Rattle.std.proofs.Common.{◌≡◌, ℕ, ◌<◌, ◌≤◌, ◌^◌, List, [], ◌++◌, refl, arith, Ok}
 use Rattle.mk_script.specs.declared.items.Item.{Item}
 use Rattle.mk_script.specs.Grammar.{at_end, program_of}
 use Rattle.mk_gen.specs.Draws.{next}
@@ -31,7 +31,7 @@ module _ (turns numbers x : ℕ) where
       AreRead-append (declaration_lines numbers) (script_lines turns numbers x all_names) [] (declarations numbers) (scripts turns numbers x all_names)
       (declarations_are_read numbers some few)
       (scripts_are_read turns numbers small (omega (arith, some)) few x all_names [] (declarations numbers)
-        (declarations_are_ready numbers) (refl, (refl, (refl, (refl, tt)))))
+      (declarations_are_ready numbers) (refl, (refl, (refl, (refl, tt)))))
 
   -- no block is open behind all lines, and there are scripts
   ends : at_end items ≡ Ok items

@@ -1,5 +1,5 @@
 -- The generated program is well typed.
-use Rattle.std.proofs.Common.{◌≡◌, ℕ, zero, suc, ◌+◌, ◌/◌, ◌<◌, ◌≤◌, List, [], ◌∷◌, ◌++◌, refl, arith, None}
+use Rattle.std.proofs.Common.{◌≡◌, ℕ, zero, suc, ◌+◌, ◌<◌, ◌≤◌, List, [], ◌∷◌, ◌++◌, refl, arith, None}
 use Rattle.std.specs.Prelude.{replicate}
 use Rattle.std.proofs.lemmas.Bool.{le-leb}
 use Rattle.mk_script.specs.declared.items.Item.{Item}
@@ -33,7 +33,7 @@ first_is_typed : (a : Around) (line turns number place : ℕ) (more : List Item)
     → typing_fault a line (script_body turns number place ++ more) (Script name) ≡ None
 first_is_typed a line turns number place more name few none =
     let short : length_of (blocks_from (line + 1) (script_body turns number place)) ≤ 1000000 =
-      omega (arith, body_is_short (line + 1) turns number place few) in
+    omega (arith, body_is_short (line + 1) turns number place few) in
     rw none (is_short-none (length_of (blocks_from (line + 1) (script_body turns number place))) short)
 
 module _ (turns numbers : ℕ) (rest : List Item) (few : turns ≤ 62500) (some : 0 < numbers) where
@@ -53,8 +53,8 @@ module _ (turns numbers : ℕ) (rest : List Item) (few : turns ≤ 62500) (some 
       go_on line _ _
       (first_is_typed around line turns number place more name few (none_before_scripts turns numbers behind names))
       (typed_then program [] (before ++ Script name ∷ []) (script_body turns number place) more (line + 1)
-        (this_script-push before (Script name)) (body_is_typed numbers turns number place rest (draw-lt behind numbers some))
-        (λ later. scripts_are_typed names behind later ((before ++ Script name ∷ []) ++ script_body turns number place)))
+      (this_script-push before (Script name)) (body_is_typed numbers turns number place rest (draw-lt behind numbers some))
+      (λ later. scripts_are_typed names behind later ((before ++ Script name ∷ []) ++ script_body turns number place)))
 
 numbers_have_types : (a : Around) (count : ℕ) → pointers_have_types a (replicate count Number) ≡ None
 numbers_have_types a zero = refl
@@ -75,4 +75,4 @@ generated_is_well_typed start count most =
     let rest = scripts (turns_of count) numbers (next start) all_names in
     declarations_are_typed numbers rest
     (scripts_are_typed (turns_of count) numbers rest (omega (arith, most)) (omega (arith, numbers_some start))
-      all_names (next start) 5 (declarations numbers))
+    all_names (next start) 5 (declarations numbers))

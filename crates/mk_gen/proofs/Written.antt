@@ -33,7 +33,7 @@ one_script_more turns numbers x number y place z i names name before after whole
     let rest = script_lines turns numbers z (drop (i + 1) names) in
     let script = (codes "script " ++ name) ∷ body_lines turns number place in
     let left : script ++ rest ≡ script_lines turns numbers x (drop i names) =
-      rw (drop_next names i name inside named, drawn, drawn', is', is) refl in
+    rw (drop_next names i name inside named, drawn, drawn', is', is) refl in
     ap (λ text. text ++ text_of_lines rest) more
     ∙ append_assoc before (text_of_lines script) (text_of_lines rest)
     ∙ ap (λ text. before ++ text) (sym (text_of_lines-append script rest) ∙ ap text_of_lines left)

@@ -77,7 +77,8 @@ script_body turns number place =
 abbrev pub scripts : ℕ → ℕ → ℕ → List (List ℕ) → List Item
 scripts turns numbers x [] = []
 scripts turns numbers x (name ∷ names) =
-    (Script name ∷ script_body turns (draw (next x) 1000) (draw (next (next x)) numbers)) ++ scripts turns numbers (next (next x)) names
+    (Script name ∷ script_body turns (draw (next x) 1000) (draw (next (next x)) numbers))
+    ++ scripts turns numbers (next (next x)) names
 
 -- the numbers of a Buf, which are drawn first
 abbrev pub numbers_of : ℕ → ℕ
@@ -89,4 +90,5 @@ turns_of count = count / 48
 
 -- the program
 unfoldable pub generated : ℕ → ℕ → List Item
-generated start count = declarations (numbers_of start) ++ scripts (turns_of count) (numbers_of start) (next start) all_names
+generated start count =
+    declarations (numbers_of start) ++ scripts (turns_of count) (numbers_of start) (next start) all_names

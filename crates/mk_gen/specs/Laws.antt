@@ -22,4 +22,6 @@ pub record DeclaresNodes (program : List Item) (numbers : ℕ) : Type 0 where
 -- A turn is 14 instructions with its own, of which 12 are calls, whatever they are answered.
 pub record MakesTurns (program : List Item) (k turns : ℕ) : Type 0 where
   pub instructions : script_length (script_of program k) ≡ 1 + 14 * turns
-  pub calls : (answers : List Answer) → has_ended (feed program k answers) ≡ true → length (feed program k answers).ops ≡ 12 * turns
+  pub calls :
+      (answers : List Answer) → has_ended (feed program k answers) ≡ true
+      → length (feed program k answers).ops ≡ 12 * turns

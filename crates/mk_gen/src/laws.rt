@@ -8,7 +8,8 @@ ghost use Rattle.mk_gen.specs.Laws.{DeclaresNodes, MakesTurns};
 
 /// The generated text is a text of the generated program, which is well typed.
 pub fn generated_programs_are_checked()
-    ensures text { (start count : ℕ) → count ≤ 3000000 → program_of (generated_text start count) ≡ Ok (generated start count) }
+    ensures text { (start count : ℕ) → count ≤ 3000000
+        → program_of (generated_text start count) ≡ Ok (generated start count) }
     ensures checked { (start count : ℕ) → count ≤ 3000000 → IsChecked (generated start count) }
 {}
 
@@ -19,5 +20,6 @@ pub fn generated_programs_declare_nodes()
 
 /// A script that has ended has made all calls of its turns.
 pub fn generated_scripts_make_their_turns()
-    ensures { (start count k : ℕ) → IsScript (generated start count) k → MakesTurns (generated start count) k (turns_of count) }
+    ensures { (start count k : ℕ) → IsScript (generated start count) k
+        → MakesTurns (generated start count) k (turns_of count) }
 {}

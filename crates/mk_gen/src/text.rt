@@ -32,7 +32,8 @@ fn push_script(
     number: u64,
     place: u64,
 ) -> Result<(), NoMemory>
-    ensures { OnOk result (string_bytes text.new ≡ string_bytes text.old ++ text_of_lines ((codes "script " ++ name.now) ∷ body_lines turns number place)) }
+    ensures { OnOk result (string_bytes text.new
+        ≡ string_bytes text.old ++ text_of_lines ((codes "script " ++ name.now) ∷ body_lines turns number place)) }
 {
     let written = write!(
         text,

@@ -17,11 +17,11 @@ loop-name-init c =
 pub loop-name-preserved : goal.loop-name-preserved
 loop-name-preserved c =
     let names : List (Bor (List ℕ)) =
-      record { ref_ptr = _; now = codes "s0" } ∷
-      record { ref_ptr = _; now = codes "s1" } ∷
-      record { ref_ptr = _; now = codes "s2" } ∷
-      record { ref_ptr = _; now = codes "s3" } ∷
-      [] in
+    record { ref_ptr = _; now = codes "s0" } ∷
+    record { ref_ptr = _; now = codes "s1" } ∷
+    record { ref_ptr = _; now = codes "s2" } ∷
+    record { ref_ptr = _; now = codes "s3" } ∷
+    [] in
     one_script_more (turns_of c.args.count) (1 + c.below-numbers.result) c.loop-name.draws.state
     c.below-number.result c.below-number.new.self.state c.below-place.result c.below-place.new.self.state
     c.loop-name.name-index all_names _ (string_bytes c.loop-name.text) (string_bytes c.push_script.new.text) _
