@@ -26,7 +26,8 @@ module _ (start count : ℕ) (most : count ≤ 3000000) (text : List ℕ) (is : 
     is_generated = Ok-injective {E = TextStop} program (generated start count) (sym read ∙ program_is)
 
     -- and its program is well typed
-    pub is_typed : (line : ℕ) (kind : TypeKind) (stop : TypeStop) → stop ≡ IllTyped line kind → NamesFirstFault program stop → ⊥
+    pub is_typed : (line : ℕ) (kind : TypeKind) (stop : TypeStop) → stop ≡ IllTyped line kind
+        → NamesFirstFault program stop → ⊥
     is_typed line kind stop ill names =
         let fault : first_typing_fault program ≡ Some (record { line = line; kind = kind }) =
         subst (NamesFirstFault program) ill names in

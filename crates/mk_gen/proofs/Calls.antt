@@ -84,7 +84,8 @@ recounted : {n m : ℕ} {before after : Fed} → n ≡ m → IsLeft n before aft
 recounted same is = record { ops = is.ops; calls_are = is.calls_are ∙ same; plain = is.plain }
 
 module _ (scope : Scope) where
-  rounds_left : (rounds : ℕ) (body : Blocks) (go : Fed → Fed) → HasNoIf body → ((f : Fed) → IsLeft (calls_of body) f (go f))
+  rounds_left : (rounds : ℕ) (body : Blocks) (go : Fed → Fed) → HasNoIf body
+      → ((f : Fed) → IsLeft (calls_of body) f (go f))
       → (fed : Fed) → IsLeft (rounds * calls_of body) fed (run_rounds rounds body go fed)
   rounds_left zero body go plain goes fed = record { ops = refl; calls_are = omega arith; plain = tt }
   rounds_left (suc more) body go plain goes fed =
@@ -112,11 +113,13 @@ module _ (scope : Scope) where
   run_left Done plain fed = record { ops = refl; calls_are = refl; plain = tt }
   run_left (Line line item rest) plain fed =
       let next = run_line scope fed item in
-      line_left line item rest fed (run scope rest next) plain (run_left rest plain next) (is_some (op_of scope fed item)) (asks scope fed item)
+      line_left line item rest fed (run scope rest next) plain (run_left rest plain next)
+      (is_some (op_of scope fed item)) (asks scope fed item)
   run_left (Rounds rounds body rest) plain fed =
       let all = run_rounds rounds body (run scope body) fed in
       left_then (rounds * calls_of body) fed all (run scope rest) rest
-      (rounds_left rounds body (run scope body) plain.0 (run_left body plain.0) fed) plain.1 (run_left rest plain.1) (is_done all.left) refl
+      (rounds_left rounds body (run scope body) plain.0 (run_left body plain.0) fed) plain.1
+      (run_left rest plain.1) (is_done all.left) refl
   run_left (Choice number first second rest) plain fed = absurd plain
 
   answer_keeps : (fed : Fed) (item : Item) (a : Answer) → (with_answer scope fed item a).ops ≡ fed.ops

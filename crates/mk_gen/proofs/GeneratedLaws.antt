@@ -63,7 +63,8 @@ body_makes_turns program k line turns number place starts is =
     record {
       instructions = ap length_of blocks ∙ body_instructions line turns number place;
       calls = λ answers ended.
-          ended_calls (script_scope program k) script answers plain ended ∙ ap calls_of blocks ∙ body_calls line turns number place;
+          ended_calls (script_scope program k) script answers plain ended
+          ∙ ap calls_of blocks ∙ body_calls line turns number place;
     }
 
 pub generated_makes_turns : (start count k : ℕ) → IsScript (generated start count) k

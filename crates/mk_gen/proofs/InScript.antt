@@ -35,7 +35,8 @@ has_script-push : (items : List Item) (item : Item) → has_script items ≡ tru
     → has_script (items ++ item ∷ []) ≡ true
 has_script-push items item has = list_any-append is_script items (item ∷ []) ∙ rw has refl
 
-open_blocks-push : (items : List Item) (item : Item) → open_blocks (items ++ item ∷ []) ≡ open_behind (open_blocks items) item
+open_blocks-push : (items : List Item) (item : Item)
+    → open_blocks (items ++ item ∷ []) ≡ open_behind (open_blocks items) item
 open_blocks-push items item = fold-append open_behind [] items (item ∷ [])
 
 pub alike_push : (a b : List Item) (item : Item) → AreAlike a b

@@ -34,12 +34,14 @@ plain {before} {line} {item} says passes whole =
     record {
       says = says;
       passes = passes;
-      is_whole = All-weaker (λ byte. not (nat_eq byte 10) ≡ true) (λ byte. nat_eq byte 10 ≡ false) (λ byte. not-true (nat_eq byte 10)) line each;
+      is_whole = All-weaker (λ byte. not (nat_eq byte 10) ≡ true) (λ byte. nat_eq byte 10 ≡ false)
+          (λ byte. not-true (nat_eq byte 10)) line each;
       is_short = leb-true _ _ parts.1;
     }
 
 -- a line by its words
-pub by_words : {before : List Item} {line : List ℕ} {item : Item} (words : List (List ℕ)) → line ≡ joined words → AreWords words
+pub by_words : {before : List Item} {line : List ℕ} {item : Item} (words : List (List ℕ)) → line ≡ joined words
+    → AreWords words
     → line_item before words ≡ Ok item → checked_item before item ≡ Ok item → length line ≤ 40 → IsRead before line item
 by_words {before} {line} {item} words is apart says passes short = record {
   says = ap (λ text. line_item before (words_of text)) is ∙ ap (line_item before) (words_of-joined words apart) ∙ says;

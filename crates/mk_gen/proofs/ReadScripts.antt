@@ -43,7 +43,8 @@ script_says [] name some named = absurd (false≢true some)
 script_says (first ∷ before) name some named = read_name name named _ refl
 
 -- a script's first line
-first_is_read : (before : List Item) (names : List (List ℕ)) (name : List ℕ) → AreReady before names → may_begin names name ≡ true
+first_is_read : (before : List Item) (names : List (List ℕ)) (name : List ℕ) → AreReady before names
+    → may_begin names name ≡ true
     → IsRead before (codes "script " ++ name) (Script name)
 first_is_read before names name ready may =
     let parts = and_parts _ _ may in
@@ -56,7 +57,8 @@ first_is_read before names name ready may =
     (rw (ready.names_are, not-true _ begins.1, parts.1, ready.closed) refl)
     (omega (arith, short))
 
-script_names-append : (items behind : List Item) → script_names (items ++ behind) ≡ script_names items ++ script_names behind
+script_names-append : (items behind : List Item)
+    → script_names (items ++ behind) ≡ script_names items ++ script_names behind
 script_names-append [] behind = refl
 script_names-append (Script name ∷ items) behind = ap (λ names. name ∷ names) (script_names-append items behind)
 script_names-append (item ∷ items) behind = script_names-append items behind
@@ -77,19 +79,22 @@ module _ (turns number place : ℕ) where
     closed = fold-append open_behind [] before (script_items name);
   }
 
-  script_is_read : turns < 2 ^ 64 → number < 2 ^ 64 → place < 2 ^ 64 → (before : List Item) (names : List (List ℕ)) (name : List ℕ)
+  script_is_read : turns < 2 ^ 64 → number < 2 ^ 64 → place < 2 ^ 64
+      → (before : List Item) (names : List (List ℕ)) (name : List ℕ)
       → AreReady before names → may_begin names name ≡ true
       → AreRead before ((codes "script " ++ name) ∷ body_lines turns number place) (script_items name)
   script_is_read t a i before names name ready may =
       first_is_read before names name ready may
-      and AreRead-alike (body_lines turns number place) (script_body turns number place) (Script [] ∷ []) (before ++ Script name ∷ [])
+      and AreRead-alike (body_lines turns number place) (script_body turns number place)
+      (Script [] ∷ []) (before ++ Script name ∷ [])
       (alike_at_first before name) refl (body_is_read turns number place t a i)
 
 pub draw-lt : (x m : ℕ) → 0 < m → draw x m < m
 draw-lt x m some = mod-lt (x / 2 ^ 33) some
 
 module _ (turns numbers : ℕ) (t : turns < 2 ^ 64) (some : 0 < numbers) (few : numbers ≤ 100) where
-  pub scripts_are_read : (x : ℕ) (names before_names : List (List ℕ)) (before : List Item) → AreReady before before_names
+  pub scripts_are_read : (x : ℕ) (names before_names : List (List ℕ)) (before : List Item)
+      → AreReady before before_names
       → MayBegin before_names names → AreRead before (script_lines turns numbers x names) (scripts turns numbers x names)
   scripts_are_read x [] before_names before ready may = tt
   scripts_are_read x (name ∷ names) before_names before ready may =

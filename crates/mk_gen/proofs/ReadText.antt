@@ -28,7 +28,8 @@ module _ (turns numbers x : ℕ) where
   lines_are_read : turns < 2 ^ 64 → 1 ≤ numbers → numbers ≤ 100 → AreRead [] lines items
   unfolding lines items
   lines_are_read small some few =
-      AreRead-append (declaration_lines numbers) (script_lines turns numbers x all_names) [] (declarations numbers) (scripts turns numbers x all_names)
+      AreRead-append (declaration_lines numbers) (script_lines turns numbers x all_names) []
+      (declarations numbers) (scripts turns numbers x all_names)
       (declarations_are_read numbers some few)
       (scripts_are_read turns numbers small (omega (arith, some)) few x all_names [] (declarations numbers)
       (declarations_are_ready numbers) (refl, (refl, (refl, (refl, tt)))))
@@ -38,11 +39,13 @@ module _ (turns numbers x : ℕ) where
   unfolding items
   ends = refl
 
-pub program_of-generated_text : (start count : ℕ) → count ≤ 3000000 → program_of (generated_text start count) ≡ Ok (generated start count)
+pub program_of-generated_text : (start count : ℕ) → count ≤ 3000000
+    → program_of (generated_text start count) ≡ Ok (generated start count)
 unfolding generated generated_text lines items
 program_of-generated_text start count most =
     program_of-lines (generated_lines start count) (generated start count)
-    (lines_are_read (turns_of count) (numbers_of start) (next start) (omega (arith, most)) (numbers_some start) (numbers_few start))
+    (lines_are_read (turns_of count) (numbers_of start) (next start) (omega (arith, most))
+    (numbers_some start) (numbers_few start))
     (ends (turns_of count) (numbers_of start) (next start))
     refl
     refl

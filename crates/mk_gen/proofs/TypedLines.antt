@@ -30,7 +30,8 @@ fault_inside : (a : Around) (line : ℕ) (behind : List Item) (item : Item) → 
 fault_inside a line behind (Script name) inside = absurd (false≢true inside)
 fault_inside a line behind item inside = refl
 
-script_inside : (script : List Item) (item : Item) → is_inside item ≡ true → lines_behind script item ≡ script ++ item ∷ []
+script_inside : (script : List Item) (item : Item) → is_inside item ≡ true
+    → lines_behind script item ≡ script ++ item ∷ []
 script_inside script (Script name) inside = absurd (false≢true inside)
 script_inside script item inside = refl
 

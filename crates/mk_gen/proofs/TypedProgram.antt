@@ -18,10 +18,12 @@ use Rattle.mk_gen.proofs.TypedLines.{go_on, typed_then}
 use Rattle.mk_gen.proofs.TypedBody.{body_is_typed}
 
 -- A turn is 14 instructions with its own, so 62,500 turns are 875,000.
-body_is_short : (line turns number place : ℕ) → turns ≤ 62500 → length_of (blocks_from line (script_body turns number place)) ≤ 875001
+body_is_short : (line turns number place : ℕ) → turns ≤ 62500
+    → length_of (blocks_from line (script_body turns number place)) ≤ 875001
 body_is_short line turns number place few = omega (arith, few)
 
-none_before_scripts : (turns numbers x : ℕ) (names : List (List ℕ)) → before_next_script (scripts turns numbers x names) ≡ []
+none_before_scripts : (turns numbers x : ℕ) (names : List (List ℕ))
+    → before_next_script (scripts turns numbers x names) ≡ []
 none_before_scripts turns numbers x [] = refl
 none_before_scripts turns numbers x (name ∷ names) = refl
 
@@ -29,7 +31,8 @@ is_short-none : (count : ℕ) → count ≤ 1000000 → is_short count ≡ None
 is_short-none count small = rw (le-leb count 1000000 small) refl
 
 -- the first line of a script
-first_is_typed : (a : Around) (line turns number place : ℕ) (more : List Item) (name : List ℕ) → turns ≤ 62500 → before_next_script more ≡ []
+first_is_typed : (a : Around) (line turns number place : ℕ) (more : List Item) (name : List ℕ) → turns ≤ 62500
+    → before_next_script more ≡ []
     → typing_fault a line (script_body turns number place ++ more) (Script name) ≡ None
 first_is_typed a line turns number place more name few none =
     let short : length_of (blocks_from (line + 1) (script_body turns number place)) ≤ 1000000 =
@@ -64,7 +67,8 @@ numbers_are_inside : (a : Around) (count : ℕ) → pointers_are_inside a (repli
 numbers_are_inside a zero = refl
 numbers_are_inside a (suc more) = numbers_are_inside a more
 
-declarations_are_typed : (numbers : ℕ) (rest : List Item) → fault_from (declarations numbers ++ rest) 5 (declarations numbers) rest ≡ None
+declarations_are_typed : (numbers : ℕ) (rest : List Item)
+    → fault_from (declarations numbers ++ rest) 5 (declarations numbers) rest ≡ None
     → IsWellTyped (declarations numbers ++ rest)
 declarations_are_typed numbers rest none = rw (numbers_have_types _ numbers, numbers_are_inside _ numbers) none
 

@@ -7,7 +7,8 @@ use Rattle.mk_gen.specs.Draws.{next, draw}
 use Rattle.mk_gen.specs.Generated.{all_names, numbers_of, turns_of}
 use Rattle.mk_gen.specs.GeneratedText.{declaration_lines, body_lines, script_lines, text_of_lines, generated_text}
 
-pub text_of_lines-append : (lines more : List (List ℕ)) → text_of_lines (lines ++ more) ≡ text_of_lines lines ++ text_of_lines more
+pub text_of_lines-append : (lines more : List (List ℕ))
+    → text_of_lines (lines ++ more) ≡ text_of_lines lines ++ text_of_lines more
 text_of_lines-append [] more = refl
 text_of_lines-append (line ∷ lines) more =
     ap (λ text. line ++ (codes "\n" ++ text)) (text_of_lines-append lines more)

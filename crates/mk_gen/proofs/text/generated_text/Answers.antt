@@ -9,7 +9,8 @@ use Rattle.mk_gen.proofs.text.generated_text.Goals as goal
 
 pub loop-name-init : goal.loop-name-init
 loop-name-init c =
-    all_scripts_left c.args.start c.args.count (1 + c.below-numbers.result) c.below-numbers.new.self.state (string_bytes c.in_ok-text.text)
+    all_scripts_left c.args.start c.args.count (1 + c.below-numbers.result) c.below-numbers.new.self.state
+    (string_bytes c.in_ok-text.text)
     (ap (λ drawn. 1 + drawn) (c.below-numbers.ensures.drawn ∙ ap (λ x. draw (next x) 100) c.new-draws.ensures))
     (c.below-numbers.ensures.state ∙ ap next c.new-draws.ensures)
     c.in_ok-text.ensures
