@@ -19,7 +19,8 @@ pub record DeclaresNodes (program : List Item) (numbers : ℕ) : Type 0 where
   pub globals : globals_of program ≡ 0 ∷ []
   pub scripts : script_names program ≡ all_names
 
--- A turn is 14 instructions with its own, of which 12 are calls, whatever they are answered.
+-- Script k executes 1 instruction and 14 a turn. Where it has ended it has made 12 calls a turn, whatever they were
+-- answered.
 pub record MakesTurns (program : List Item) (k turns : ℕ) : Type 0 where
   pub instructions : script_length (script_of program k) ≡ 1 + 14 * turns
   pub calls :

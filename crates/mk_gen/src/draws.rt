@@ -2,16 +2,26 @@
 ghost use Rattle.std.specs.Prelude.{◌≡◌, ◌<◌};
 ghost use Rattle.mk_gen.specs.Draws.{next, draw};
 
+use std::marker::Model;
+
 /// Draws, each from the state that the one before left.
 #[derive(Drop)]
 pub struct Draws {
     state: u64,
 }
 
+impl Model for Draws {
+    ghost use Rattle.std.specs.Prelude.{ℕ};
+
+    ghost Value = { ℕ };
+
+    ghost view = { λ d. d.state };
+}
+
 impl Draws {
     /// Draws from this state on.
     pub fn new(start: u64) -> Draws
-        ensures { result.state ≡ start }
+        ensures { result ≡ start }
     {
         Draws { state: start }
     }
@@ -19,8 +29,8 @@ impl Draws {
     /// A draw below m.
     pub fn below(&mut self, m: u64) -> u64
         requires { 0 < m }
-        ensures state { self.new.state ≡ next self.old.state }
-        ensures drawn { result ≡ draw (next self.old.state) m }
+        ensures state { self.new ≡ next self.old }
+        ensures drawn { result ≡ draw (next self.old) m }
         ensures below { result < m }
     {
         self.state = self

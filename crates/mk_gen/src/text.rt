@@ -1,9 +1,8 @@
 //! The texts of the generator's programs.
-ghost use Rattle.std.specs.Prelude.{◌≡◌, ◌+◌, ◌/◌, ◌<◌, ◌≤◌, ◌++◌, [], ◌∷◌, IfOk, OnOk};
+ghost use Rattle.std.specs.Prelude.{◌≡◌, ◌++◌, ◌∷◌, IfOk, OnOk};
 ghost use Rattle.std.specs.String.{string_bytes};
 ghost use lib.Chars.{codes};
-ghost use Rattle.mk_gen.specs.Draws.{next, draw};
-ghost use Rattle.mk_gen.specs.GeneratedText.{declaration_lines, body_lines, script_lines, text_of_lines, generated_text};
+ghost use Rattle.mk_gen.specs.GeneratedText.{declaration_lines, body_lines, text_of_lines, generated_text};
 
 use crate::draws::Draws;
 use mk_never::NoMemory;
