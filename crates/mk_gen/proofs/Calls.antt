@@ -1,0 +1,163 @@
+-- How many operations a script without `if` asks for, whatever it is answered.
+use Rattle.std.proofs.Common.{◌≡◌, ℕ, zero, suc, ◌+◌, ◌*◌, Bool, true, false, List, [], ◌∷◌, length, Option, Some, None, refl, ap, ◌∙◌, sym, subst, arith, if◌then◌else◌}
+use Rattle.std.specs.Prelude.{⊤, is_some}
+use Rattle.std.proofs.lemmas.Bool.{false≢true}
+use Rattle.std.proofs.lemmas.List.{length_push}
+use Rattle.mk_never.specs.declared.operations.Op.{Op}
+use Rattle.mk_core.specs.declared.events.Answer.{Answer}
+use Rattle.mk_script.specs.declared.items.Item.{Item}
+use Rattle.mk_script.specs.declared.items.Item.TheVariants.{Getn, Print, Else}
+use Rattle.mk_check.specs.Blocks.{Blocks, Done, Line, Rounds, Choice, followed_by, is_done, blocks_from, ScriptText}
+use Rattle.mk_check.specs.Feed.{Scope, Fed, op_of, run_line, run_rounds, run, with_answer, note, take_answer, take_answers, begun, started, feed_script, has_ended}
+
+abbrev pub nowhere : Scope
+nowhere = record { types = []; globals = []; pointers = []; numbers = [] }
+
+abbrev pub nothing : Fed
+nothing = record { left = Done; numbers = []; ops = []; text = [] }
+
+-- whether the instruction takes the heap, a register or a global
+abbrev pub is_call : Item → Bool
+is_call item = is_some (op_of nowhere nothing item)
+
+asks : (scope : Scope) (fed : Fed) (item : Item) → is_some (op_of scope fed item) ≡ is_call item
+asks scope fed Else = refl
+asks scope fed item = refl
+
+-- the operations that blocks ask for
+abbrev pub calls_of : Blocks → ℕ
+calls_of Done = 0
+calls_of (Line line item rest) = (if is_call item then 1 else 0) + calls_of rest
+calls_of (Rounds rounds body rest) = rounds * calls_of body + calls_of rest
+calls_of (Choice number first second rest) = calls_of first + calls_of second + calls_of rest
+
+abbrev pub HasNoIf : Blocks → Type 0
+HasNoIf Done = ⊤
+HasNoIf (Line line item rest) = HasNoIf rest
+HasNoIf (Rounds rounds body rest) = HasNoIf body × HasNoIf rest
+HasNoIf (Choice number first second rest) = ⊥
+
+calls_of-followed_by : (a b : Blocks) → calls_of (followed_by a b) ≡ calls_of a + calls_of b
+calls_of-followed_by Done b = omega arith
+calls_of-followed_by (Line line item rest) b = omega (arith, calls_of-followed_by rest b)
+calls_of-followed_by (Rounds rounds body rest) b = omega (arith, calls_of-followed_by rest b)
+calls_of-followed_by (Choice number first second rest) b = omega (arith, calls_of-followed_by rest b)
+
+HasNoIf-followed_by : (a b : Blocks) → HasNoIf a → HasNoIf b → HasNoIf (followed_by a b)
+HasNoIf-followed_by Done b h more = more
+HasNoIf-followed_by (Line line item rest) b h more = HasNoIf-followed_by rest b h more
+HasNoIf-followed_by (Rounds rounds body rest) b h more = (h.0, HasNoIf-followed_by rest b h.1 more)
+HasNoIf-followed_by (Choice number first second rest) b h more = absurd h
+
+-- It has noted no operation more, and has so many to ask for.
+record IsLeft (calls : ℕ) (before after : Fed) : Type 0 where
+  ops : length after.ops ≡ length before.ops
+  calls_are : calls_of after.left ≡ calls
+  plain : HasNoIf after.left
+
+calls_of-done : (b : Blocks) → is_done b ≡ true → calls_of b ≡ 0
+calls_of-done Done done = refl
+calls_of-done (Line line item rest) done = absurd (false≢true done)
+calls_of-done (Rounds rounds body rest) done = absurd (false≢true done)
+calls_of-done (Choice number first second rest) done = absurd (false≢true done)
+
+-- a part runs, and what stands behind it
+left_then : (n : ℕ) (before fed : Fed) (go : Fed → Fed) (rest : Blocks) → IsLeft n before fed → HasNoIf rest
+    → ((f : Fed) → IsLeft (calls_of rest) f (go f)) → (test : Bool) → is_done fed.left ≡ test
+    → IsLeft (n + calls_of rest) before (if test then go fed else record fed { left = followed_by fed.left rest })
+left_then n before fed go rest is plain goes true done =
+    let behind = goes fed in
+    record {
+      ops = behind.ops ∙ is.ops;
+      calls_are = omega (arith, behind.calls_are, is.calls_are, calls_of-done fed.left done);
+      plain = behind.plain;
+    }
+left_then n before fed go rest is plain goes false done =
+    record {
+      ops = is.ops;
+      calls_are = calls_of-followed_by fed.left rest ∙ ap (λ calls. calls + calls_of rest) is.calls_are;
+      plain = HasNoIf-followed_by fed.left rest is.plain plain;
+    }
+
+-- the same with another count of calls that is equal
+recounted : {n m : ℕ} {before after : Fed} → n ≡ m → IsLeft n before after → IsLeft m before after
+recounted same is = record { ops = is.ops; calls_are = is.calls_are ∙ same; plain = is.plain }
+
+module _ (scope : Scope) where
+  rounds_left : (rounds : ℕ) (body : Blocks) (go : Fed → Fed) → HasNoIf body
+      → ((f : Fed) → IsLeft (calls_of body) f (go f))
+      → (fed : Fed) → IsLeft (rounds * calls_of body) fed (run_rounds rounds body go fed)
+  rounds_left zero body go plain goes fed = record { ops = refl; calls_are = omega arith; plain = tt }
+  rounds_left (suc more) body go plain goes fed =
+      let behind : (f : Fed) → IsLeft (more * calls_of body + 0) f (run_rounds more body go f) =
+      λ f. recounted (omega arith) (rounds_left more body go plain goes f) in
+      recounted (omega arith)
+      (left_then (calls_of body) fed (go fed) (run_rounds more body go) (Rounds more body Done) (goes fed) (plain, tt) behind
+      (is_done (go fed).left) refl)
+
+  line_keeps : (fed : Fed) (item : Item) → (run_line scope fed item).ops ≡ fed.ops
+  line_keeps fed (Print number) = refl
+  line_keeps fed item = refl
+
+  line_left : (line : ℕ) (item : Item) (rest : Blocks) (fed after : Fed) → HasNoIf rest
+      → IsLeft (calls_of rest) (run_line scope fed item) after → (test : Bool) → test ≡ is_call item
+      → IsLeft (calls_of (Line line item rest)) fed (if test then record fed { left = Line line item rest } else after)
+  line_left line item rest fed after plain behind true is = record { ops = refl; calls_are = refl; plain = plain }
+  line_left line item rest fed after plain behind false is = record {
+    ops = behind.ops ∙ ap length (line_keeps fed item);
+    calls_are = behind.calls_are ∙ rw (sym is) (omega arith);
+    plain = behind.plain;
+  }
+
+  run_left : (b : Blocks) → HasNoIf b → (fed : Fed) → IsLeft (calls_of b) fed (run scope b fed)
+  run_left Done plain fed = record { ops = refl; calls_are = refl; plain = tt }
+  run_left (Line line item rest) plain fed =
+      let next = run_line scope fed item in
+      line_left line item rest fed (run scope rest next) plain (run_left rest plain next)
+      (is_some (op_of scope fed item)) (asks scope fed item)
+  run_left (Rounds rounds body rest) plain fed =
+      let all = run_rounds rounds body (run scope body) fed in
+      left_then (rounds * calls_of body) fed all (run scope rest) rest
+      (rounds_left rounds body (run scope body) plain.0 (run_left body plain.0) fed) plain.1
+      (run_left rest plain.1) (is_done all.left) refl
+  run_left (Choice number first second rest) plain fed = absurd plain
+
+  answer_keeps : (fed : Fed) (item : Item) (a : Answer) → (with_answer scope fed item a).ops ≡ fed.ops
+  answer_keeps fed (Getn number pointer index) a = refl
+  answer_keeps fed item a = refl
+
+  noted : (fed : Fed) (o : Option Op) (line : ℕ) (a : Answer)
+      → length (note fed o line a).ops ≡ length fed.ops + (if is_some o then 1 else 0)
+  noted fed None line a = omega arith
+  noted fed (Some o) line a = length_push fed.ops _
+
+  -- the operations that were noted, and those that are left to ask for
+  abbrev pub total : Fed → ℕ
+  total fed = length fed.ops + calls_of fed.left
+
+  answer_left : (fed : Fed) (b : Blocks) (a : Answer) → b ≡ fed.left → HasNoIf b
+      → (total (take_answer scope fed b a) ≡ length fed.ops + calls_of b) × HasNoIf (take_answer scope fed b a).left
+  answer_left fed (Line line item rest) a is plain =
+      let after = note fed (op_of scope fed item) line a in
+      let behind = run_left rest plain (with_answer scope after item a) in
+      let ops : length (with_answer scope after item a).ops ≡ length fed.ops + (if is_call item then 1 else 0) =
+      ap length (answer_keeps after item a) ∙ noted fed (op_of scope fed item) line a ∙ rw (asks scope fed item) refl in
+      (omega (arith, behind.ops, behind.calls_are, ops), behind.plain)
+  answer_left fed b a is plain = (ap (λ left. length fed.ops + calls_of left) (sym is), subst HasNoIf is plain)
+
+  answers_left : (answers : List Answer) (fed : Fed) → HasNoIf fed.left
+      → (total (take_answers scope fed answers) ≡ total fed) × HasNoIf (take_answers scope fed answers).left
+  answers_left [] fed plain = (refl, plain)
+  answers_left (a ∷ more) fed plain =
+      let one = answer_left fed fed.left a refl plain in
+      let rest = answers_left more (take_answer scope fed fed.left a) one.1 in
+      (rest.0 ∙ one.0, rest.1)
+
+  -- a script that has ended has asked for all of its operations
+  pub ended_calls : (script : ScriptText) (answers : List Answer) → HasNoIf (blocks_from script.line script.items)
+      → has_ended (feed_script scope script answers) ≡ true
+      → length (feed_script scope script answers).ops ≡ calls_of (blocks_from script.line script.items)
+  ended_calls script answers plain ended =
+      let start = run_left (blocks_from script.line script.items) plain (begun scope script) in
+      let all = answers_left answers (started scope script) start.plain in
+      omega (arith, all.0, start.ops, start.calls_are, calls_of-done (feed_script scope script answers).left ended)

@@ -1,0 +1,77 @@
+-- What the generated programs are.
+use Rattle.std.proofs.Common.{◌≡◌, ℕ, zero, suc, ◌+◌, ◌*◌, ◌≤◌, List, [], ◌∷◌, map, refl, ap, ◌∙◌, sym, subst, arith, Ok}
+use Rattle.std.specs.Prelude.{replicate}
+use Rattle.mk_never.specs.declared.types.Kind.TheVariants.{Num, To}
+use Rattle.mk_script.specs.declared.items.Item.{Item}
+use Rattle.mk_script.specs.declared.items.TypeWord.TheVariants.{Number}
+use Rattle.mk_script.specs.Grammar.{program_of}
+use Rattle.mk_check.specs.Blocks.{blocks_from, script_of}
+use Rattle.mk_check.specs.Lengths.{length_of}
+use Rattle.mk_check.specs.Declarations.{kind_of}
+use Rattle.mk_check.specs.Feeding.{script_scope}
+use Rattle.mk_check.specs.Laws.{IsChecked, IsScript}
+use Rattle.mk_gen.specs.Generated.{node, buf, script_body, numbers_of, turns_of, generated}
+use Rattle.mk_gen.specs.GeneratedText.{generated_text}
+use Rattle.mk_gen.specs.Laws.{DeclaresNodes, MakesTurns}
+use Rattle.mk_gen.proofs.Calls.{calls_of, HasNoIf, ended_calls}
+use Rattle.mk_gen.proofs.ReadText.{program_of-generated_text}
+use Rattle.mk_gen.proofs.TypedProgram.{generated_is_well_typed}
+
+pub generated_is_of_its_text : (start count : ℕ) → count ≤ 3000000
+    → program_of (generated_text start count) ≡ Ok (generated start count)
+generated_is_of_its_text = program_of-generated_text
+
+pub generated_is_checked : (start count : ℕ) → count ≤ 3000000 → IsChecked (generated start count)
+generated_is_checked start count most = record {
+  well_typed = generated_is_well_typed start count most;
+  of_some_text = (generated_text start count, program_of-generated_text start count most);
+}
+
+kinds_of-numbers : (types : List (List ℕ)) (count : ℕ)
+    → map (kind_of types) (replicate count Number) ≡ replicate count Num
+kinds_of-numbers types zero = refl
+kinds_of-numbers types (suc more) = ap (λ kinds. Num ∷ kinds) (kinds_of-numbers types more)
+
+pub generated_declares_nodes : (start count : ℕ) → DeclaresNodes (generated start count) (numbers_of start)
+unfolding generated
+generated_declares_nodes start count = record {
+  pages = refl;
+  resident = refl;
+  types = ap (λ kinds. (Num ∷ To 0 0 ∷ []) ∷ kinds ∷ []) (kinds_of-numbers (node ∷ buf ∷ []) (numbers_of start));
+  globals = refl;
+  scripts = refl;
+}
+
+body_instructions : (line turns number place : ℕ)
+    → length_of (blocks_from line (script_body turns number place)) ≡ 1 + 14 * turns
+body_instructions line turns number place = omega arith
+
+body_calls : (line turns number place : ℕ) → calls_of (blocks_from line (script_body turns number place)) ≡ 12 * turns
+body_calls line turns number place = omega arith
+
+body_has_no_if : (line turns number place : ℕ) → HasNoIf (blocks_from line (script_body turns number place))
+body_has_no_if line turns number place = (tt, tt)
+
+-- a script of these lines
+body_makes_turns : (program : List Item) (k line turns number place : ℕ) → (script_of program k).line ≡ line
+    → (script_of program k).items ≡ script_body turns number place → MakesTurns program k turns
+body_makes_turns program k line turns number place starts is =
+    let body = blocks_from line (script_body turns number place) in
+    let script = script_of program k in
+    let blocks : blocks_from script.line script.items ≡ body = rw (starts, is) refl in
+    let plain = subst HasNoIf (sym blocks) (body_has_no_if line turns number place) in
+    record {
+      instructions = ap length_of blocks ∙ body_instructions line turns number place;
+      calls = λ answers ended.
+          ended_calls (script_scope program k) script answers plain ended
+          ∙ ap calls_of blocks ∙ body_calls line turns number place;
+    }
+
+pub generated_makes_turns : (start count k : ℕ) → IsScript (generated start count) k
+    → MakesTurns (generated start count) k (turns_of count)
+unfolding generated
+generated_makes_turns start count zero is = body_makes_turns _ 0 6 (turns_of count) _ _ refl refl
+generated_makes_turns start count (suc zero) is = body_makes_turns _ 1 27 (turns_of count) _ _ refl refl
+generated_makes_turns start count (suc (suc zero)) is = body_makes_turns _ 2 48 (turns_of count) _ _ refl refl
+generated_makes_turns start count (suc (suc (suc zero))) is = body_makes_turns _ 3 69 (turns_of count) _ _ refl refl
+generated_makes_turns start count (suc (suc (suc (suc k)))) is = absurd (omega (arith, is))

@@ -1,0 +1,13 @@
+pub mod Accepted
+pub mod Calls
+pub mod GeneratedLaws
+pub mod InScript
+pub mod ReadBody
+pub mod ReadDeclarations
+pub mod ReadLines
+pub mod ReadScripts
+pub mod ReadText
+pub mod TypedBody
+pub mod TypedLines
+pub mod TypedProgram
+pub mod Written

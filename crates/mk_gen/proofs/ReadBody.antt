@@ -1,0 +1,92 @@
+-- The lines of a script behind its name line are read.
+use Rattle.std.proofs.Common.{◌≡◌, ℕ, ◌<◌, ◌≤◌, ◌^◌, true, false, ◌&&◌, nat_eq, nat_le, not, Bool, List, [], ◌∷◌, ◌++◌, length, refl, ap, ◌∙◌, sym, subst, arith, Ok}
+use Rattle.std.specs.Fmt.{decimal}
+use Rattle.std.specs.List.{All, list_all}
+use Rattle.std.proofs.lemmas.Fmt.{length-decimal-le}
+use Rattle.std.proofs.lemmas.List.{append-nil, length-append}
+use Rattle.std.proofs.lemmas.List.Elements.{All-weaker}
+use Rattle.std.proofs.lemmas.List.Sums.{AllPass-from_list_all}
+use Rattle.std.proofs.lemmas.Bool.{and_parts, not-true, leb-true}
+use lib.Chars.{codes}
+use Rattle.mk_core.proofs.EventsAt.{◌and◌}
+use Rattle.mk_script.specs.declared.items.Item.{Item}
+use Rattle.mk_script.specs.declared.items.Item.TheVariants.{Script}
+use Rattle.mk_script.specs.Words.{words_of}
+use Rattle.mk_script.specs.Spaced.{joined}
+use Rattle.mk_script.specs.Lines.{line_item, checked_item}
+use Rattle.mk_script.specs.Operands.{item_from}
+use Rattle.mk_script.proofs.LineWords.{is_word-decimal, AreWords, words_of-joined, without_newline}
+use Rattle.mk_script.proofs.PrintedForms.{read_number}
+use Rattle.mk_gen.specs.Generated.{script_body}
+use Rattle.mk_gen.specs.GeneratedText.{body_lines}
+use Rattle.mk_gen.proofs.ReadLines.{IsRead, AreRead}
+
+-- at most 40 bytes, without a newline
+abbrev pub is_plain : List ℕ → Bool
+is_plain line = list_all (λ byte. not (nat_eq byte 10)) line && nat_le (length line) 40
+
+-- a line of which all is known
+pub plain : {before : List Item} {line : List ℕ} {item : Item} → line_item before (words_of line) ≡ Ok item
+    → checked_item before item ≡ Ok item → is_plain line ≡ true → IsRead before line item
+plain {before} {line} {item} says passes whole =
+    let parts = and_parts _ _ whole in
+    let each = AllPass-from_list_all (λ byte. not (nat_eq byte 10)) line parts.0 in
+    record {
+      says = says;
+      passes = passes;
+      is_whole = All-weaker (λ byte. not (nat_eq byte 10) ≡ true) (λ byte. nat_eq byte 10 ≡ false)
+          (λ byte. not-true (nat_eq byte 10)) line each;
+      is_short = leb-true _ _ parts.1;
+    }
+
+-- a line by its words
+pub by_words : {before : List Item} {line : List ℕ} {item : Item} (words : List (List ℕ)) → line ≡ joined words
+    → AreWords words
+    → line_item before words ≡ Ok item → checked_item before item ≡ Ok item → length line ≤ 40 → IsRead before line item
+by_words {before} {line} {item} words is apart says passes short = record {
+  says = ap (λ text. line_item before (words_of text)) is ∙ ap (line_item before) (words_of-joined words apart) ∙ says;
+  passes = passes;
+  is_whole = subst (All (λ byte. nat_eq byte 10 ≡ false)) (sym is) (without_newline words apart);
+  is_short = short;
+}
+
+pub length-decimal : (n : ℕ) → n < 2 ^ 64 → length (decimal n) ≤ 20
+length-decimal n small = length-decimal-le 20 n (omega arith) (omega arith) small
+
+ends_with : (front digits : List ℕ) → front ++ digits ≡ front ++ (digits ++ [])
+ends_with front digits = ap (λ text. front ++ text) (sym (append-nil digits))
+
+pub body_is_read : (turns number place : ℕ) → turns < 2 ^ 64 → number < 2 ^ 64 → place < 2 ^ 64
+    → AreRead (Script [] ∷ []) (body_lines turns number place) (script_body turns number place)
+unfolding item_from
+body_is_read turns number place t a i =
+    plain refl refl refl
+    and plain refl refl refl
+    and plain refl refl refl
+    and plain refl refl refl
+    and plain refl refl refl
+    and by_words (codes "repeat" ∷ decimal turns ∷ [])
+    (ends_with (codes "repeat ") (decimal turns))
+    (refl, (is_word-decimal turns t, tt))
+    (read_number turns t _ refl) refl (omega (arith, length-decimal turns t))
+    and plain refl refl refl
+    and by_words (codes "const" ∷ codes "n" ∷ decimal number ∷ [])
+    (ends_with (codes "const n ") (decimal number))
+    (refl, (refl, (is_word-decimal number a, tt)))
+    (read_number number a _ refl) refl (omega (arith, length-decimal number a))
+    and plain refl refl refl
+    and plain refl refl refl
+    and plain refl refl refl
+    and plain refl refl refl
+    and plain refl refl refl
+    and plain refl refl refl
+    and by_words (codes "setn" ∷ codes "b" ∷ decimal place ∷ codes "n" ∷ [])
+    refl
+    (refl, (refl, (is_word-decimal place i, (refl, tt))))
+    (read_number place i _ refl) refl (omega (arith, length-decimal place i, length-append (decimal place) (codes " n")))
+    and plain refl refl refl
+    and plain refl refl refl
+    and plain refl refl refl
+    and plain refl refl refl
+    and plain refl refl refl
+    and tt

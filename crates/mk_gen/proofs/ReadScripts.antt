@@ -1,0 +1,110 @@
+-- The scripts are read, each behind those before it.
+use Rattle.std.proofs.Common.{◌≡◌, ℕ, ◌+◌, ◌/◌, ◌<◌, ◌≤◌, ◌^◌, Bool, true, ◌&&◌, not, nat_le, List, [], ◌∷◌, ◌++◌, length, refl, ap, ◌∙◌, sym, arith, Ok}
+use Rattle.std.proofs.Math.Nat.{mod-lt}
+use Rattle.std.proofs.lemmas.Bool.{false≢true, and_parts, not-true, leb-true}
+use Rattle.std.proofs.lemmas.List.{append-nil}
+use Rattle.std.proofs.lemmas.List.Sums.{fold-append}
+use lib.Chars.{codes}
+use Rattle.mk_core.proofs.EventsAt.{◌and◌}
+use Rattle.mk_script.specs.declared.items.Item.{Item}
+use Rattle.mk_script.specs.declared.items.Item.TheVariants.{Script}
+use Rattle.mk_script.specs.Names.{is_name}
+use Rattle.mk_script.specs.Operands.{item_from}
+use Rattle.mk_script.specs.ScopeOf.{has_lines}
+use Rattle.mk_script.specs.Scopes.{script_names, open_behind, open_blocks}
+use Rattle.mk_script.specs.Lines.{line_item, is_among}
+use Rattle.mk_script.proofs.Said.{is_word-name}
+use Rattle.mk_script.proofs.PrintedForms.{read_name}
+use Rattle.mk_gen.specs.Draws.{next, draw}
+use Rattle.mk_gen.specs.Generated.{script_body, scripts}
+use Rattle.mk_gen.specs.GeneratedText.{body_lines, script_lines}
+use Rattle.mk_gen.proofs.ReadLines.{IsRead, AreRead, AreRead-append}
+use Rattle.mk_gen.proofs.InScript.{alike_at_first, AreRead-alike}
+use Rattle.mk_gen.proofs.ReadBody.{by_words, body_is_read}
+
+-- lines with these scripts, behind which another may begin
+pub record AreReady (before : List Item) (names : List (List ℕ)) : Type 0 where
+  pub some : has_lines before ≡ true
+  pub names_are : script_names before ≡ names
+  pub closed : open_blocks before ≡ []
+
+-- whether a script of this name may begin behind these
+abbrev pub may_begin : List (List ℕ) → List ℕ → Bool
+may_begin names name = is_name name && not (is_among name names) && nat_le (length names + 1) 16
+
+abbrev pub MayBegin : List (List ℕ) → List (List ℕ) → Type 0
+MayBegin before [] = Unit {0}
+MayBegin before (name ∷ names) = (may_begin before name ≡ true) × MayBegin (before ++ name ∷ []) names
+
+script_says : (before : List Item) (name : List ℕ) → has_lines before ≡ true → is_name name ≡ true
+    → line_item before (codes "script" ∷ name ∷ []) ≡ Ok (Script name)
+unfolding item_from
+script_says [] name some named = absurd (false≢true some)
+script_says (first ∷ before) name some named = read_name name named _ refl
+
+-- a script's first line
+first_is_read : (before : List Item) (names : List (List ℕ)) (name : List ℕ) → AreReady before names
+    → may_begin names name ≡ true
+    → IsRead before (codes "script " ++ name) (Script name)
+first_is_read before names name ready may =
+    let parts = and_parts _ _ may in
+    let begins = and_parts _ _ parts.0 in
+    let short : length name ≤ 16 = leb-true _ _ (and_parts _ _ (and_parts _ _ (and_parts _ _ begins.0).0).0).1 in
+    by_words (codes "script" ∷ name ∷ [])
+    (ap (λ word. codes "script " ++ word) (sym (append-nil name)))
+    (refl, (is_word-name name begins.0, tt))
+    (script_says before name ready.some begins.0)
+    (rw (ready.names_are, not-true _ begins.1, parts.1, ready.closed) refl)
+    (omega (arith, short))
+
+script_names-append : (items behind : List Item)
+    → script_names (items ++ behind) ≡ script_names items ++ script_names behind
+script_names-append [] behind = refl
+script_names-append (Script name ∷ items) behind = ap (λ names. name ∷ names) (script_names-append items behind)
+script_names-append (item ∷ items) behind = script_names-append items behind
+
+has_lines-append : (items behind : List Item) → has_lines items ≡ true → has_lines (items ++ behind) ≡ true
+has_lines-append [] behind some = absurd (false≢true some)
+has_lines-append (item ∷ items) behind some = refl
+
+module _ (turns number place : ℕ) where
+  abbrev pub script_items : List ℕ → List Item
+  script_items name = Script name ∷ script_body turns number place
+
+  ready_behind : (before : List Item) (names : List (List ℕ)) (name : List ℕ) → AreReady before names
+      → AreReady (before ++ script_items name) (names ++ name ∷ [])
+  ready_behind before names name ready = record {
+    some = has_lines-append before (script_items name) ready.some;
+    names_are = script_names-append before (script_items name) ∙ ap (λ others. others ++ name ∷ []) ready.names_are;
+    closed = fold-append open_behind [] before (script_items name);
+  }
+
+  script_is_read : turns < 2 ^ 64 → number < 2 ^ 64 → place < 2 ^ 64
+      → (before : List Item) (names : List (List ℕ)) (name : List ℕ)
+      → AreReady before names → may_begin names name ≡ true
+      → AreRead before ((codes "script " ++ name) ∷ body_lines turns number place) (script_items name)
+  script_is_read t a i before names name ready may =
+      first_is_read before names name ready may
+      and AreRead-alike (body_lines turns number place) (script_body turns number place)
+      (Script [] ∷ []) (before ++ Script name ∷ [])
+      (alike_at_first before name) refl (body_is_read turns number place t a i)
+
+pub draw-lt : (x m : ℕ) → 0 < m → draw x m < m
+draw-lt x m some = mod-lt (x / 2 ^ 33) some
+
+module _ (turns numbers : ℕ) (t : turns < 2 ^ 64) (some : 0 < numbers) (few : numbers ≤ 100) where
+  pub scripts_are_read : (x : ℕ) (names before_names : List (List ℕ)) (before : List Item)
+      → AreReady before before_names
+      → MayBegin before_names names → AreRead before (script_lines turns numbers x names) (scripts turns numbers x names)
+  scripts_are_read x [] before_names before ready may = tt
+  scripts_are_read x (name ∷ names) before_names before ready may =
+      let number = draw (next x) 1000 in
+      let place = draw (next (next x)) numbers in
+      let behind = next (next x) in
+      let number_small : number < 2 ^ 64 = omega (arith, draw-lt (next x) 1000 (omega arith)) in
+      let place_small : place < 2 ^ 64 = omega (arith, draw-lt behind numbers some, few) in
+      let script = script_is_read turns number place t number_small place_small before before_names name ready may.0 in
+      let ready' = ready_behind turns number place before before_names name ready in
+      AreRead-append ((codes "script " ++ name) ∷ body_lines turns number place) (script_lines turns numbers behind names)
+      before (script_items turns number place name) (scripts turns numbers behind names) script
+      (scripts_are_read behind names (before_names ++ name ∷ []) (before ++ script_items turns number place name) ready' may.1)

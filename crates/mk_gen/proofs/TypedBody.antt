@@ -1,0 +1,39 @@
+-- The lines of a script behind its name line are well typed.
+use Rattle.std.proofs.Common.{◌≡◌, ℕ, ◌+◌, ◌<◌, List, [], ◌++◌, refl, sym, arith, Some}
+use Rattle.std.specs.Prelude.{replicate, slice_get}
+use Rattle.std.proofs.lemmas.List.{length-replicate, get_or-replicate}
+use Rattle.std.proofs.lemmas.Option.{slice_get_read}
+use Rattle.mk_core.proofs.EventsAt.{◌and◌}
+use Rattle.mk_script.specs.declared.items.Item.{Item}
+use Rattle.mk_script.specs.declared.items.TypeWord.TheVariants.{Number}
+use Rattle.mk_gen.specs.Generated.{declarations, script_body}
+use Rattle.mk_gen.proofs.TypedLines.{typed, AreTyped}
+
+slice_get-replicate : {A : Type 0} (n i : ℕ) (x : A) → i < n → slice_get (replicate n x) i ≡ Some x
+slice_get-replicate n i x inside =
+    slice_get_read (replicate n x) n i x (sym (length-replicate n x)) inside (sym (get_or-replicate n i x x inside))
+
+pub body_is_typed : (numbers turns number place : ℕ) (rest : List Item) → place < numbers
+    → AreTyped (declarations numbers ++ rest) [] (script_body turns number place)
+body_is_typed numbers turns number place rest inside =
+    typed refl refl
+    and typed refl refl
+    and typed refl refl
+    and typed refl (rw (slice_get-replicate numbers 0 Number (omega (arith, inside))) refl)
+    and typed refl refl
+    and typed refl refl
+    and typed refl refl
+    and typed refl refl
+    and typed refl refl
+    and typed refl refl
+    and typed refl refl
+    and typed refl refl
+    and typed refl refl
+    and typed refl refl
+    and typed refl (rw (slice_get-replicate numbers (0 + place) Number (omega (arith, inside))) refl)
+    and typed refl refl
+    and typed refl refl
+    and typed refl refl
+    and typed refl refl
+    and typed refl refl
+    and tt

@@ -1,0 +1,82 @@
+-- The generated program is well typed.
+use Rattle.std.proofs.Common.{◌≡◌, ℕ, zero, suc, ◌+◌, ◌<◌, ◌≤◌, List, [], ◌∷◌, ◌++◌, refl, arith, None}
+use Rattle.std.specs.Prelude.{replicate}
+use Rattle.std.proofs.lemmas.Bool.{le-leb}
+use Rattle.mk_script.specs.declared.items.Item.{Item}
+use Rattle.mk_script.specs.declared.items.Item.TheVariants.{Script}
+use Rattle.mk_script.specs.declared.items.TypeWord.TheVariants.{Number}
+use Rattle.mk_script.specs.Scopes.{this_script}
+use Rattle.mk_check.specs.Blocks.{before_next_script, blocks_from}
+use Rattle.mk_check.specs.Lengths.{length_of}
+use Rattle.mk_check.specs.Typing.{Around, is_short, pointers_have_types, pointers_are_inside, typing_fault, fault_from, IsWellTyped}
+use Rattle.mk_check.proofs.LookupLemmas.{this_script-push}
+use Rattle.mk_gen.specs.Draws.{next, draw}
+use Rattle.mk_gen.specs.Generated.{all_names, declarations, script_body, scripts, numbers_of, turns_of, generated}
+use Rattle.mk_gen.proofs.ReadScripts.{draw-lt}
+use Rattle.mk_gen.proofs.ReadText.{numbers_some}
+use Rattle.mk_gen.proofs.TypedLines.{go_on, typed_then}
+use Rattle.mk_gen.proofs.TypedBody.{body_is_typed}
+
+-- A turn is 14 instructions with its own, so 62,500 turns are 875,000.
+body_is_short : (line turns number place : ℕ) → turns ≤ 62500
+    → length_of (blocks_from line (script_body turns number place)) ≤ 875001
+body_is_short line turns number place few = omega (arith, few)
+
+none_before_scripts : (turns numbers x : ℕ) (names : List (List ℕ))
+    → before_next_script (scripts turns numbers x names) ≡ []
+none_before_scripts turns numbers x [] = refl
+none_before_scripts turns numbers x (name ∷ names) = refl
+
+is_short-none : (count : ℕ) → count ≤ 1000000 → is_short count ≡ None
+is_short-none count small = rw (le-leb count 1000000 small) refl
+
+-- the first line of a script
+first_is_typed : (a : Around) (line turns number place : ℕ) (more : List Item) (name : List ℕ) → turns ≤ 62500
+    → before_next_script more ≡ []
+    → typing_fault a line (script_body turns number place ++ more) (Script name) ≡ None
+first_is_typed a line turns number place more name few none =
+    let short : length_of (blocks_from (line + 1) (script_body turns number place)) ≤ 1000000 =
+    omega (arith, body_is_short (line + 1) turns number place few) in
+    rw none (is_short-none (length_of (blocks_from (line + 1) (script_body turns number place))) short)
+
+module _ (turns numbers : ℕ) (rest : List Item) (few : turns ≤ 62500) (some : 0 < numbers) where
+  program : List Item
+  program = declarations numbers ++ rest
+
+  scripts_are_typed : (names : List (List ℕ)) (x line : ℕ) (before : List Item)
+      → fault_from program line before (scripts turns numbers x names) ≡ None
+  unfolding program
+  scripts_are_typed [] x line before = refl
+  scripts_are_typed (name ∷ names) x line before =
+      let number = draw (next x) 1000 in
+      let behind = next (next x) in
+      let place = draw behind numbers in
+      let more = scripts turns numbers behind names in
+      let around : Around = record { program = program; script = this_script before } in
+      go_on line _ _
+      (first_is_typed around line turns number place more name few (none_before_scripts turns numbers behind names))
+      (typed_then program [] (before ++ Script name ∷ []) (script_body turns number place) more (line + 1)
+      (this_script-push before (Script name)) (body_is_typed numbers turns number place rest (draw-lt behind numbers some))
+      (λ later. scripts_are_typed names behind later ((before ++ Script name ∷ []) ++ script_body turns number place)))
+
+numbers_have_types : (a : Around) (count : ℕ) → pointers_have_types a (replicate count Number) ≡ None
+numbers_have_types a zero = refl
+numbers_have_types a (suc more) = numbers_have_types a more
+
+numbers_are_inside : (a : Around) (count : ℕ) → pointers_are_inside a (replicate count Number) ≡ None
+numbers_are_inside a zero = refl
+numbers_are_inside a (suc more) = numbers_are_inside a more
+
+declarations_are_typed : (numbers : ℕ) (rest : List Item)
+    → fault_from (declarations numbers ++ rest) 5 (declarations numbers) rest ≡ None
+    → IsWellTyped (declarations numbers ++ rest)
+declarations_are_typed numbers rest none = rw (numbers_have_types _ numbers, numbers_are_inside _ numbers) none
+
+pub generated_is_well_typed : (start count : ℕ) → count ≤ 3000000 → IsWellTyped (generated start count)
+unfolding generated program
+generated_is_well_typed start count most =
+    let numbers = numbers_of start in
+    let rest = scripts (turns_of count) numbers (next start) all_names in
+    declarations_are_typed numbers rest
+    (scripts_are_typed (turns_of count) numbers rest (omega (arith, most)) (omega (arith, numbers_some start))
+    all_names (next start) 5 (declarations numbers))

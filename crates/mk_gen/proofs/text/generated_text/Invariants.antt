@@ -1,0 +1,11 @@
+-- The text so far, and the lines of the scripts that are left.
+use Rattle.std.proofs.Common.{◌≡◌, ◌++◌, drop}
+use Rattle.std.specs.String.{string_bytes}
+use Rattle.mk_gen.specs.Generated.{turns_of, all_names}
+use Rattle.mk_gen.specs.GeneratedText.{script_lines, text_of_lines, generated_text}
+use Rattle.mk_gen.proofs.text.generated_text.Given as goal
+
+abbrev pub invariant-loop-name : goal.invariant-loop-name
+invariant-loop-name l =
+    string_bytes l.text ++ text_of_lines (script_lines (turns_of l.count) l.numbers l.draws (drop l.name-index all_names))
+    ≡ generated_text l.start l.count

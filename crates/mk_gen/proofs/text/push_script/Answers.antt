@@ -1,0 +1,8 @@
+-- The pieces that are written are the lines, each with its newline.
+use Rattle.std.proofs.Common.{append_assoc}
+use Rattle.std.specs.Fmt.{decimal}
+use lib.Chars.{codes}
+use Rattle.mk_gen.proofs.text.push_script.Goals as goal
+
+pub returns-in-Ok : goal.returns-in-Ok
+returns-in-Ok c = rw (append_assoc (decimal c.args.place) (codes " n")) c.in-Ok.ensures.bytes

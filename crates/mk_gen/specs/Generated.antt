@@ -1,0 +1,94 @@
+-- The programs of the generator, line by line.
+use Rattle.std.specs.Prelude.{ℕ, ◌+◌, ◌/◌, List, [], ◌∷◌, ◌++◌, replicate}
+use lib.Chars.{codes}
+use Rattle.mk_script.specs.declared.items.TypeWord.TheVariants.{Number, Pointer}
+use Rattle.mk_script.specs.declared.items.Item.{Item}
+use Rattle.mk_script.specs.declared.items.Item.TheVariants.{Heap, TypeLine, Global, Script, Ptr, Num, New, Free, Getn, Setn, Setp, Clear, Loadg, Storeg, Const, Repeat, End}
+use Rattle.mk_check.specs.Typing.{base_of}
+use Rattle.mk_gen.specs.Draws.{next, draw}
+
+-- The names of the types, the registers, the global and the scripts.
+
+abbrev pub node : List ℕ
+node = codes "Node"
+
+abbrev pub buf : List ℕ
+buf = codes "Buf"
+
+abbrev pub p : List ℕ
+p = codes "p"
+
+abbrev pub q : List ℕ
+q = codes "q"
+
+abbrev pub z : List ℕ
+z = codes "z"
+
+abbrev pub b : List ℕ
+b = codes "b"
+
+abbrev pub n : List ℕ
+n = codes "n"
+
+abbrev pub g : List ℕ
+g = codes "g"
+
+abbrev pub all_names : List (List ℕ)
+all_names = codes "s0" ∷ codes "s1" ∷ codes "s2" ∷ codes "s3" ∷ []
+
+-- The lines before the first script. A Node is a number and a link, and a Buf has so many numbers.
+abbrev pub declarations : ℕ → List Item
+declarations numbers =
+    Heap 256 256 ∷
+    TypeLine node (Number ∷ Pointer (base_of node) ∷ []) ∷
+    TypeLine buf (replicate numbers Number) ∷
+    Global g node ∷
+    []
+
+-- The lines of a script behind its name line: its registers, and so many turns. In each a new Node gets the number and
+-- goes into the global, the Node that is then read there is linked to for a while, and the number found in that goes to
+-- this place of a new Buf. Both are freed.
+abbrev pub script_body : ℕ → ℕ → ℕ → List Item
+script_body turns number place =
+    Ptr p (base_of node) ∷
+    Ptr q (base_of node) ∷
+    Ptr z (base_of node) ∷
+    Ptr b (base_of buf) ∷
+    Num n ∷
+    Repeat turns ∷
+    New p node ∷
+    Const n number ∷
+    Setn p 0 n ∷
+    Storeg p g ∷
+    Loadg q g ∷
+    Getn n q 0 ∷
+    Setp p 1 q ∷
+    New b buf ∷
+    Setn b place n ∷
+    Free b ∷
+    Clear b ∷
+    Setp p 1 z ∷
+    Free p ∷
+    End ∷
+    []
+
+-- Scripts of these names, where x is the state before their draws: each draws its number, below 1000, and then its
+-- place, which is one of a Buf.
+abbrev pub scripts : ℕ → ℕ → ℕ → List (List ℕ) → List Item
+scripts turns numbers x [] = []
+scripts turns numbers x (name ∷ names) =
+    (Script name ∷ script_body turns (draw (next x) 1000) (draw (next (next x)) numbers))
+    ++ scripts turns numbers (next (next x)) names
+
+-- the numbers of a Buf, which are drawn first
+abbrev pub numbers_of : ℕ → ℕ
+numbers_of start = 1 + draw (next start) 100
+
+-- the turns of each script
+abbrev pub turns_of : ℕ → ℕ
+turns_of count = count / 48
+
+-- the program
+unfoldable pub generated : ℕ → ℕ → List Item
+generated start count =
+    declarations (numbers_of start) ++ scripts (turns_of count) (numbers_of start) (next start) all_names
