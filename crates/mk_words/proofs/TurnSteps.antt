@@ -240,6 +240,24 @@ hold_holds p j n q t own history none =
     (get_or-set_same gs j (if slice_index gs j == 0 then 2 else slice_index gs j) 0 (omega arith)
     ∙ ap (λ (b : Bool). if b then 2 else slice_index gs j) (eq-eqb (slice_index gs j) 0 (sym t.tells ∙ none)))
 
+pub hold_misses : (p : PassState) (j n : ℕ) (q : PassState) → Tells p (step.Hold j) n q → Has p.seats p.seat → IsHistory q.table.config q.seen → n ≢ 0
+    → is_held (now_of q).words j ≡ false
+hold_misses p j n q t own history some =
+    let d = made p (step.Hold j) q t.makes own history in
+    let c : Config = p.table.config in
+    let lt : j < c.callers = ltb-true j c.callers (and_parts (nat_lt j c.callers) (not (is_number_of p.seat j)) d.meets.range).0 in
+    let long = (histories_keep_lengths c (p.seen ++ t.makes.others)).gates in
+    let few = d.known.small in
+    let gs : List ℕ = (moment_of t.makes).words.gates in
+    let least = d.protocol.gate j lt in
+    let two : slice_index gs j ≢ 2 = eqb-false (slice_index gs j) 2 (not-true (slice_index gs j == 2) d.meets.gates) in
+    let zero_not : slice_index gs j ≢ 0 = λ z. some (t.tells ∙ z) in
+    ap (λ (w : World). is_held w.now.words j) d.world
+    ∙ ap (λ (x : ℕ). x == 2)
+      (get_or-set_same gs j (if slice_index gs j == 0 then 2 else slice_index gs j) 0 (omega arith)
+      ∙ ap (λ (b : Bool). if b then 2 else slice_index gs j) (ne_eqb (slice_index gs j) 0 zero_not))
+    ∙ ne_eqb (slice_index gs j) 2 two
+
 -- `take`
 
 pub all_from : (n : ℕ) (test : ℕ → Bool) → ((k : ℕ) → k < n → test k ≡ true) → all_below n test ≡ true

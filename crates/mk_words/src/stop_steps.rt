@@ -26,6 +26,7 @@ impl Turn {
         ensures found { OnOk result (Finds self.old.pass (step.Hold caller) 0 self.new.pass) }
         ensures held { OnOk result (is_held (now_of self.new.pass).words caller ≡ true) }
         ensures in_call { OnErr result (Finds self.old.pass (step.Hold caller) 1 self.new.pass) }
+        ensures not_held { OnErr result (is_held (now_of self.new.pass).words caller ≡ false) }
     {
         let found = self.perform(
             words,
