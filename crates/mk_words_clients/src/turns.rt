@@ -16,11 +16,14 @@ fn hold_once(words: &Words, turn: &mut Turn, caller: u64)
     ensures tidy { TalliesAreTidy turn.old.pass.table.config turn.old.pass.seen → TalliesAreTidy turn.new.pass.table.config turn.new.pass.seen }
 {
     turn.is_in_order();
-    if turn.try_hold(words, caller).is_ok() {
-        turn.is_in_order();
-        turn.look(words, Word::Reg { caller, register: 0 });
-        turn.is_in_order();
-        turn.open_gate(words, caller);
+    match turn.try_hold(words, caller) {
+        Ok(()) => {
+            turn.is_in_order();
+            turn.look(words, Word::Reg { caller, register: 0 });
+            turn.is_in_order();
+            turn.open_gate(words, caller);
+        }
+        Err(_) => {}
     }
 }
 
