@@ -44,7 +44,12 @@ impl Turn {
         ensures op { self.new.op ≡ self.old.op }
         ensures acts { Acts self.old.pass (step.Open caller) self.new.pass }
     {
-        self.perform(words, Step::Open(caller), TableWord::Named(Word::Gate(caller)), Access::Store(0));
+        self.perform(
+            words,
+            Step::Open(caller),
+            TableWord::Named(Word::Gate(caller)),
+            Access::Store(0),
+        );
     }
 
     /// Decides a New for which there is no room, behind a cycle of its own.
@@ -65,7 +70,12 @@ impl Turn {
         ensures op { self.new.op ≡ self.old.op }
         ensures acts { Acts self.old.pass step.Begin self.new.pass }
     {
-        self.perform(words, Step::Begin, TableWord::Named(Word::Phase), Access::Add(1));
+        self.perform(
+            words,
+            Step::Begin,
+            TableWord::Named(Word::Phase),
+            Access::Add(1),
+        );
     }
 
     /// Says that all is over, where the host has the seats of all callers.

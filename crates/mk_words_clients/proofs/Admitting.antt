@@ -1,8 +1,7 @@
 -- Which steps are admitted: those whose operation is, where the call is decided.
-use Rattle.std.proofs.Common.{◌≡◌, ℕ, List, [], ◌∷◌, ◌++◌, Option, refl, sym, ◌∙◌, ap, subst, append-nil, append_assoc}
+use Rattle.std.proofs.Common.{◌≡◌, List, [], ◌∷◌, ◌++◌, Option, sym, ◌∙◌, ap, subst, append-nil, append_assoc}
 use Rattle.std.specs.Prelude.{Some, None}
 use Rattle.mk_never.specs.declared.operations.Op.{Op}
-use Rattle.mk_never.specs.NeverHeap.{Call}
 use Rattle.mk_never.specs.Admitted.{IsAdmitted, AreAdmitted}
 use Rattle.mk_core.specs.declared.config.Config.{Config}
 use Rattle.mk_core.specs.declared.events.Answer.{Answer}
@@ -12,8 +11,7 @@ use Rattle.mk_core.specs.declared.events.Step.{Step}
 use Rattle.mk_core.specs.Accesses.{caller_number}
 use Rattle.mk_core.specs.Decided.{Decided, flagged, entry_of, asked}
 use Rattle.mk_core.specs.Effects.{answer_decided}
-use Rattle.mk_core.specs.History.{first_world, left, calls_from, call_decided, calls, never_behind, CallsAreAdmitted, IsHistory}
-use Rattle.mk_core.specs.Moments.{flight_of}
+use Rattle.mk_core.specs.History.{left, calls_from, call_decided, never_behind, IsHistory}
 use Rattle.mk_core.proofs.HistoryParts.{admitted_in_parts}
 use Rattle.mk_words.specs.States.{PassState, now_of, call_of, event_of}
 use Rattle.mk_words.specs.Steps.{IsAdmittedTo, Makes}

@@ -1,6 +1,6 @@
 -- What a turn knows of the table behind its own steps.
-use Rattle.std.proofs.Common.{◌≡◌, ◌≢◌, ◌⊎◌, inl, inr, ⊎_elim, ℕ, zero, suc, ◌+◌, ◌<◌, ◌≤◌, Bool, true, false, List, [], ◌∷◌, ◌++◌, length, Option, refl, sym, ◌∙◌, ap, subst, append_assoc, arith}
-use Rattle.std.specs.Prelude.{slice_index, slice_set, ◌==◌, ◌||◌, not, nat_lt, None, if◌then◌else◌}
+use Rattle.std.proofs.Common.{◌≡◌, ◌≢◌, ◌⊎◌, inl, inr, ℕ, ◌+◌, ◌<◌, ◌≤◌, Bool, true, false, List, [], ◌∷◌, ◌++◌, length, Option, refl, sym, ◌∙◌, ap, subst, arith}
+use Rattle.std.specs.Prelude.{slice_index, slice_set, ◌==◌, not, nat_lt, None}
 use Rattle.std.proofs.lemmas.Bool.{cases_lt, cases_eq, eqb-false, eqb-true, ne_eqb, eq-eqb, lt-ltb, and_from, true≢false}
 use Rattle.std.proofs.lemmas.List.{get_or-set_other, get_or-set_same, get_or_past, length-set}
 use Rattle.mk_geom.specs.PageUses.{words_held_among}
@@ -14,7 +14,7 @@ use Rattle.mk_core.specs.declared.events.Step.TheVariants as step
 use Rattle.mk_core.specs.declared.events.Event.{Event}
 use Rattle.mk_core.specs.declared.seats.Holding.{Holding}
 use Rattle.mk_core.specs.declared.seats.RunPages.{RunPages}
-use Rattle.mk_core.specs.Words.{Words, phase_of}
+use Rattle.mk_core.specs.Words.{phase_of}
 use Rattle.mk_core.specs.Moments.{Moment, none_is_held, is_held}
 use Rattle.mk_core.specs.Ranges.{has_phase}
 use Rattle.mk_core.specs.TurnConditions.{words_held}
@@ -22,12 +22,10 @@ use Rattle.mk_core.specs.Effects.{moment_behind}
 use Rattle.mk_core.specs.History.{World, world_behind}
 use Rattle.mk_core.specs.Frames.{Steady, steady_of}
 use Rattle.mk_protocol.proofs.Asked.{none_held}
-use Rattle.mk_words.specs.States.{PassState, now_of, world_of, event_of}
-use Rattle.mk_words.specs.Steps.{Finds, found_by}
+use Rattle.mk_words.specs.States.{PassState, now_of, world_of}
 use Rattle.mk_words.specs.TurnSteps.{world_at, Acts}
 use Rattle.mk_words.proofs.TurnSteps.{all_from}
 use Rattle.mk_core.specs.declared.events.Word.TheVariants as word
-use Rattle.mk_core.specs.declared.seats.Flight.{Flight}
 use Rattle.mk_core.specs.Calls.{at_rest}
 use Rattle.mk_core.specs.Moments.{outside}
 use Rattle.mk_core.specs.Order.{is_open_to, group_of, comes_next_to_host}

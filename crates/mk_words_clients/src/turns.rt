@@ -19,7 +19,13 @@ fn hold_once(words: &Words, turn: &mut Turn, caller: u64)
     match turn.try_hold(words, caller) {
         Ok(()) => {
             turn.is_in_order();
-            turn.look(words, Word::Reg { caller, register: 0 });
+            turn.look(
+                words,
+                Word::Reg {
+                    caller,
+                    register: 0,
+                },
+            );
             turn.is_in_order();
             turn.open_gate(words, caller);
         }

@@ -1,9 +1,8 @@
-use Rattle.std.proofs.Common.{refl, sym, ◌∙◌, ap, subst, arith, ◌<◌, ℕ}
-use Rattle.mk_core.specs.declared.config.Config.{Config}
+use Rattle.std.proofs.Common.{refl, sym, subst, ◌<◌, ℕ}
 use Rattle.mk_core.specs.declared.events.Step.TheVariants as step
 use Rattle.mk_core.specs.declared.events.Word.TheVariants as word
 use Rattle.mk_words.specs.States.{PassState, WordsState}
-use Rattle.mk_words_clients.proofs.TurnFacts.{settled, settled_kept, given_back, none_held_is, hold_leaves, look_leaves, look_holds, open_leaves, miss_leaves, tidy_kept, hold_may, look_may, open_may}
+use Rattle.mk_words_clients.proofs.TurnFacts.{settled, settled_kept, given_back, none_held_is, hold_leaves, look_leaves, open_leaves, miss_leaves, tidy_kept, hold_may}
 use Rattle.mk_words_clients.proofs.turns.hold_once.Goals as goal
 
 pub try_hold-requires-clause-enabled : goal.try_hold-requires-clause-enabled
