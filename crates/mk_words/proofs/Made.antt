@@ -1,13 +1,12 @@
 -- What is known of a step that was made, of whatever kind.
-use Rattle.std.proofs.Common.{◌≡◌, ℕ, true, List, [], ◌∷◌, ◌++◌, refl, sym, ◌∙◌, ap, subst}
+use Rattle.std.proofs.Common.{◌≡◌, List, [], ◌∷◌, ◌++◌, ◌∙◌, ap, subst}
 use Rattle.mk_core.specs.declared.config.Config.{Config}
-use Rattle.mk_core.specs.declared.events.Seat.{Seat}
 use Rattle.mk_core.specs.declared.events.Step.{Step}
 use Rattle.mk_core.specs.declared.events.Event.{Event}
 use Rattle.mk_core.specs.Layout.{IsOfTable}
 use Rattle.mk_core.specs.Accesses.{reached}
 use Rattle.mk_core.specs.Enabled.{MeetsAll}
-use Rattle.mk_core.specs.History.{World, first_world, world_behind, left, IsHistory}
+use Rattle.mk_core.specs.History.{first_world, world_behind, left, IsHistory}
 use Rattle.mk_core.specs.Growing.{AreOfOthers}
 use Rattle.mk_core.specs.Frames.{IsLeft}
 use Rattle.mk_core.proofs.Conditions.{enabled_meets}

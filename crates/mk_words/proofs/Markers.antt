@@ -1,5 +1,5 @@
 -- What a seat is at as a marker, behind its own steps and those of others.
-use Rattle.std.proofs.Common.{◌≡◌, ℕ, ◌<◌, Bool, true, false, List, [], ◌∷◌, ◌++◌, length, refl, sym, ◌∙◌, ap, subst, arith}
+use Rattle.std.proofs.Common.{◌≡◌, ℕ, ◌<◌, true, false, List, [], ◌∷◌, ◌++◌, length, refl, sym, ◌∙◌, ap, subst, arith}
 use Rattle.std.proofs.lemmas.Bool.{ltb-true}
 use Rattle.std.proofs.lemmas.List.{get_or-set_same}
 use Rattle.atomic_table.specs.Seated.{TableId}
@@ -11,25 +11,23 @@ use Rattle.mk_core.specs.declared.events.Step.TheVariants as step
 use Rattle.mk_core.specs.declared.events.Event.{Event}
 use Rattle.mk_core.specs.declared.events.Group.{Group}
 use Rattle.mk_core.specs.declared.events.Group.TheVariants as group
-use Rattle.mk_core.specs.declared.accesses.Access.{Access}
 use Rattle.mk_core.specs.declared.seats.Flight.{Flight}
 use Rattle.mk_core.specs.declared.seats.Placing.{Placing}
 use Rattle.mk_core.specs.declared.seats.Marker.{Marker as MarkerState}
 use Rattle.mk_core.specs.Order.{seat_exists, group_of, is_open_to}
-use Rattle.mk_core.specs.Accesses.{access, access_by, found}
-use Rattle.mk_core.specs.Moments.{Moment, outside, flight_of, marker_of, marker_at, holder_number}
+use Rattle.mk_core.specs.Accesses.{access_by, found}
+use Rattle.mk_core.specs.Moments.{Moment, outside, flight_of, marker_at, holder_number}
 use Rattle.mk_core.specs.Enabled.{marker_may}
 use Rattle.mk_core.specs.Effects.{marker_behind, moment_behind}
 use Rattle.mk_core.specs.History.{World, left, IsHistory}
 use Rattle.mk_core.specs.Growing.{AreOfOthers, Grows}
 use Rattle.mk_core.proofs.Conditions.{enabled_meets}
-use Rattle.mk_protocol.specs.Protocol.{Protocol}
 use Rattle.mk_protocol.proofs.Frames.{others_leave}
 use Rattle.mk_words.specs.Seats.{Has}
-use Rattle.mk_words.specs.States.{PassState, now_of, world_of, event_of}
+use Rattle.mk_words.specs.States.{PassState, now_of, event_of}
 use Rattle.mk_words.specs.Rule.{Mine, told_by, first_view}
 use Rattle.mk_words.specs.Passes.{state_of, IsInOrder, IsPass}
-use Rattle.mk_words.specs.Steps.{IsEnabledTo, Makes, moment_of, found_by, Finds, Tells}
+use Rattle.mk_words.specs.Steps.{IsEnabledTo, Makes, moment_of, found_by, Tells}
 use Rattle.mk_words.specs.Markers.{is_markers, marker_in, Marks}
 use Rattle.mk_words.proofs.Seats.{others_own}
 use Rattle.mk_words.proofs.Made.{Made, made}

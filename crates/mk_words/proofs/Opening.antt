@@ -1,7 +1,7 @@
 -- All gates are opened, one after the other.
-use Rattle.std.proofs.Common.{◌≡◌, ◌≢◌, ◌⊎◌, ℕ, zero, suc, ◌+◌, ◌<◌, ◌≤◌, Bool, true, false, List, [], ◌∷◌, ◌++◌, length, refl, sym, ◌∙◌, ap, subst, inl, inr, ⊎_elim, append_assoc, append-nil, arith}
-use Rattle.std.specs.Prelude.{slice_index, slice_set, ◌==◌, ◌&&◌, not, Option}
-use Rattle.std.proofs.lemmas.Bool.{cases_Bool, cases_lt, cases_eq, eqb-true, eqb-false, eq-eqb, ne_eqb, not-true, false_from_ne_true}
+use Rattle.std.proofs.Common.{◌≡◌, ◌≢◌, ◌⊎◌, ℕ, ◌+◌, ◌<◌, ◌≤◌, true, false, List, [], ◌∷◌, ◌++◌, length, refl, sym, ◌∙◌, ap, subst, inl, inr, ⊎_elim, append_assoc, append-nil, arith}
+use Rattle.std.specs.Prelude.{slice_index, slice_set, ◌==◌, not, Option}
+use Rattle.std.proofs.lemmas.Bool.{cases_Bool, cases_lt, cases_eq, eqb-true, eqb-false, ne_eqb, false_from_ne_true}
 use Rattle.std.proofs.lemmas.List.{get_or-set_same, get_or-set_other, get_or_past, length-set, set-get_or}
 use Rattle.mk_never.specs.declared.operations.Op.{Op}
 use Rattle.mk_core.specs.declared.config.Config.{Config}
@@ -14,25 +14,22 @@ use Rattle.mk_core.specs.declared.seats.Marker.{Marker as MarkerState}
 use Rattle.mk_core.specs.Growing.{AreOfOthers}
 use Rattle.mk_protocol.proofs.Protocols.{lists_keep_the_protocol}
 use Rattle.mk_words.proofs.TurnSteps.{all_from}
-use Rattle.mk_core.specs.Bounded.{all_below}
 use Rattle.mk_core.specs.Calls.{at_rest}
-use Rattle.mk_core.specs.Moments.{Moment, flight_of, outside, is_number_of, is_held, none_is_held}
+use Rattle.mk_core.specs.Moments.{Moment, outside, is_number_of, is_held, none_is_held}
 use Rattle.mk_core.specs.Enabled.{IsEnabled, MeetsAll}
 use Rattle.mk_core.specs.Effects.{moment_behind}
-use Rattle.mk_core.specs.History.{World, first_world, left, IsHistory, IsEnabledBehind}
+use Rattle.mk_core.specs.History.{World, first_world, IsHistory}
 use Rattle.mk_core.specs.Readings.{Holds}
 use Rattle.mk_core.proofs.Conditions.{enabled_meets, meets_enabled}
-use Rattle.mk_core.proofs.Histories.{left_more, last_enabled}
-use Rattle.mk_core.proofs.Lengths.{histories_keep_lengths}
+use Rattle.mk_core.proofs.Histories.{last_enabled}
 use Rattle.mk_protocol.specs.Protocol.{Protocol}
 use Rattle.mk_words.specs.Seats.{Has}
-use Rattle.mk_words.specs.States.{PassState, TurnState, now_of, world_of, event_of}
-use Rattle.mk_words.specs.Steps.{IsEnabledTo, May, Makes}
+use Rattle.mk_words.specs.States.{PassState, now_of, event_of}
+use Rattle.mk_words.specs.Steps.{IsEnabledTo}
 use Rattle.mk_words.specs.TurnSteps.{IsTurn, world_at, Acts}
 use Rattle.mk_words.specs.Opening.{OthersMayOpen, OnlyOpen, Opens, AreOpened}
 use Rattle.mk_words.proofs.Owed.{history_more}
 use Rattle.mk_words.proofs.Made.{made}
-use Rattle.mk_words.proofs.Seats.{others_own}
 use Rattle.mk_words.proofs.LongerLists.{longer_lists}
 
 -- one gate that is opened leaves the others to be opened
@@ -87,9 +84,9 @@ opens_more p q r k o a =
           a.makes.is
           ∙ ap (λ (x : PassState). record x { seen = q.seen ++ a.makes.others ++ last ∷ [] }) o.is
           ∙ ap (λ (es : List Event). record p { seen = es })
-              (ap (λ (es : List Event). es ++ a.makes.others ++ last ∷ []) seen_is
-              ∙ append_assoc (p.seen ++ o.more) a.makes.others (last ∷ [])
-              ∙ append_assoc p.seen o.more (a.makes.others ++ last ∷ []));
+          (ap (λ (es : List Event). es ++ a.makes.others ++ last ∷ []) seen_is
+          ∙ append_assoc (p.seen ++ o.more) a.makes.others (last ∷ [])
+          ∙ append_assoc p.seen o.more (a.makes.others ++ last ∷ []));
       only = only_append p.seats o.more (a.makes.others ++ last ∷ []) o.only
           (only_append p.seats a.makes.others (last ∷ [])
           (only_others p.seats a.makes.others (subst (λ (seats : List Seat). AreOfOthers seats a.makes.others) seats_are a.makes.of_others)) (only_one p.seats q.seat k));

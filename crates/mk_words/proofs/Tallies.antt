@@ -1,5 +1,5 @@
 -- An event that counts nothing leaves the tallies what they count.
-use Rattle.std.proofs.Common.{◌≡◌, ℕ, ◌+◌, Bool, List, [], ◌∷◌, ◌++◌, refl, sym, ◌∙◌, ap, subst, arith}
+use Rattle.std.proofs.Common.{◌≡◌, ℕ, ◌+◌, List, [], ◌∷◌, ◌++◌, refl, sym, ◌∙◌, ap, subst, arith}
 use Rattle.std.proofs.lemmas.Bool.{ne_eqb}
 use Rattle.std.specs.Prelude.{cond}
 use Rattle.std.proofs.lemmas.List.Sums.{sum_by_push}
@@ -82,7 +82,6 @@ module _ (c : Config) (es : List Event) (e : Event) (nothing : CountsNothing c (
             ∙ ap (λ (xs : List PlacedAllocation). in_a_word (releases xs)) same_allocations;
         full = tally (λ (w : Words). w.full) _ nothing.alike.tallies.full tidy.full ∙ ap in_a_word same_fulls;
       }
-
 
 -- The fresh count of the moment is that of the allocations (as there, too).
 

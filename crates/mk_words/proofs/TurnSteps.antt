@@ -26,13 +26,13 @@ use Rattle.mk_core.specs.declared.seats.Placing.{Placing}
 use Rattle.mk_core.specs.declared.seats.Placing.TheVariants.{Unplaced, Chosen, Used, Granted}
 use Rattle.mk_geom.specs.declared.pages.Place.{Place}
 use Rattle.mk_core.specs.Bounded.{all_below}
-use Rattle.mk_core.specs.Words.{Words, used_at, phase_of}
+use Rattle.mk_core.specs.Words.{used_at, phase_of}
 use Rattle.mk_core.specs.Ranges.{has_phase}
-use Rattle.mk_core.specs.Calls.{at_rest, has_type, q_of, p_of, r_of, d_of, g_of, begun, progress_q, progress_p, progress_reg, progress_read}
+use Rattle.mk_core.specs.Calls.{at_rest, has_type, q_of, p_of, r_of, d_of, g_of, progress_q, progress_p, progress_reg, progress_read}
 use Rattle.mk_core.specs.Order.{seat_exists, is_in_order}
 use Rattle.mk_core.specs.Accesses.{access, found, register_met, reg_access, caller_number, granted_base}
 use Rattle.mk_core.specs.Moments.{Moment, flight_of, holder_number, nothing_done, none_is_held, is_held, is_number_of, is_phase, others_are_held}
-use Rattle.mk_core.specs.Effects.{progress, progress_freed, begins_where_free, chosen, taken, holding_behind, moment_behind}
+use Rattle.mk_core.specs.Effects.{progress, progress_freed, begins_where_free, chosen, taken, holding_behind}
 use Rattle.mk_core.specs.TurnConditions.{cell_freed, words_held, place_now, is_used_once, takes_cell, gives_back, are_wiped}
 use Rattle.mk_core.specs.Cells.{are_left_unmarked}
 use Rattle.mk_core.specs.Bits.{has_bit}
@@ -40,7 +40,7 @@ use Rattle.mk_core.specs.NewPlaces.{object_made, place_stands, is_undecided_new}
 use Rattle.mk_core.specs.StopConditions.{marks_place}
 use Rattle.mk_core.specs.Enabled.{holder_may}
 use Rattle.mk_core.proofs.WordBits.{bit_of_power}
-use Rattle.mk_core.specs.Order.{comes_next_to_host, host_has_turn, is_open_to, group_of}
+use Rattle.mk_core.specs.Order.{host_has_turn, is_open_to, group_of}
 use Rattle.mk_core.specs.Readings.{Holds}
 use Rattle.mk_core.specs.History.{World, left, IsHistory}
 use Rattle.mk_core.specs.Frames.{HoldsAll, Written}
@@ -55,7 +55,7 @@ use Rattle.mk_words.proofs.Tidy.{tidy_part}
 use Rattle.mk_words.proofs.Tallies.{exact_more, counts_tidy_more, free_tallies}
 use Rattle.mk_protocol.proofs.Actors.{grants_new}
 use Rattle.mk_protocol.proofs.Known.{known_left}
-use Rattle.mk_protocol.proofs.NextSteps.{at_take, at_no_take}
+use Rattle.mk_protocol.proofs.NextSteps.{at_no_take}
 use Rattle.mk_protocol.proofs.SameWords.{Behind, reg_keeps, tally_keeps}
 use Rattle.mk_protocol.proofs.Protocols.{lists_keep_the_protocol}
 use Rattle.mk_words.specs.Seats.{Has}
@@ -239,6 +239,24 @@ hold_holds p j n q t own history none =
     ∙ eq-eqb (slice_index (slice_set gs j (if slice_index gs j == 0 then 2 else slice_index gs j)) j) 2
     (get_or-set_same gs j (if slice_index gs j == 0 then 2 else slice_index gs j) 0 (omega arith)
     ∙ ap (λ (b : Bool). if b then 2 else slice_index gs j) (eq-eqb (slice_index gs j) 0 (sym t.tells ∙ none)))
+
+pub hold_misses : (p : PassState) (j n : ℕ) (q : PassState) → Tells p (step.Hold j) n q → Has p.seats p.seat → IsHistory q.table.config q.seen → n ≢ 0
+    → is_held (now_of q).words j ≡ false
+hold_misses p j n q t own history some =
+    let d = made p (step.Hold j) q t.makes own history in
+    let c : Config = p.table.config in
+    let lt : j < c.callers = ltb-true j c.callers (and_parts (nat_lt j c.callers) (not (is_number_of p.seat j)) d.meets.range).0 in
+    let long = (histories_keep_lengths c (p.seen ++ t.makes.others)).gates in
+    let few = d.known.small in
+    let gs : List ℕ = (moment_of t.makes).words.gates in
+    let least = d.protocol.gate j lt in
+    let two : slice_index gs j ≢ 2 = eqb-false (slice_index gs j) 2 (not-true (slice_index gs j == 2) d.meets.gates) in
+    let zero_not : slice_index gs j ≢ 0 = λ z. some (t.tells ∙ z) in
+    ap (λ (w : World). is_held w.now.words j) d.world
+    ∙ ap (λ (x : ℕ). x == 2)
+    (get_or-set_same gs j (if slice_index gs j == 0 then 2 else slice_index gs j) 0 (omega arith)
+    ∙ ap (λ (b : Bool). if b then 2 else slice_index gs j) (ne_eqb (slice_index gs j) 0 zero_not))
+    ∙ ne_eqb (slice_index gs j) 2 two
 
 -- `take`
 
@@ -570,7 +588,6 @@ grants p o cell t on =
     by (Caller k) new = refl
     by (Marker k) new = cc
     by Host new = cc
-
 
 -- The value is the one that the event stores.
 pub grant_access : (p : PassState) (o : Option Op) (cell : Option Cell) (config : Config) (base address : ℕ) → KeepsTurn p o cell → IsEnabledTo p step.Grant → config ≡ p.table.config

@@ -10,11 +10,10 @@ use Rattle.mk_core.specs.declared.seats.Placing.TheVariants.{Used}
 use Rattle.mk_core.specs.NewPlaces.{object_made, is_small_object, class_made}
 use Rattle.mk_never.specs.declared.operations.Op.{Op}
 use Rattle.mk_core.specs.declared.events.Seat.{Seat}
-use Rattle.mk_core.specs.declared.events.Seat.TheVariants.{Caller, Marker, Host}
+use Rattle.mk_core.specs.declared.events.Seat.TheVariants.{Caller}
 use Rattle.mk_core.specs.declared.events.Step.{Step}
 use Rattle.mk_core.specs.declared.events.Step.TheVariants as step
 use Rattle.mk_core.specs.declared.seats.Flight.{Flight}
-use Rattle.mk_core.specs.declared.seats.Holding.{Holding}
 use Rattle.mk_core.specs.Calls.{at_rest, begun, d_of}
 use Rattle.mk_core.specs.Moments.{nothing_done, none_is_held, others_are_held}
 use Rattle.mk_core.specs.Words.{phase_of}

@@ -128,13 +128,7 @@ impl Pass {
 
     /// Makes a step of any kind but a marker's.
     #[inline(always)]
-    pub(crate) fn perform(
-        &mut self,
-        words: &Words,
-        step: Step,
-        word: TableWord,
-        by: Access,
-    ) -> u64
+    pub(crate) fn perform(&mut self, words: &Words, step: Step, word: TableWord, by: Access) -> u64
         requires one_table { self.old.table ≡ words.now }
         requires kind { is_markers (group_of step) ≡ false }
         requires may { May self.old step }
@@ -182,13 +176,7 @@ impl Pass {
 
     /// Makes a step that stores, and answers what the store found.
     #[inline(always)]
-    pub(crate) fn replace(
-        &mut self,
-        words: &Words,
-        step: Step,
-        word: TableWord,
-        value: u64,
-    ) -> u64
+    pub(crate) fn replace(&mut self, words: &Words, step: Step, word: TableWord, value: u64) -> u64
         requires one_table { self.old.table ≡ words.now }
         requires kind { is_markers (group_of step) ≡ false }
         requires may { May self.old step }

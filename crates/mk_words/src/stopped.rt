@@ -66,13 +66,7 @@ impl Stopped {
 
     /// Makes a step that opens no gate.
     #[inline(always)]
-    pub(crate) fn perform(
-        &mut self,
-        words: &Words,
-        step: Step,
-        word: TableWord,
-        by: Access,
-    ) -> u64
+    pub(crate) fn perform(&mut self, words: &Words, step: Step, word: TableWord, by: Access) -> u64
         requires one_table { self.old.pass.table ≡ words.now }
         requires stays { gates_stay step ≡ true }
         requires takes_none { may_take_cell step ≡ false }
@@ -106,7 +100,12 @@ impl Stopped {
         ensures op { self.new.op ≡ self.old.op }
         ensures acts { Acts self.old.pass (step.Head page v) self.new.pass }
     {
-        self.perform(words, Step::Head { page, value: v }, TableWord::Named(Word::Head(page)), Access::Store(v));
+        self.perform(
+            words,
+            Step::Head { page, value: v },
+            TableWord::Named(Word::Head(page)),
+            Access::Store(v),
+        );
     }
 
     /// Stores a page's used word. Where the word gains a bit, its cell is the one that the turn's New takes.
@@ -128,7 +127,12 @@ impl Stopped {
         ensures op { self.new.op ≡ self.old.op }
         ensures acts { Acts self.old.pass (step.Quar page v) self.new.pass }
     {
-        self.perform(words, Step::Quar { page, value: v }, TableWord::Named(Word::Quar(page)), Access::Store(v));
+        self.perform(
+            words,
+            Step::Quar { page, value: v },
+            TableWord::Named(Word::Quar(page)),
+            Access::Store(v),
+        );
     }
 
     /// Clears a page's marks.
@@ -138,7 +142,12 @@ impl Stopped {
         ensures op { self.new.op ≡ self.old.op }
         ensures acts { Acts self.old.pass (step.Clear page) self.new.pass }
     {
-        self.perform(words, Step::Clear(page), TableWord::Named(Word::Mark(page)), Access::Store(0));
+        self.perform(
+            words,
+            Step::Clear(page),
+            TableWord::Named(Word::Mark(page)),
+            Access::Store(0),
+        );
     }
 
     /// Marks cells of a page.
@@ -148,7 +157,12 @@ impl Stopped {
         ensures op { self.new.op ≡ self.old.op }
         ensures acts { Acts self.old.pass (step.Mark page v) self.new.pass }
     {
-        self.perform(words, Step::Mark { page, value: v }, TableWord::Named(Word::Mark(page)), Access::Or(v));
+        self.perform(
+            words,
+            Step::Mark { page, value: v },
+            TableWord::Named(Word::Mark(page)),
+            Access::Or(v),
+        );
     }
 
     /// Wipes a heap word.
@@ -158,7 +172,12 @@ impl Stopped {
         ensures op { self.new.op ≡ self.old.op }
         ensures acts { Acts self.old.pass (step.Wipe word) self.new.pass }
     {
-        self.perform(words, Step::Wipe(word), TableWord::Named(Word::Heap(word)), Access::Store(0));
+        self.perform(
+            words,
+            Step::Wipe(word),
+            TableWord::Named(Word::Heap(word)),
+            Access::Store(0),
+        );
     }
 
     /// Ends the cycle.
@@ -168,7 +187,12 @@ impl Stopped {
         ensures op { self.new.op ≡ self.old.op }
         ensures acts { Acts self.old.pass step.End self.new.pass }
     {
-        self.perform(words, Step::End, TableWord::Named(Word::Phase), Access::Sub(4));
+        self.perform(
+            words,
+            Step::End,
+            TableWord::Named(Word::Phase),
+            Access::Sub(4),
+        );
     }
 
     /// Clears a page's dirty word.
@@ -178,7 +202,12 @@ impl Stopped {
         ensures op { self.new.op ≡ self.old.op }
         ensures acts { Acts self.old.pass (step.Undirty page) self.new.pass }
     {
-        self.perform(words, Step::Undirty(page), TableWord::Named(Word::Dirty(page)), Access::Store(0));
+        self.perform(
+            words,
+            Step::Undirty(page),
+            TableWord::Named(Word::Dirty(page)),
+            Access::Store(0),
+        );
     }
 
     /// Clears a page's black word.
@@ -188,7 +217,12 @@ impl Stopped {
         ensures op { self.new.op ≡ self.old.op }
         ensures acts { Acts self.old.pass (step.Unblack page) self.new.pass }
     {
-        self.perform(words, Step::Unblack(page), TableWord::Named(Word::Black(page)), Access::Store(0));
+        self.perform(
+            words,
+            Step::Unblack(page),
+            TableWord::Named(Word::Black(page)),
+            Access::Store(0),
+        );
     }
 
     /// Stores a tally.
@@ -198,7 +232,12 @@ impl Stopped {
         ensures op { self.new.op ≡ self.old.op }
         ensures acts { Acts self.old.pass (step.Tally n v) self.new.pass }
     {
-        self.perform(words, Step::Tally { tally: n, value: v }, TableWord::Named(tally_word(n)), Access::Store(v));
+        self.perform(
+            words,
+            Step::Tally { tally: n, value: v },
+            TableWord::Named(tally_word(n)),
+            Access::Store(v),
+        );
     }
 
     /// Wants the close.
@@ -208,7 +247,12 @@ impl Stopped {
         ensures op { self.new.op ≡ self.old.op }
         ensures acts { Acts self.old.pass step.Want self.new.pass }
     {
-        self.perform(words, Step::Want, TableWord::Named(Word::Phase), Access::Add(1));
+        self.perform(
+            words,
+            Step::Want,
+            TableWord::Named(Word::Phase),
+            Access::Add(1),
+        );
     }
 
     /// Closes the marks.
@@ -218,7 +262,12 @@ impl Stopped {
         ensures op { self.new.op ≡ self.old.op }
         ensures acts { Acts self.old.pass step.Close self.new.pass }
     {
-        self.perform(words, Step::Close, TableWord::Named(Word::Phase), Access::Add(1));
+        self.perform(
+            words,
+            Step::Close,
+            TableWord::Named(Word::Phase),
+            Access::Add(1),
+        );
     }
 
     /// Releases what the cycle found unmarked.
@@ -228,7 +277,12 @@ impl Stopped {
         ensures op { self.new.op ≡ self.old.op }
         ensures acts { Acts self.old.pass step.Release self.new.pass }
     {
-        self.perform(words, Step::Release, TableWord::Named(Word::Phase), Access::Add(1));
+        self.perform(
+            words,
+            Step::Release,
+            TableWord::Named(Word::Phase),
+            Access::Add(1),
+        );
     }
 
     /// Blackens a marked cell.
@@ -238,7 +292,12 @@ impl Stopped {
         ensures op { self.new.op ≡ self.old.op }
         ensures acts { Acts self.old.pass (step.Black page v) self.new.pass }
     {
-        self.perform(words, Step::Black { page, value: v }, TableWord::Named(Word::Black(page)), Access::Or(v));
+        self.perform(
+            words,
+            Step::Black { page, value: v },
+            TableWord::Named(Word::Black(page)),
+            Access::Or(v),
+        );
     }
 
     /// Opens the gates of all other callers.

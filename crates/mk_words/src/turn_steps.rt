@@ -48,7 +48,12 @@ impl Turn {
         ensures op { self.new.op ≡ self.old.op }
         ensures acts { Acts self.old.pass (step.Head page v) self.new.pass }
     {
-        self.perform(words, Step::Head { page, value: v }, TableWord::Named(Word::Head(page)), Access::Store(v));
+        self.perform(
+            words,
+            Step::Head { page, value: v },
+            TableWord::Named(Word::Head(page)),
+            Access::Store(v),
+        );
     }
 
     /// Stores a page's quarantine word.
@@ -59,7 +64,12 @@ impl Turn {
         ensures op { self.new.op ≡ self.old.op }
         ensures acts { Acts self.old.pass (step.Quar page v) self.new.pass }
     {
-        self.perform(words, Step::Quar { page, value: v }, TableWord::Named(Word::Quar(page)), Access::Store(v));
+        self.perform(
+            words,
+            Step::Quar { page, value: v },
+            TableWord::Named(Word::Quar(page)),
+            Access::Store(v),
+        );
     }
 
     /// Clears a page's marks.
@@ -69,7 +79,12 @@ impl Turn {
         ensures op { self.new.op ≡ self.old.op }
         ensures acts { Acts self.old.pass (step.Clear page) self.new.pass }
     {
-        self.perform(words, Step::Clear(page), TableWord::Named(Word::Mark(page)), Access::Store(0));
+        self.perform(
+            words,
+            Step::Clear(page),
+            TableWord::Named(Word::Mark(page)),
+            Access::Store(0),
+        );
     }
 
     /// Marks cells of a page.
@@ -79,7 +94,12 @@ impl Turn {
         ensures op { self.new.op ≡ self.old.op }
         ensures acts { Acts self.old.pass (step.Mark page v) self.new.pass }
     {
-        self.perform(words, Step::Mark { page, value: v }, TableWord::Named(Word::Mark(page)), Access::Or(v));
+        self.perform(
+            words,
+            Step::Mark { page, value: v },
+            TableWord::Named(Word::Mark(page)),
+            Access::Or(v),
+        );
     }
 
     /// Wipes a heap word.
@@ -89,7 +109,12 @@ impl Turn {
         ensures op { self.new.op ≡ self.old.op }
         ensures acts { Acts self.old.pass (step.Wipe word) self.new.pass }
     {
-        self.perform(words, Step::Wipe(word), TableWord::Named(Word::Heap(word)), Access::Store(0));
+        self.perform(
+            words,
+            Step::Wipe(word),
+            TableWord::Named(Word::Heap(word)),
+            Access::Store(0),
+        );
     }
 
     /// Ends the cycle.
@@ -99,7 +124,12 @@ impl Turn {
         ensures op { self.new.op ≡ self.old.op }
         ensures acts { Acts self.old.pass step.End self.new.pass }
     {
-        self.perform(words, Step::End, TableWord::Named(Word::Phase), Access::Sub(4));
+        self.perform(
+            words,
+            Step::End,
+            TableWord::Named(Word::Phase),
+            Access::Sub(4),
+        );
     }
 
     /// Clears a page's dirty word.
@@ -109,7 +139,12 @@ impl Turn {
         ensures op { self.new.op ≡ self.old.op }
         ensures acts { Acts self.old.pass (step.Undirty page) self.new.pass }
     {
-        self.perform(words, Step::Undirty(page), TableWord::Named(Word::Dirty(page)), Access::Store(0));
+        self.perform(
+            words,
+            Step::Undirty(page),
+            TableWord::Named(Word::Dirty(page)),
+            Access::Store(0),
+        );
     }
 
     /// Clears a page's black word.
@@ -119,7 +154,12 @@ impl Turn {
         ensures op { self.new.op ≡ self.old.op }
         ensures acts { Acts self.old.pass (step.Unblack page) self.new.pass }
     {
-        self.perform(words, Step::Unblack(page), TableWord::Named(Word::Black(page)), Access::Store(0));
+        self.perform(
+            words,
+            Step::Unblack(page),
+            TableWord::Named(Word::Black(page)),
+            Access::Store(0),
+        );
     }
 
     /// Stores a tally.
@@ -129,7 +169,12 @@ impl Turn {
         ensures op { self.new.op ≡ self.old.op }
         ensures acts { Acts self.old.pass (step.Tally n v) self.new.pass }
     {
-        self.perform(words, Step::Tally { tally: n, value: v }, TableWord::Named(tally_word(n)), Access::Store(v));
+        self.perform(
+            words,
+            Step::Tally { tally: n, value: v },
+            TableWord::Named(tally_word(n)),
+            Access::Store(v),
+        );
     }
 
     /// Stores a page's used word. Where the word gains a bit, its cell is the one that the turn's New takes.

@@ -125,13 +125,7 @@ impl Turn {
 
     /// Makes a step behind which the turn goes on.
     #[inline(always)]
-    pub(crate) fn perform(
-        &mut self,
-        words: &Words,
-        step: Step,
-        word: TableWord,
-        by: Access,
-    ) -> u64
+    pub(crate) fn perform(&mut self, words: &Words, step: Step, word: TableWord, by: Access) -> u64
         requires one_table { self.old.pass.table ≡ words.now }
         requires stays { turn_stays step ≡ true }
         requires takes_none { may_take_cell step ≡ false }

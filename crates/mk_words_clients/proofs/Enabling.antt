@@ -1,9 +1,9 @@
 -- Which steps a pass may make, by the conditions of their kinds.
-use Rattle.std.proofs.Common.{◌≡◌, ℕ, ◌<◌, true, Bool, refl, sym, ◌∙◌, ap, subst}
+use Rattle.std.proofs.Common.{◌≡◌, ℕ, ◌<◌, true, refl, sym, ◌∙◌, ap}
 use Rattle.std.proofs.lemmas.Bool.{lt-ltb}
 use Rattle.mk_core.specs.declared.config.Config.{Config}
 use Rattle.mk_core.specs.declared.events.Seat.{Seat}
-use Rattle.mk_core.specs.declared.events.Seat.TheVariants.{Caller, Marker, Host}
+use Rattle.mk_core.specs.declared.events.Seat.TheVariants.{Caller}
 use Rattle.mk_core.specs.declared.events.Step.{Step}
 use Rattle.mk_core.specs.declared.events.Step.TheVariants as step
 use Rattle.mk_core.specs.declared.events.Group.{Group}
@@ -14,7 +14,7 @@ use Rattle.mk_core.specs.Words.{Words, phase_of}
 use Rattle.mk_core.specs.Moments.{Moment, flight_of, marker_at}
 use Rattle.mk_core.specs.Order.{seat_exists, group_of, is_open_to, is_in_order, comes_next}
 use Rattle.mk_core.specs.Ranges.{is_in_range, has_gates, has_phase}
-use Rattle.mk_core.specs.Enabled.{IsEnabled, MeetsAll, marker_may, holder_may}
+use Rattle.mk_core.specs.Enabled.{marker_may, holder_may}
 use Rattle.mk_core.proofs.Conditions.{meets_enabled}
 use Rattle.mk_words.specs.States.{PassState, now_of, call_of, event_of}
 use Rattle.mk_words.specs.Steps.{IsEnabledTo}

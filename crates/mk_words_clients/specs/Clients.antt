@@ -1,5 +1,10 @@
 -- What the clients ask of a pass and of a turn, and keep.
-use Rattle.std.specs.Prelude.{◌≡◌, ℕ, ◌<◌, true, false, Option, Some, None}
+use Rattle.std.specs.Prelude.{◌≡◌, ℕ, ◌<◌, true, false, None, List, ◌++◌}
+use Rattle.mk_never.specs.declared.operations.Op.{Op}
+use Rattle.mk_never.specs.Admitted.{IsAdmitted}
+use Rattle.mk_core.specs.declared.events.Event.{Event}
+use Rattle.mk_core.specs.Accesses.{caller_number}
+use Rattle.mk_core.specs.History.{IsHistory, never_behind}
 use Rattle.mk_core.specs.declared.events.Seat.TheVariants.{Caller, Host}
 use Rattle.mk_core.specs.declared.events.Step.TheVariants as step
 use Rattle.mk_core.specs.Calls.{at_rest}
@@ -30,3 +35,9 @@ pub record MayGiveBack (p : PassState) : Type 0 where
   pub freed : (now_of p).seats.holding.freed ≡ None
   pub held : (now_of p).words.held ≡ words_held (now_of p).words
   pub fresh : (now_of p).words.fresh ≡ (now_of p).fresh_words
+
+-- The operation is admitted, whatever comes behind what the pass has seen.
+abbrev pub StaysAdmitted : PassState → Op → Type 0
+StaysAdmitted p o =
+    (more : List Event) → IsHistory p.table.config (p.seen ++ more)
+    → IsAdmitted p.table.config.globals (never_behind p.table.config (p.seen ++ more)) (caller_number p.seat) o

@@ -1,6 +1,7 @@
 //! Calls of callers, from `enter` to `leave`.
 ghost use Rattle.std.specs.Prelude.{◌≡◌, ◌<◌};
-ghost use Rattle.mk_words_clients.specs.Clients.{IsCallers};
+ghost use Rattle.mk_words_clients.specs.Clients.{IsCallers, StaysAdmitted};
+ghost use Rattle.mk_never.specs.declared.operations.Op.TheVariants as op;
 
 use mk_never::Op;
 use mk_words::{Held, Pass, Words};
@@ -10,6 +11,7 @@ pub fn clear(words: &Words, pass: &mut Pass, d: u8) -> Result<(), Held>
     requires one_table { pass.old.table ≡ words.now }
     requires callers { IsCallers pass.old }
     requires register { d < 8 }
+    requires admitted { StaysAdmitted pass.old (op.Clear d) }
     ensures table { pass.new.table ≡ words.now }
     ensures callers { IsCallers pass.new }
 {

@@ -1,5 +1,6 @@
 //! A turn of the host's, in which it holds a gate and opens it.
 ghost use Rattle.std.specs.Prelude.{◌≡◌, ◌<◌, IfOk};
+ghost use Rattle.mk_core.specs.Counts.{TalliesAreTidy};
 ghost use Rattle.mk_words_clients.specs.Clients.{IsHosts, MayGiveBack};
 
 use mk_core::Word;
@@ -12,13 +13,23 @@ fn hold_once(words: &Words, turn: &mut Turn, caller: u64)
     requires caller { caller < words.now.config.callers }
     ensures one_table { turn.new.pass.table ≡ words.now }
     ensures free { MayGiveBack turn.new.pass }
+    ensures tidy { TalliesAreTidy turn.old.pass.table.config turn.old.pass.seen → TalliesAreTidy turn.new.pass.table.config turn.new.pass.seen }
 {
     turn.is_in_order();
-    if turn.try_hold(words, caller).is_ok() {
-        turn.is_in_order();
-        turn.look(words, Word::Reg { caller, register: 0 });
-        turn.is_in_order();
-        turn.open_gate(words, caller);
+    match turn.try_hold(words, caller) {
+        Ok(()) => {
+            turn.is_in_order();
+            turn.look(
+                words,
+                Word::Reg {
+                    caller,
+                    register: 0,
+                },
+            );
+            turn.is_in_order();
+            turn.open_gate(words, caller);
+        }
+        Err(_) => {}
     }
 }
 
