@@ -64,7 +64,8 @@ pub record IsDecidedIn (p : PassState) (o : Op) (a : Answer) (more : List Event)
   pub event : Event
   pub behind : List Event
   pub is : more ≡ before ++ event ∷ behind
-  pub decides : call_decided p.table.config (left p.table.config (p.seen ++ before)).now event ≡ entry_of (number_of p) o (Some a)
+  pub decides : call_decided p.table.config (left p.table.config (p.seen ++ before)).now event ≡ entry_of
+      (number_of p) o (Some a)
   pub reply : a ≡ answer_of (bases_of (left p.table.config (p.seen ++ before ++ event ∷ [])).allocations)
       (reply_of (never_behind p.table.config (p.seen ++ before)) (number_of p) o)
   pub known : KeepsRegisters (number_of p) (never_of p) (never_behind p.table.config (p.seen ++ before))

@@ -21,4 +21,5 @@ pub returns-clause-reached : goal.returns-clause-reached
 returns-clause-reached c =
     let loaded_0 = go c.in_ok-u.ensures.begun (loads c.load-expected.result) refl c.load-expected.ensures.moves in
     let loaded_1 = go loaded_0 (loads c.load-new.result) refl c.load-new.ensures.moves in
-    reached c.requires.ready refl loaded_1 refl c.in-Some.ensures.reached (goes_further (goes_on c.cas-exchanged.ensures.moves) c.mark_and_leave.ensures)
+    reached c.requires.ready refl loaded_1 refl c.in-Some.ensures.reached
+    (goes_further (goes_on c.cas-exchanged.ensures.moves) c.mark_and_leave.ensures)

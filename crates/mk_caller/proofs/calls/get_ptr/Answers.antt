@@ -11,8 +11,13 @@ pub returns-clause-called : goal.returns-clause-called
 returns-clause-called c =
     let probed = go c.in_ok-u.ensures.begun probes refl c.in-Some.ensures.moves in
     let read = go probed (reads c.read-value.result) refl c.read-value.ensures.moves in
-    record { word = c.read-value.result; called = called (go_on read (stores c.read-value.result) refl refl c.store_and_leave.ensures) refl }
+    record {
+      word = c.read-value.result;
+      called = called
+          (go_on read (stores c.read-value.result) refl refl c.store_and_leave.ensures) refl;
+    }
 
 pub returns-clause-reached : goal.returns-clause-reached
 returns-clause-reached c =
-    reached c.requires.ready refl c.in_ok-u.ensures.begun refl c.in-Some.ensures.reached (goes_further (goes_on c.read-value.ensures.moves) c.store_and_leave.ensures)
+    reached c.requires.ready refl c.in_ok-u.ensures.begun refl c.in-Some.ensures.reached
+    (goes_further (goes_on c.read-value.ensures.moves) c.store_and_leave.ensures)

@@ -1,6 +1,5 @@
 use Rattle.std.proofs.Common.{refl}
-use Rattle.mk_core.specs.declared.seats.Flight.{Flight}
-use Rattle.mk_caller.proofs.Chains.{called, end, go, go_on, loads, stores, writes}
+use Rattle.mk_caller.proofs.Chains.{called, end, go, go_on, loads, writes}
 use Rattle.mk_caller.proofs.calls.set_global.Goals as goal
 
 pub returns-clause-called : goal.returns-clause-called

@@ -15,4 +15,5 @@ returns-clause-called c =
 
 pub returns-clause-reached : goal.returns-clause-reached
 returns-clause-reached c =
-    reached c.requires.ready refl c.in_ok-u.ensures.begun refl c.in-Some.ensures.reached (goes_further (goes_on c.write.ensures.moves) c.mark_and_leave.ensures)
+    reached c.requires.ready refl c.in_ok-u.ensures.begun refl c.in-Some.ensures.reached
+    (goes_further (goes_on c.write.ensures.moves) c.mark_and_leave.ensures)

@@ -18,4 +18,5 @@ returns-clause-called c =
 pub returns-clause-reached : goal.returns-clause-reached
 returns-clause-reached c =
     let loaded_0 = go c.in_ok-u.ensures.begun (loads c.load-value.result) refl c.load-value.ensures.moves in
-    reached c.requires.ready refl loaded_0 refl c.in-Some.ensures.reached (goes_further (goes_on c.write.ensures.moves) c.mark_and_leave.ensures)
+    reached c.requires.ready refl loaded_0 refl c.in-Some.ensures.reached
+    (goes_further (goes_on c.write.ensures.moves) c.mark_and_leave.ensures)
