@@ -24,7 +24,7 @@ use Rattle.mk_words.specs.States.{PassState, call_of, event_of}
 use Rattle.mk_caller.specs.States.{number_of, never_of, value_of}
 use Rattle.mk_caller.specs.Called.{Called, steps_made}
 use Rattle.mk_caller.specs.Causes.{Probes, ProbesAWord}
-use Rattle.mk_caller.specs.Moves.{IsReady, Makes, At, is_access, refused_register, refused_steps}
+use Rattle.mk_caller.specs.Moves.{loads, IsReady, Makes, At, is_access, refused_register, refused_steps}
 use Rattle.mk_caller.proofs.Joined.{joined, joined_on}
 
 -- Further steps of a call that isn't decided; how they go on is told by the call before them.
@@ -88,31 +88,9 @@ pub of_same : {q r : PassState} {o : Op} {ts : List Step} {a : Option Answer} {g
     → At q (call_of q).op ts a g r → At q o ts a g r
 of_same {q} {r} {o} {ts} {a} {g} is x = subst (λ (y : Op). At q y ts a g r) is x
 
--- how a call goes on: by a load, by the load of a global, by a write and so on, and by the last steps
-
-abbrev pub loads : ℕ → Flight → Progress
-loads v f = progress_reg f f.stage v
-
-abbrev pub loads_global : ℕ → Flight → Progress
-loads_global v f = progress_getg f v
-
-abbrev pub writes : Flight → Progress
-writes f = onward f (Some answer.Done)
-
-abbrev pub probes : Flight → Progress
-probes f = onward f None
-
-abbrev pub reads : ℕ → Flight → Progress
-reads v f = progress_read f f.op v
-
-abbrev pub exchanges : Bool → Flight → Progress
-exchanges b f = onward f (Some (answer.Num (one_if b)))
-
+-- by a store and the last step
 abbrev pub stores : ℕ → Flight → Progress
-stores v f = record { flight = at_rest; answer = (progress_reg f f.stage v).answer }
-
-abbrev pub end : Flight → Progress
-end f = record { flight = at_rest; answer = None }
+stores v f = record { flight = at_rest; answer = (loads v f).answer }
 
 pub called : {p r : PassState} {o : Op} {ss : List Step} {a : Answer} → At p o ss (Some a) at_rest r
     → ss ≡ steps_made o a → Called p o a r
@@ -225,17 +203,17 @@ access_finds_some (op.Lea d q i) u h ne = some_for (op.Lea d q i) u ne
 access_finds_some _ u h ne = cc
 
 -- What a pass has seen goes on.
-pub record GoesOn (q r : PassState) : Type 0 where
+pub record SeesMore (q r : PassState) : Type 0 where
   pub more : List Event
   pub is : r.seen ≡ q.seen ++ more
 
-pub goes_on : {q r : PassState} {o : Op} {ts : List Step} {a : Option Answer} {f : Flight} → At q o ts a f r
-    → GoesOn q r
-goes_on x = record { more = x.makes.more; is = ap (λ (s : PassState). s.seen) x.makes.is }
+pub sees_more : {q r : PassState} {o : Op} {ts : List Step} {a : Option Answer} {f : Flight} → At q o ts a f r
+    → SeesMore q r
+sees_more x = record { more = x.makes.more; is = ap (λ (s : PassState). s.seen) x.makes.is }
 
-pub goes_further : {q r s : PassState} {o : Op} {ts : List Step} {a : Option Answer} {f : Flight} → GoesOn q r
-    → At r o ts a f s → GoesOn q s
-goes_further {q} g x =
+pub sees_further : {q r s : PassState} {o : Op} {ts : List Step} {a : Option Answer} {f : Flight} → SeesMore q r
+    → At r o ts a f s → SeesMore q s
+sees_further {q} g x =
     record {
       more = g.more ++ x.makes.more;
       is = ap (λ (s : PassState). s.seen) x.makes.is ∙ ap (λ (l : List Event). l ++ x.makes.more) g.is
@@ -243,7 +221,7 @@ goes_further {q} g x =
     }
 
 -- a probe of earlier steps
-pub probes_on : {p q r : PassState} {o : Op} {t : Target} → Probes p o q t → GoesOn q r → Probes p o r t
+pub probes_on : {p q r : PassState} {o : Op} {t : Target} → Probes p o q t → SeesMore q r → Probes p o r t
 probes_on {p} {q} {r} {o} {t} x g =
     record {
       before = x.before;
@@ -256,7 +234,7 @@ probes_on {p} {q} {r} {o} {t} x g =
 -- The call's access got to a word at its probe.
 pub reached : {p q s r : PassState} {o : Op} {ss : List Step} {f : Flight} → IsReady p o → is_access o ≡ true
     → At p o ss None f q → f.op ≡ o
-    → ProbesAWord q (call_of q).op s → GoesOn s r → ProbesAWord p o r
+    → ProbesAWord q (call_of q).op s → SeesMore s r → ProbesAWord p o r
 reached {p} {q} {s} {r} {o} ready access a same x g =
     let y : ProbesAWord q o s = subst (λ (y : Op). ProbesAWord q y s) (ap (λ (f : Flight). f.op) a.call ∙ same) x in
     record {

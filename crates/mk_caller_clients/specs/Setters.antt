@@ -19,4 +19,6 @@ setters p g es = filter (λ (x : Decided). is_set_of g x.op) (calls p.table.conf
 
 -- Behind what the pass had seen its caller's own call is the only one that set the global.
 abbrev pub IsOnlySetter : PassState → ℕ → ℕ → PassState → Type 0
-IsOnlySetter p g r q = setters p g q.seen ≡ setters p g p.seen ++ record { caller = number_of p; op = op.SetGlobal g r; answer = Done } ∷ []
+IsOnlySetter p g r q =
+    setters p g q.seen ≡ setters p g p.seen
+    ++ record { caller = number_of p; op = op.SetGlobal g r; answer = Done } ∷ []
