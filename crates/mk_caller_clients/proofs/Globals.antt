@@ -14,12 +14,9 @@ use Rattle.mk_never.specs.NeverHeap.{NeverState, register_at, global_at, with_re
 use Rattle.mk_core.specs.Decided.{Decided, asked}
 use Rattle.mk_caller_clients.specs.Setters.{is_set_of}
 
--- a list of the calls that set the global
+-- those of the calls that set the global
 abbrev pub set_among : ℕ → List Decided → List Decided
 set_among g xs = filter (λ (x : Decided). is_set_of g x.op) xs
-
-pub set_append : (g : ℕ) (xs ys : List Decided) → set_among g (xs ++ ys) ≡ set_among g xs ++ set_among g ys
-set_append g xs ys = filter-append (λ (x : Decided). is_set_of g x.op) xs ys
 
 free_keeps : (n : NeverState) (g : ℕ) (v : Value) → global_at (after_free n v) g ≡ global_at n g
 free_keeps n g Null = refl
@@ -82,10 +79,3 @@ calls_keep n g (x ∷ xs) h =
 pub set_gives : (n : NeverState) (k g p : ℕ) → g < length n.globals
     → global_at (after_op n k (op.SetGlobal g p)) g ≡ register_at n k p
 set_gives n k g p lt = get_or-set_same n.globals g (register_at n k p) Null lt
-
--- nothing is left where the counts say so
-pub none_left : {A : Type 0} (a z x y : List A) (e : A) → (a ++ z) ++ (e ∷ []) ++ x ++ y ≡ a ++ e ∷ [] → x ≡ []
-none_left a z [] y e h = refl
-none_left a z (b ∷ x) y e h =
-    let lengths = ap length h in
-    absurd (grind (arith, length-append, lengths))

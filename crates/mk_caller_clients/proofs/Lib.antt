@@ -1,3 +1,4 @@
 pub mod Globals
 pub mod Sameness
 pub mod Beginnings
+pub mod Between
