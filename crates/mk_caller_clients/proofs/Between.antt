@@ -1,14 +1,14 @@
 -- Two calls of one caller, one behind the other, and the calls of others between the events that decide them.
-use Rattle.std.proofs.Common.{◌≡◌, ℕ, ◌<◌, Bool, true, false, List, [], ◌∷◌, ◌++◌, length, refl, sym, ◌∙◌, ap, subst, append_assoc, append-nil, length-append, arith, cond}
-use Rattle.std.specs.Prelude.{Some, filter}
+use Rattle.std.proofs.Common.{◌≡◌, Bool, true, List, [], ◌∷◌, ◌++◌, length, refl, sym, ◌∙◌, ap, append_assoc, append-nil, length-append, arith, cond}
+use Rattle.std.specs.Prelude.{filter}
 use Rattle.std.proofs.lemmas.List.Elements.{filter-append}
 use Rattle.mk_never.specs.declared.operations.Op.{Op}
-use Rattle.mk_never.specs.NeverHeap.{NeverState, after_op, after_calls}
+use Rattle.mk_never.specs.NeverHeap.{after_op, after_calls}
 use Rattle.mk_core.specs.declared.config.Config.{Config}
 use Rattle.mk_core.specs.declared.events.Answer.{Answer}
 use Rattle.mk_core.specs.declared.events.Event.{Event}
-use Rattle.mk_core.specs.Decided.{Decided, asked, entry_of, flagged}
-use Rattle.mk_core.specs.History.{World, first_world, left, calls, calls_from, call_decided, never_behind}
+use Rattle.mk_core.specs.Decided.{Decided, asked, flagged}
+use Rattle.mk_core.specs.History.{first_world, left, calls, calls_from, call_decided, never_behind}
 use Rattle.mk_core.proofs.Histories.{calls_more}
 use Rattle.mk_core.proofs.HistoryParts.{calls_in_parts, never_in_parts}
 use Rattle.mk_words.specs.States.{PassState}
@@ -29,11 +29,13 @@ none_left a z (b ∷ x) y e h =
     let lengths = ap length h in
     absurd (grind (arith, length-append, lengths))
 
-one_call : (c : Config) (es : List Event) (e : Event) → calls_from c (left c es) (e ∷ []) ≡ call_decided c (left c es).now e
+one_call : (c : Config) (es : List Event) (e : Event) → calls_from c (left c es) (e ∷ []) ≡ call_decided c
+    (left c es).now e
 unfolding calls_from
 one_call c es e = append-nil (call_decided c (left c es).now e)
 
-module _ {p0 p1 p2 : PassState} {o1 o2 : Op} {a1 a2 : Answer} (first : Called p0 o1 a1 p1) (second : Called p1 o2 a2 p2) where
+module _ {p0 p1 p2 : PassState} {o1 o2 : Op} {a1 a2 : Answer} (first : Called p0 o1 a1 p1)
+    (second : Called p1 o2 a2 p2) where
   abbrev c : Config
   c = p0.table.config
 
@@ -84,7 +86,8 @@ module _ {p0 p1 p2 : PassState} {o1 o2 : Op} {a1 a2 : Answer} (first : Called p0
   pub never_later : never_behind c (decided ++ others) ≡ after_calls (never_behind c decided) (asked between)
   never_later = never_in_parts c decided others
 
-  module _ (test : Op → Bool) (es more : List Event) (on : es ≡ p2.seen ++ more) (passes : test (flagged o1 a1) ≡ true) where
+  module _ (test : Op → Bool) (es more : List Event) (on : es ≡ p2.seen ++ more)
+      (passes : test (flagged o1 a1) ≡ true) where
     tail : List Event
     tail = (second.decided.event ∷ second.decided.behind) ++ more
 
@@ -117,11 +120,15 @@ module _ {p0 p1 p2 : PassState} {o1 o2 : Op} {a1 a2 : Answer} (first : Called p0
         ∙ ap (λ (l : List Decided). picked test l ++ picked test y) (calls_in_parts c decided others)
         ∙ ap (λ (l : List Decided). l ++ picked test y) (pick_append test (calls c decided) between)
         ∙ ap (λ (l : List Decided). picked test l ++ picked test between ++ picked test y) calls_there
-        ∙ ap (λ (l : List Decided). l ++ picked test between ++ picked test y) (pick_append test (calls c before) (entry ∷ []))
+        ∙ ap (λ (l : List Decided). l ++ picked test between ++ picked test y)
+        (pick_append test (calls c before) (entry ∷ []))
         ∙ ap (λ (l : List Decided). l ++ picked test (entry ∷ []) ++ picked test between ++ picked test y)
-        (ap (λ (l : List Decided). picked test l) (calls_in_parts c p0.seen first.decided.before) ∙ pick_append test (calls c p0.seen) z)
-        ∙ ap (λ (l : List Decided). (picked test (calls c p0.seen) ++ picked test z) ++ l ++ picked test between ++ picked test y) own_passes
+        (ap (λ (l : List Decided). picked test l) (calls_in_parts c p0.seen first.decided.before)
+        ∙ pick_append test (calls c p0.seen) z)
+        ∙ ap (λ (l : List Decided). (picked test (calls c p0.seen) ++ picked test z) ++ l ++ picked test between ++
+        picked test y) own_passes
 
     -- Where the first call is the only one that passes the test since it began, none in between does.
     pub none_between : picked test (calls c es) ≡ picked test (calls c p0.seen) ++ entry ∷ [] → picked test between ≡ []
-    none_between only = none_left (picked test (calls c p0.seen)) (picked test z) (picked test between) (picked test y) entry (sym parts ∙ only)
+    none_between only = none_left (picked test (calls c p0.seen)) (picked test z) (picked test between)
+        (picked test y) entry (sym parts ∙ only)

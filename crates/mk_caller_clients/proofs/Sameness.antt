@@ -1,22 +1,19 @@
 -- What the registers of the clients hold behind their calls.
-use Rattle.std.proofs.Common.{◌≡◌, ◌≢◌, ℕ, ◌<◌, Bool, true, List, [], ◌∷◌, ◌++◌, length, refl, sym, ◌∙◌, ap, subst, append_assoc, append-nil, inl, inr, cond}
+use Rattle.std.proofs.Common.{◌≡◌, ◌≢◌, ℕ, ◌<◌, Bool, true, List, ◌++◌, length, refl, sym, ◌∙◌, ap, subst, inl, inr}
 use Rattle.std.specs.Prelude.{Result, Ok, Err, IfOk}
 use Rattle.mk_words.specs.declared.call_steps.Held.{Held}
 use Rattle.mk_core.specs.Calls.{one_if}
 use Rattle.std.proofs.lemmas.Bool.{cases_eq, eq-eqb}
 use Rattle.mk_never.specs.declared.operations.Op.{Op}
 use Rattle.mk_never.specs.declared.operations.Op.TheVariants as op
-use Rattle.mk_never.specs.NeverHeap.{NeverState, global_at, after_op, after_calls, is_same}
+use Rattle.mk_never.specs.NeverHeap.{NeverState, global_at, is_same}
 use Rattle.mk_never.specs.Admitted.{IsCaller}
 use Rattle.mk_never.proofs.Sameness.{same_from_equal}
 use Rattle.mk_core.specs.declared.config.Config.{Config}
 use Rattle.mk_core.specs.declared.events.Answer.{Answer}
 use Rattle.mk_core.specs.declared.events.Answer.TheVariants as answer
 use Rattle.mk_core.specs.declared.events.Event.{Event}
-use Rattle.mk_core.specs.Decided.{Decided, asked}
-use Rattle.mk_core.specs.History.{first_world, left, calls, calls_from, call_decided, never_behind}
-use Rattle.mk_core.proofs.Histories.{calls_more}
-use Rattle.mk_core.proofs.HistoryParts.{calls_in_parts, never_in_parts}
+use Rattle.mk_core.specs.History.{never_behind}
 use Rattle.mk_words.specs.States.{PassState}
 use Rattle.mk_caller.specs.States.{number_of, never_of, value_of, Admits}
 use Rattle.mk_caller.specs.Called.{Called, IsAnswered}
@@ -65,19 +62,23 @@ may_get {p} {q} d g r ad lt c =
     (subst (λ count. g < count) (sym on.globals) ad.in_range.0) in
     record { of_a_caller = still_caller c ad.of_a_caller; in_range = (lt, there); access = tt; store = tt }
 
-module _ {p0 p1 p2 p3 : PassState} (d g r : ℕ) (word : ℕ) (a : Answer) (o : Op) (ad : Admits p0 (op.SetGlobal g r)) (lt : d < 8) (ne : d ≢ r)
-    (set : Called p0 (op.SetGlobal g r) answer.Done p1) (get : Called p1 (op.GetGlobal d g) (answer.Word word) p2) (last : Called p2 o a p3) where
+module _ {p0 p1 p2 p3 : PassState} (d g r : ℕ) (word : ℕ) (a : Answer) (o : Op) (ad : Admits p0 (op.SetGlobal g r))
+    (lt : d < 8) (ne : d ≢ r)
+    (set : Called p0 (op.SetGlobal g r) answer.Done p1) (get : Called p1 (op.GetGlobal d g) (answer.Word word) p2)
+    (last : Called p2 o a p3) where
   abbrev c : Config
   c = p0.table.config
 
   abbrev n1 : NeverState
   n1 = never_behind c (before set get)
 
-  global_there : IsOnlySetter p0 g r p3 → global_at (never_behind c (decided set get ++ others set get)) g ≡ value_of p0 r
+  global_there : IsOnlySetter p0 g r p3 → global_at (never_behind c (decided set get ++ others set get)) g ≡ value_of
+      p0 r
   global_there only =
       ap (λ (n : NeverState). global_at n g) (never_later set get)
       ∙ calls_keep (never_behind c (decided set get)) g (between set get)
-      (none_between set get (is_set_of g) p3.seen last.more (ap (λ (x : PassState). x.seen) last.is) (eq-eqb g g refl) only)
+      (none_between set get (is_set_of g) p3.seen last.more (ap (λ (x : PassState). x.seen) last.is) (eq-eqb g g refl)
+      only)
       ∙ ap (λ (n : NeverState). global_at n g) (never_there set get)
       ∙ set_gives n1 (number_of p0) g r
       (subst (λ count. g < count) (sym (never_continues c p0.seen set.decided.before).globals) ad.in_range.0)
