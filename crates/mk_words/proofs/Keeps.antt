@@ -1,5 +1,5 @@
 -- Each move of a pass keeps the rule.
-use Rattle.std.proofs.Common.{◌≡◌, ◌≢◌, ◌⊎◌, ℕ, ◌<◌, zero, suc, true, List, [], ◌∷◌, ◌++◌, length, get_or, set, refl, sym, ◌∙◌, ap, subst, inl, inr, ⊎_elim, append_assoc, append-nil, arith}
+use Rattle.std.proofs.Common.{◌≡◌, ◌≢◌, ◌⊎◌, ℕ, zero, suc, true, List, [], ◌∷◌, ◌++◌, length, set, refl, sym, ◌∙◌, ap, subst, inl, inr, ⊎_elim, append_assoc, append-nil}
 use Rattle.std.specs.Prelude.{slice_index, slice_set}
 use Rattle.std.proofs.lemmas.List.{set-get_or}
 use mathlib.Core.Option.{some, some-injective, some-ne-none}
@@ -14,12 +14,11 @@ use Rattle.mk_core.specs.declared.accesses.TableWord.{TableWord}
 use Rattle.mk_core.specs.Config.{IsWithinLimits}
 use Rattle.mk_core.specs.Words.{Words, zero_words_of, becomes, accessed, word_in}
 use Rattle.mk_core.specs.Layout.{index_of, in_order, AreOfPages, IsOfTable}
-use Rattle.mk_core.specs.Accesses.{reached, access, found}
+use Rattle.mk_core.specs.Accesses.{reached, access}
 use Rattle.mk_core.specs.Cycles.{is_give}
 use Rattle.mk_core.specs.Counts.{TalliesAreTidy, IsTidy}
 use Rattle.mk_core.specs.History.{World, first_world, left_from, left, AreEnabledFrom, AreEnabled, calls_from, IsHistory}
-use Rattle.mk_core.specs.Growing.{AreOfOthers, Grows}
-use Rattle.mk_core.specs.LongerLists.{IsStillAHistory, IsStillTheSame}
+use Rattle.mk_core.specs.Growing.{AreOfOthers}
 use Rattle.mk_core.proofs.Conditions.{enabled_meets}
 use Rattle.mk_core.proofs.Histories.{left_more, enabled_parts}
 use Rattle.mk_core.proofs.Lengths.{histories_keep_lengths}
@@ -27,7 +26,7 @@ use Rattle.mk_core.proofs.RegionLemmas.{words_stand, accesses_change}
 use Rattle.mk_words.specs.declared.rule.Part.{Part}
 use Rattle.mk_words.specs.declared.rule.View.{View}
 use Rattle.mk_words.specs.Seats.{Has, HasAll, without_seat, all_seats}
-use Rattle.mk_words.specs.Rule.{part, no_part, view, seats_of, Sees, Kept, Mine, told_by, adds, settles, first_view, nobody, beside, stays_with, goes_with, copy_of}
+use Rattle.mk_words.specs.Rule.{part, no_part, view, seats_of, Sees, Kept, Mine, adds, settles, first_view, nobody, beside, stays_with, goes_with, copy_of}
 use Rattle.mk_words.proofs.Seats.{has_left, has_right, has_either, others_append, others_none, others_one, others_own, others_fewer, others_nobody, only_one, without_less, without_it, not_both}
 use Rattle.mk_words.proofs.Tidy.{tidy_part, tidy_more, none_tidy}
 use Rattle.mk_words.proofs.LongerLists.{longer_lists}
@@ -85,20 +84,17 @@ changed pages w x y a b ws of table yx ba is =
     ∙ ap (λ (z : TableWord). in_order (accessed w z a)) (sym yx)
     ∙ ap (λ (d : Access). in_order (accessed w y d)) (sym ba))
 
-told : (pages : ℕ) (w : Words) (x y : TableWord) (a b : Access) (ws : List ℕ) → AreOfPages pages w → IsOfTable pages x → y ≡ x → b ≡ a → ws ≡ in_order w
-    → told_by a (slice_index ws (index_of pages x)) ≡ told_by b (word_in w y)
-told pages w x y a b ws of table yx ba is =
-    ap (λ (vs : List ℕ). told_by a (slice_index vs (index_of pages x))) is
-    ∙ ap (λ (n : ℕ). told_by a n) (words_stand pages w x of table)
-    ∙ ap (λ (z : TableWord). told_by a (word_in w z)) (sym yx)
-    ∙ ap (λ (d : Access). told_by d (word_in w y)) (sym ba)
+finds : (pages : ℕ) (w : Words) (x y : TableWord) (ws : List ℕ) → AreOfPages pages w → IsOfTable pages x → y ≡ x → ws ≡ in_order w
+    → slice_index ws (index_of pages x) ≡ word_in w y
+finds pages w x y ws of table yx is =
+    ap (λ (vs : List ℕ). slice_index vs (index_of pages x)) is ∙ words_stand pages w x of table ∙ ap (λ (z : TableWord). word_in w z) (sym yx)
 
 -- The step of an event, whatever its kind.
 pub performs_at : (slots id : ℕ) (me : Mine) (e : Event) (st : TableStep (Unit {0})) → me.0.came ≡ no_part → Has me.0.own.seats e.seat
     → IsHistory me.0.config (me.0.own.seen ++ e ∷ []) → (is_give e.step ≡ true → TalliesAreTidy me.0.config me.0.own.seen)
     → Allows (Kept me.0.config) slots id me (index_of me.0.config.pages (reached me.0.config (left me.0.config me.0.own.seen).now e))
     (becomes (access me.0.config (left me.0.config me.0.own.seen).now e))
-    (λ n m. adds e st me (told_by (access me.0.config (left me.0.config me.0.own.seen).now e) n) m)
+    (λ n m. adds e st me n m)
 performs_at slots id me e st alone has may give s k long at small =
     let v : View = me.0 in
     let c : Config = v.config in
@@ -140,9 +136,9 @@ performs_at slots id me e st alone has may give s k long at small =
           of_others = mine.0.of_others;
           is = refl;
           history = go.history;
-          tells =
-              told c.pages (left c es).now.words (reached c (left c v.own.seen).now e) (reached c (left c es).now e)
-              (access c (left c v.own.seen).now e) (access c (left c es).now e) s.words of go.same.of_the_table go.same.word go.same.access words;
+          tidy = go.tidy (tidy_more c v.own.seen e (tidy_part c v.own.seen more tidy) give) tidy;
+          finds =
+              finds c.pages (left c es).now.words (reached c (left c v.own.seen).now e) (reached c (left c es).now e) s.words of go.same.of_the_table go.same.word words;
         },
       ),
     )
@@ -168,7 +164,7 @@ settles_at slots id me st s k long at small =
         apart = apart_stays s.views id v w at
             (λ x h. ⊎_elim (λ (u : Has (seats_of v) x). u) (λ (u : Has [] x). cc) (has_either (seats_of v) [] x h)) k.apart;
       },
-      (refl, record { is = refl; own = mine.0; came = mine.1; history = k.history }),
+      (refl, record { is = refl; own = mine.0; came = mine.1; history = k.history; tidy = k.tidy }),
     )
 
 -- A cut: what stays and what goes have seen as much as the view, and have seats of it, none in common.

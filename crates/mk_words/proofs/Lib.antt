@@ -6,3 +6,8 @@ pub mod Undecided
 pub mod Owed
 pub mod Made
 pub mod CallSteps
+pub mod TurnSteps
+pub mod Closing
+pub mod Markers
+pub mod Opening
+pub mod Tallies

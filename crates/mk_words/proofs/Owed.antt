@@ -1,9 +1,8 @@
 -- What the calls owe the table for a step, a split, a join and the end, and what they learn.
-use Rattle.std.proofs.Common.{◌≡◌, ℕ, ◌<◌, true, List, [], ◌∷◌, ◌++◌, refl, sym, ◌∙◌, ap, subst, append-nil, arith}
+use Rattle.std.proofs.Common.{◌≡◌, ℕ, ◌<◌, List, [], ◌∷◌, ◌++◌, refl, sym, ◌∙◌, ap, subst, arith}
 use Rattle.std.specs.Prelude.{slice_index, replicate, false}
-use Rattle.std.proofs.lemmas.Bool.{false_from_ne_true}
 use Rattle.atomic_table.specs.Seated.{TableId}
-use Rattle.atomic_table.specs.Table.{State, Step as TableStep, Allows, Splits, Joins, Final, Seen, opening}
+use Rattle.atomic_table.specs.Table.{Allows, Splits, Joins, Final, Seen, opening}
 use Rattle.mk_core.specs.declared.config.Config.{Config}
 use Rattle.mk_core.specs.declared.events.Seat.{Seat}
 use Rattle.mk_core.specs.declared.events.Seat.TheVariants.{Host}
@@ -11,25 +10,24 @@ use Rattle.mk_core.specs.declared.events.Step.{Step}
 use Rattle.mk_core.specs.declared.events.Event.{Event}
 use Rattle.mk_core.specs.declared.accesses.Access.{Access}
 use Rattle.mk_core.specs.declared.accesses.TableWord.{TableWord}
-use Rattle.mk_core.specs.declared.seats.Flight.{Flight}
 use Rattle.mk_core.specs.Config.{IsWithinLimits}
 use Rattle.mk_core.specs.Words.{becomes}
 use Rattle.mk_core.specs.Layout.{index_of, count_of_words, IsOfTable}
 use Rattle.mk_core.specs.Accesses.{reached, access}
-use Rattle.mk_core.specs.Decided.{asked, Decided}
-use Rattle.mk_core.specs.History.{first_world, left, AreEnabledFrom, calls, calls_from, never_first, CallsAreAdmitted, IsHistory, IsEnabledBehind, IsAdmittedBehind}
+use Rattle.mk_core.specs.History.{first_world, AreEnabledFrom, calls_from, IsHistory}
+use Rattle.mk_core.specs.Counts.{IsTidy}
 use Rattle.mk_core.specs.Growing.{Grows, is_same_seat}
 use Rattle.mk_core.proofs.Histories.{enabled_more}
 use Rattle.mk_core.proofs.LayoutLemmas.{indexes_within}
 use Rattle.mk_core.proofs.RegionLemmas.{first_are_zero}
 use Rattle.mk_protocol.proofs.Reaching.{events_reach_the_table}
-use Rattle.mk_words.specs.declared.rule.Part.{Part}
 use Rattle.mk_words.specs.declared.rule.View.{View}
-use Rattle.mk_words.specs.Seats.{Has, HasAll, without_seat}
+use Rattle.mk_words.specs.Seats.{Has, HasAll}
 use Rattle.mk_words.specs.States.{WordsState, PassState, now_of, event_of}
-use Rattle.mk_words.specs.Rule.{part, no_part, seats_of, Kept, Mine, told_by, no_step, adds, settles, stays_with, goes_with, copy_of, beside, nobody, first_view}
+use Rattle.mk_words.specs.Rule.{Kept, Mine, told_by, no_step, adds, stores, settles, stays_with, goes_with, copy_of, beside, nobody, first_view}
 use Rattle.mk_words.specs.Passes.{state_of, IsInOrder}
-use Rattle.mk_words.specs.Steps.{may_decide, May, Tells}
+use Rattle.mk_words.specs.Steps.{May, Tells, Finds}
+use Rattle.mk_words.proofs.Tidy.{none_tidy}
 use Rattle.mk_words.proofs.Undecided.{undecided_admitted}
 use Rattle.mk_words.proofs.Keeps.{performs_at, settles_at, splits, hands_over, remembers, joins, opens, closes, Ended}
 use Rattle.mk_words.proofs.Seats.{has_all, has_first, has_left, without_keeps}
@@ -52,7 +50,7 @@ pub event_call : (config key : Config) (tid : TableId) (words slots id : ℕ) (m
     → IsInOrder me seat → me.0.config ≡ config → key ≡ config → words ≡ count_of_words config.pages → picked ≡ event_of (state_of tid me seat) s
     → May (state_of tid me seat) s → x ≡ reached me.0.config (now_of (state_of tid me seat)) (event_of (state_of tid me seat) s)
     → a ≡ access me.0.config (now_of (state_of tid me seat)) (event_of (state_of tid me seat) s) → i ≡ index_of config.pages x
-    → (i < words) × Allows (Kept key) slots id me i (becomes a) (λ n m. adds picked no_step me (told_by a n) m)
+    → (i < words) × Allows (Kept key) slots id me i (becomes a) (λ n m. adds picked no_step me n m)
 event_call config key tid words slots id me seat s i x a picked order config_is key_is words_are picked_is may x_is a_is i_is =
     let c : Config = me.0.config in
     let p : PassState = state_of tid me seat in
@@ -64,14 +62,14 @@ event_call config key tid words slots id me seat s i x a picked order config_is 
     let as_many : words ≡ count_of_words c.pages = words_are ∙ ap (λ (d : Config). count_of_words d.pages) (sym config_is) in
     let same_key : key ≡ c = key_is ∙ sym config_is in
     let all = performs_at slots id me (event_of p s) no_step order.settled order.own (history_more p s order.history may) may.tidy in
-    let at_access : Allows (Kept c) slots id me j (becomes a) (λ n m. adds (event_of p s) no_step me (told_by a n) m) =
-    subst (λ (d : Access). Allows (Kept c) slots id me j (becomes d) (λ n m. adds (event_of p s) no_step me (told_by d n) m)) (sym a_is) all in
-    let at_index : Allows (Kept c) slots id me i (becomes a) (λ n m. adds (event_of p s) no_step me (told_by a n) m) =
-    subst (λ (k : ℕ). Allows (Kept c) slots id me k (becomes a) (λ n m. adds (event_of p s) no_step me (told_by a n) m)) (sym at) at_access in
-    let at_event : Allows (Kept c) slots id me i (becomes a) (λ n m. adds picked no_step me (told_by a n) m) =
-    subst (λ (e : Event). Allows (Kept c) slots id me i (becomes a) (λ n m. adds e no_step me (told_by a n) m)) (sym picked_is) at_index in (
+    let at_access : Allows (Kept c) slots id me j (becomes a) (λ n m. adds (event_of p s) no_step me n m) =
+    subst (λ (d : Access). Allows (Kept c) slots id me j (becomes d) (λ n m. adds (event_of p s) no_step me n m)) (sym a_is) all in
+    let at_index : Allows (Kept c) slots id me i (becomes a) (λ n m. adds (event_of p s) no_step me n m) =
+    subst (λ (k : ℕ). Allows (Kept c) slots id me k (becomes a) (λ n m. adds (event_of p s) no_step me n m)) (sym at) at_access in
+    let at_event : Allows (Kept c) slots id me i (becomes a) (λ n m. adds picked no_step me n m) =
+    subst (λ (e : Event). Allows (Kept c) slots id me i (becomes a) (λ n m. adds e no_step me n m)) (sym picked_is) at_index in (
       omega arith,
-      subst (λ (d : Config). Allows (Kept d) slots id me i (becomes a) (λ n m. adds picked no_step me (told_by a n) m)) (sym same_key) at_event,
+      subst (λ (d : Config). Allows (Kept d) slots id me i (becomes a) (λ n m. adds picked no_step me n m)) (sym same_key) at_event,
     )
 
 -- what a step tells, and that the pass is in order behind it
@@ -84,23 +82,26 @@ in_order_still me n seat e answer order on =
       settled = ap (λ (w : View). w.came) add.is ∙ order.settled;
       own = subst (λ (w : View). Has w.own.seats seat) (sym add.is) order.own;
       history = subst (λ (w : View). IsHistory w.config w.own.seen) (sym add.is) add.history;
+      tidy = subst (λ (w : View). IsTidy w.config w.own.seen) (sym add.is) add.tidy;
     }
 
-pub record Learnt (tid : TableId) (me n : Mine) (seat : Seat) (s : Step) (answer : ℕ) : Type 0 where
+pub record Learnt (tid : TableId) (me n : Mine) (seat : Seat) (s : Step) (a : Access) (answer : ℕ) : Type 0 where
   pub tells : Tells (state_of tid me seat) s answer (state_of tid n seat)
   pub order : IsInOrder n seat
 
-pub event_learnt : (tid : TableId) (me n : Mine) (seat : Seat) (s : Step) (answer : ℕ) (picked : Event) → picked ≡ event_of (state_of tid me seat) s
-    → IsInOrder me seat → adds picked no_step me answer n → Learnt tid me n seat s answer
-event_learnt tid me n seat s answer picked picked_is order on_picked =
+pub event_learnt : (tid : TableId) (me n : Mine) (seat : Seat) (s : Step) (a : Access) (answer : ℕ) (picked : Event) → picked ≡ event_of (state_of tid me seat) s
+    → a ≡ access me.0.config (now_of (state_of tid me seat)) (event_of (state_of tid me seat) s)
+    → IsInOrder me seat → (found : ℕ) → adds picked no_step me found n → answer ≡ told_by a found → Learnt tid me n seat s a answer
+event_learnt tid me n seat s a answer picked picked_is a_is order found on_picked answer_is =
     let e : Event = event_of (state_of tid me seat) s in
-    let on : adds e no_step me answer n = subst (λ (d : Event). adds d no_step me answer n) picked_is on_picked in
+    let on : adds e no_step me found n = subst (λ (d : Event). adds d no_step me found n) picked_is on_picked in
     record {
       tells = record {
         makes = record { others = on.1.others; of_others = on.1.of_others; is = ap (λ (w : View). state_of tid (w, []) seat) on.1.is };
-        tells = on.1.tells;
+        tells = answer_is ∙ ap (λ (d : Access). told_by d found) a_is
+            ∙ ap (λ (k : ℕ). told_by (access me.0.config (now_of (state_of tid me seat)) (event_of (state_of tid me seat) s)) k) on.1.finds;
       };
-      order = in_order_still me n seat e answer order on;
+      order = in_order_still me n seat e found order on;
     }
 
 -- a split
@@ -171,7 +172,7 @@ module _ (w : WordsState) (p : PassState) (tid pid : TableId) (config key : Conf
   pub perform_call : (words slots id : ℕ) (s : Step) (i : ℕ) (x : TableWord) (a : Access) (picked : Event) → IsInOrder me seat → key ≡ config
       → words ≡ count_of_words config.pages → picked ≡ event_of p s → May p s → x ≡ reached p.table.config (now_of p) (event_of p s)
       → a ≡ access p.table.config (now_of p) (event_of p s) → i ≡ index_of config.pages x
-      → (i < words) × Allows (Kept key) slots id me i (becomes a) (λ n m. adds picked no_step me (told_by a n) m)
+      → (i < words) × Allows (Kept key) slots id me i (becomes a) (λ n m. adds picked no_step me n m)
   perform_call words slots id s i x a picked order key_is words_are picked_is may x_is a_is i_is =
       let back : p ≡ state_of pid me seat = sym p_is in
       event_call config key pid words slots id me seat s i x a picked order same_config key_is words_are
@@ -181,15 +182,34 @@ module _ (w : WordsState) (p : PassState) (tid pid : TableId) (config key : Conf
       (a_is ∙ ap (λ (r : PassState). access r.table.config (now_of r) (event_of r s)) back)
       i_is
 
-pub perform_learns : (p : PassState) (pid qid : TableId) (me n : Mine) (seat : Seat) (s : Step) (answer : ℕ) (picked : Event) → state_of pid me seat ≡ p → qid ≡ pid
-    → picked ≡ event_of p s → IsInOrder me seat → adds picked no_step me answer n → Tells p s answer (state_of qid n seat)
-perform_learns p pid qid me n seat s answer picked p_is q_is picked_is order on =
-    let learnt = event_learnt pid me n seat s answer picked (picked_is ∙ ap (λ (r : PassState). event_of r s) (sym p_is)) order on in
+pub perform_learns : (p : PassState) (pid qid : TableId) (me n : Mine) (seat : Seat) (s : Step) (a : Access) (answer : ℕ) (picked : Event) → state_of pid me seat ≡ p → qid ≡ pid
+    → picked ≡ event_of p s → a ≡ access p.table.config (now_of p) (event_of p s) → IsInOrder me seat
+    → (found : ℕ) × adds picked no_step me found n × (answer ≡ told_by a found) → Tells p s answer (state_of qid n seat)
+perform_learns p pid qid me n seat s a answer picked p_is q_is picked_is a_is order on =
+    let back : p ≡ state_of pid me seat = sym p_is in
+    let learnt = event_learnt pid me n seat s a answer picked (picked_is ∙ ap (λ (r : PassState). event_of r s) back)
+    (a_is ∙ ap (λ (r : PassState). access r.table.config (now_of r) (event_of r s)) back) order on.0 on.1 on.2 in
     subst (λ (z : TableId). Tells p s answer (state_of z n seat)) (sym q_is) (subst (λ (r : PassState). Tells r s answer (state_of pid n seat)) p_is learnt.tells)
 
-pub perform_keeps : (pid : TableId) (me n : Mine) (seat : Seat) (s : Step) (answer : ℕ) (picked : Event)
-    → IsInOrder me seat → adds picked no_step me answer n → IsInOrder n seat
-perform_keeps pid me n seat s answer picked order on = in_order_still me n seat picked answer order on
+pub perform_finds : (pid qid : TableId) (me n : Mine) (seat : Seat) (s : Step) (found : ℕ) (picked : Event) → qid ≡ pid → picked ≡ event_of (state_of pid me seat) s
+    → adds picked no_step me found n → Finds (state_of pid me seat) s found (state_of qid n seat)
+perform_finds pid qid me n seat s found picked q_is picked_is on_picked =
+    let on : adds (event_of (state_of pid me seat) s) no_step me found n = subst (λ (d : Event). adds d no_step me found n) picked_is on_picked in
+    subst (λ (z : TableId). Finds (state_of pid me seat) s found (state_of z n seat)) (sym q_is)
+    (record {
+      makes = record { others = on.1.others; of_others = on.1.of_others; is = ap (λ (w : View). state_of pid (w, []) seat) on.1.is };
+      finds = on.1.finds;
+    })
+
+pub perform_keeps : (me n : Mine) (seat : Seat) (found : ℕ) (picked : Event) → IsInOrder me seat → adds picked no_step me found n → IsInOrder n seat
+perform_keeps me n seat found picked order on = in_order_still me n seat picked found order on
+
+-- a store
+pub allows_store : (key : Config) (slots id : ℕ) (me : Mine) (i : ℕ) (e : Event) (value : ℕ)
+    → Allows (Kept key) slots id me i (λ n. value) (λ n m. adds e no_step me n m) → Allows (Kept key) slots id me i (λ n. value) (λ n m. stores e no_step me value m)
+allows_store key slots id me i e value allows s k long at small =
+    let a = allows s k long at small in
+    (a.0, a.1, a.2, a.3, (slice_index s.words i, a.4))
 
 -- at first
 
@@ -203,19 +223,19 @@ first_call c zeros limits are = opens c (opening {S = Unit {0}} zeros [] (first_
 pub first_in_order : (c : Config) (me : Mine) → IsWithinLimits c → me ≡ (first_view c, []) → IsInOrder me Host
 first_in_order c me limits is =
     subst (λ (m : Mine). IsInOrder m Host) (sym is)
-    (record { no_slot = refl; settled = refl; own = has_all c Host refl; history = none_is_history c limits })
+    (record { no_slot = refl; settled = refl; own = has_all c Host refl; history = none_is_history c limits; tidy = none_tidy c })
 
 -- behind a split
 
 pub kept_by_split : (me n : Mine) (seat x picked : Seat) → IsInOrder me seat → picked ≡ x → is_same_seat x seat ≡ false → n ≡ (stays_with picked me.0, me.1) → IsInOrder n seat
 kept_by_split me n seat x picked order picked_is other is =
     subst (λ (m : Mine). IsInOrder m seat) (sym (is ∙ ap (λ (y : Seat). (stays_with y me.0, me.1)) picked_is))
-    (record { no_slot = order.no_slot; settled = order.settled; own = without_keeps x me.0.own.seats seat other order.own; history = order.history })
+    (record { no_slot = order.no_slot; settled = order.settled; own = without_keeps x me.0.own.seats seat other order.own; history = order.history; tidy = order.tidy })
 
 pub made_by_split : (me n : Mine) (seat x picked : Seat) → IsInOrder me seat → picked ≡ x → n ≡ (goes_with picked me.0, []) → IsInOrder n x
 made_by_split me n seat x picked order picked_is is =
     subst (λ (m : Mine). IsInOrder m x) (sym (is ∙ ap (λ (y : Seat). (goes_with y me.0, [])) picked_is))
-    (record { no_slot = refl; settled = refl; own = has_first x []; history = order.history })
+    (record { no_slot = refl; settled = refl; own = has_first x []; history = order.history; tidy = order.tidy })
 
 -- behind a join
 
@@ -238,6 +258,7 @@ joined_as tid me from n seat slots none answer order on =
         settled = ap (λ (w : View). w.came) s.is;
         own = subst (λ (w : View). Has w.own.seats seat) (sym s.is) (has_left me.0.own.seats from.0.own.seats seat order.own);
         history = subst (λ (w : View). IsHistory w.config w.own.seen) (sym s.is) s.history;
+        tidy = subst (λ (w : View). IsTidy w.config w.own.seen) (sym s.is) s.tidy;
       };
     }
 

@@ -4,3 +4,8 @@ pub mod Rule
 pub mod Passes
 pub mod Steps
 pub mod CallSteps
+pub mod TurnSteps
+pub mod Finals
+pub mod Markers
+pub mod Opening
+pub mod Laws

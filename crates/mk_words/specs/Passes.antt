@@ -1,9 +1,11 @@
 -- What a pass is made of, and what always holds of it.
-use Rattle.std.specs.Prelude.{◌≡◌, List, []}
+use Rattle.std.specs.Prelude.{◌≡◌, []}
 use Rattle.atomic_table.specs.Seated.{TableId}
-use Rattle.mk_core.specs.declared.config.Config.{Config}
 use Rattle.mk_core.specs.declared.events.Seat.{Seat}
-use Rattle.mk_core.specs.History.{IsHistory}
+use Rattle.mk_core.specs.declared.seats.Marker.{Marker}
+use Rattle.mk_core.specs.Moments.{marker_at}
+use Rattle.mk_core.specs.History.{left, IsHistory}
+use Rattle.mk_core.specs.Counts.{IsTidy}
 use Rattle.mk_words.specs.Seats.{Has}
 use Rattle.mk_words.specs.States.{PassState}
 use Rattle.mk_words.specs.Rule.{Mine, no_part}
@@ -14,9 +16,15 @@ state_of id me seat =
     record { table = record { id = id; config = me.0.config }; seat = seat; seats = me.0.own.seats; seen = me.0.own.seen }
 
 -- The token holds no slot, nothing that came is still beside what is its own, its own seat is one of its seats, and what
--- it has seen is a history.
+-- it has seen is a history, and tidy.
 pub record IsInOrder (me : Mine) (seat : Seat) : Type 0 where
   pub no_slot : me.1 ≡ []
   pub settled : me.0.came ≡ no_part
   pub own : Has me.0.own.seats seat
   pub history : IsHistory me.0.config me.0.own.seen
+  pub tidy : IsTidy me.0.config me.0.own.seen
+
+-- The pass is in order, and has kept what its seat is at as a marker.
+pub record IsPass (me : Mine) (seat : Seat) (marker : Marker) : Type 0 where
+  pub order : IsInOrder me seat
+  pub keeps : marker ≡ marker_at (left me.0.config me.0.own.seen).now seat

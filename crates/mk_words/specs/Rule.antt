@@ -1,5 +1,5 @@
 -- The rule of the table, and what each step tells of it.
-use Rattle.std.specs.Prelude.{◌≡◌, ℕ, Bool, true, List, [], ◌∷◌, ◌++◌}
+use Rattle.std.specs.Prelude.{◌≡◌, ℕ, List, [], ◌∷◌, ◌++◌}
 use mathlib.Core.Option.{some, none}
 use lib.ListN.{get_elem?}
 use Rattle.atomic_table.specs.Table.{State, Me, Step as TableStep, step}
@@ -11,7 +11,7 @@ use Rattle.mk_core.specs.declared.events.Event.{Event}
 use Rattle.mk_core.specs.declared.accesses.Access.{Access}
 use Rattle.mk_core.specs.declared.accesses.Access.TheVariants.{Store}
 use Rattle.mk_core.specs.Layout.{in_order}
-use Rattle.mk_core.specs.Accesses.{access, found}
+use Rattle.mk_core.specs.Accesses.{found}
 use Rattle.mk_core.specs.History.{left, IsHistory}
 use Rattle.mk_core.specs.Counts.{IsTidy}
 use Rattle.mk_core.specs.Growing.{AreOfOthers, Grows}
@@ -65,20 +65,25 @@ abbrev pub told_by : Access → ℕ → ℕ
 told_by (Store value) n = value
 told_by _ n = n
 
--- The event stands in the history behind all that the view had seen and events of others.
-pub record Adds (e : Event) (v : View) (told : ℕ) (w : View) : Type 0 where
+-- The event stands in the history behind all that the view had seen and events of others, and finds this number there.
+pub record Adds (e : Event) (v : View) (n : ℕ) (w : View) : Type 0 where
   pub others : List Event
   pub of_others : AreOfOthers v.own.seats others
   pub is : w ≡ record v { own = part v.own.seats (v.own.seen ++ others ++ e ∷ []) }
   pub history : IsHistory v.config (v.own.seen ++ others ++ e ∷ [])
-  pub tells : told ≡ told_by (access v.config (left v.config (v.own.seen ++ others)).now e) (found v.config (left v.config (v.own.seen ++ others)).now e)
+  pub tidy : IsTidy v.config (v.own.seen ++ others ++ e ∷ [])
+  pub finds : n ≡ found v.config (left v.config (v.own.seen ++ others)).now e
 
 -- what a step tells doesn't read the table's account of it
 abbrev pub no_step : TableStep (Unit {0})
 no_step = step 0 0 0 0 none
 
 abbrev pub adds : Event → TableStep (Unit {0}) → Mine → ℕ → Mine → Type 0
-adds e st m told n = (n.1 ≡ m.1) × Adds e m.0 told n.0
+adds e st m found n = (n.1 ≡ m.1) × Adds e m.0 found n.0
+
+-- A store isn't told what it finds.
+abbrev pub stores : Event → TableStep (Unit {0}) → Mine → ℕ → Mine → Type 0
+stores e st m stored n = (found : ℕ) × adds e st m found n
 
 -- A look takes in what came by a join, and all events so far.
 pub record Settles (v w : View) : Type 0 where
@@ -86,9 +91,10 @@ pub record Settles (v w : View) : Type 0 where
   pub own : Grows v.own.seats v.own.seen w.own.seen
   pub came : Grows v.came.seats v.came.seen w.own.seen
   pub history : IsHistory v.config w.own.seen
+  pub tidy : IsTidy v.config w.own.seen
 
 abbrev pub settles : TableStep (Unit {0}) → Mine → ℕ → Mine → Type 0
-settles st m told n = (n.1 ≡ m.1) × Settles m.0 n.0
+settles st m found n = (n.1 ≡ m.1) × Settles m.0 n.0
 
 -- a view is cut: one seat goes with a new one, which has seen as much
 

@@ -1,13 +1,9 @@
 -- What the calls ask and what they ensure, of any kind of step.
-use Rattle.std.specs.Prelude.{◌≡◌, ℕ, Bool, true, false, List, [], ◌∷◌, ◌++◌, Option}
-use Rattle.mk_core.specs.declared.config.Config.{Config}
-use Rattle.mk_core.specs.declared.events.Answer.{Answer}
-use Rattle.mk_core.specs.declared.events.Word.{Word}
+use Rattle.std.specs.Prelude.{◌≡◌, ℕ, Bool, true, false, List, [], ◌∷◌, ◌++◌}
 use Rattle.mk_core.specs.declared.events.Word.TheVariants as word
 use Rattle.mk_core.specs.declared.events.Step.{Step}
 use Rattle.mk_core.specs.declared.events.Step.TheVariants as step
 use Rattle.mk_core.specs.declared.events.Event.{Event}
-use Rattle.mk_core.specs.declared.seats.Flight.{Flight}
 use Rattle.mk_core.specs.declared.seats.Progress.{Progress}
 use Rattle.mk_core.specs.Accesses.{access, found}
 use Rattle.mk_core.specs.Moments.{Moment}
@@ -69,7 +65,7 @@ pub record Finds (p : PassState) (s : Step) (n : ℕ) (q : PassState) : Type 0 w
 -- It made the step, whose access told this number.
 pub record Tells (p : PassState) (s : Step) (n : ℕ) (q : PassState) : Type 0 where
   pub makes : Makes p s q
-  pub tells : n ≡ told_by (access p.table.config (moment_of makes) (event_of p s)) (found_by makes)
+  pub tells : n ≡ told_by (access p.table.config (now_of p) (event_of p s)) (found_by makes)
 
 -- It made a step of its call, which goes on so: what is next of the call, and the answer, if the step decides it.
 pub record Goes (p : PassState) (s : Step) (x : Progress) (q : PassState) : Type 0 where

@@ -2,13 +2,27 @@
 #![tactic(auto)]
 
 mod call_steps;
+mod finals;
+mod granting;
 mod indexes;
+mod laws;
+mod marker_steps;
 mod passes;
 mod performing;
 mod rule;
+mod scans;
+mod stop_steps;
+mod stopped;
 mod telling;
+mod turn_steps;
+mod turns;
 mod words;
 
 pub use call_steps::Held;
+pub use finals::Final;
+pub use laws::{calls_go_on, steps_stand_behind_others};
 pub use passes::Pass;
+pub use stop_steps::InCall;
+pub use stopped::Stopped;
+pub use turns::{Busy, Turn};
 pub use words::Words;

@@ -1,11 +1,12 @@
 //! An access to a word of the table, which makes an event.
-ghost use Rattle.std.specs.Prelude.{◌≡◌, ◌<◌};
+ghost use Rattle.std.specs.Prelude.{◌≡◌, ◌<◌, ℕ};
 ghost use Rattle.atomic_table.specs.Table.{Allows};
+ghost use Rattle.mk_core.specs.declared.accesses.Access.TheVariants.{Store};
 ghost use Rattle.mk_core.specs.Words.{becomes};
 ghost use Rattle.mk_words.specs.Rule.{Kept, told_by, adds, no_step};
 
 use crate::rule::{OneHistory, View};
-use crate::telling::{Make, Making};
+use crate::telling::{Make, Making, Put};
 use atomic_table::{Seat as Token, Shared};
 use mk_core::{Access, Config};
 
@@ -19,14 +20,14 @@ pub(crate) fn access_as<J: Making>(
 ) -> u64
     requires table { token.old.table_id ≡ table.now.table_id }
     requires within { index < table.now.table_id.words }
-    requires allowed { Allows (Kept table.now.key) table.now.table_id.slots token.old.id token.old.me index (becomes access) (λ n m. adds J.event no_step token.old.me (told_by access n) m) }
+    requires allowed { Allows (Kept table.now.key) table.now.table_id.slots token.old.id token.old.me index (becomes access) (λ n m. adds J.event no_step token.old.me n m) }
     ensures table { token.new.table_id ≡ token.old.table_id }
-    ensures told { adds J.event no_step token.old.me result token.new.me }
+    ensures told { (found : ℕ) × adds J.event no_step token.old.me found token.new.me × (result ≡ told_by access found) }
 {
     match access {
         Access::Load => table.load::<Make<J>>(token, index),
         Access::Store(value) => {
-            table.store::<Make<J>>(token, index, value);
+            table.store::<Put<J>>(token, index, value);
             value
         }
         Access::Exchange { old, new } => {
@@ -36,4 +37,21 @@ pub(crate) fn access_as<J: Making>(
         Access::Add(n) => table.fetch_add::<Make<J>>(token, index, n),
         Access::Sub(n) => table.fetch_sub::<Make<J>>(token, index, n),
     }
+}
+
+/// Makes a store that answers what it found.
+#[inline(always)]
+pub(crate) fn swap_as<J: Making>(
+    table: &Shared<(), View, Config, OneHistory>,
+    token: &mut Token<(), View>,
+    index: usize,
+    value: u64,
+) -> u64
+    requires table { token.old.table_id ≡ table.now.table_id }
+    requires within { index < table.now.table_id.words }
+    requires allowed { Allows (Kept table.now.key) table.now.table_id.slots token.old.id token.old.me index (becomes (Store value)) (λ n m. adds J.event no_step token.old.me n m) }
+    ensures table { token.new.table_id ≡ token.old.table_id }
+    ensures told { adds J.event no_step token.old.me result token.new.me }
+{
+    table.swap::<Make<J>>(token, index, value)
 }

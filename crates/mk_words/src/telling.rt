@@ -28,6 +28,17 @@ impl<J: Making> Play<(), View> for Make<J> {
     ghost then = { adds J.event };
 }
 
+/// A store that is an event.
+pub struct Put<J> {
+    of: PhantomData<J>,
+}
+
+impl<J: Making> Play<(), View> for Put<J> {
+    ghost use Rattle.mk_words.specs.Rule.{stores};
+
+    ghost then = { stores J.event };
+}
+
 /// A look that takes in what came by a join.
 pub struct Settle;
 

@@ -1,0 +1,18 @@
+use Rattle.std.proofs.Common.{subst}
+use Rattle.mk_core.specs.declared.events.Step.TheVariants as step
+use Rattle.mk_words.specs.States.{TurnState}
+use Rattle.mk_words.specs.TurnSteps.{Acts}
+use Rattle.mk_words.proofs.TurnSteps.{acts, gives_rest}
+use Rattle.mk_words.proofs.turns.Turn.give.Goals as goal
+
+pub returns-clause-acts : goal.returns-clause-acts
+returns-clause-acts c =
+    let f = c.perform in
+    let t = c.self.inside in
+    subst (λ (v : TurnState). Acts v.pass step.Give f.new.self) c.self.view_is
+    (acts t.pass step.Give f.new.self f.ensures.told.makes f.ensures.own f.ensures.history c.self.invariant.turn.holds)
+
+pub returns-clause-rests : goal.returns-clause-rests
+returns-clause-rests c =
+    let f = c.perform in
+    gives_rest c.self.inside.pass f.new.self f.ensures.told.makes f.ensures.own f.ensures.history

@@ -1,0 +1,156 @@
+//! The turn, which one seat has at a time.
+ghost use Rattle.std.specs.Prelude.{◌≡◌, ◌+◌, IfOk, IfErr, true, false, None};
+ghost use Rattle.mk_core.specs.declared.events.Step.TheVariants as step;
+ghost use Rattle.mk_core.specs.Accesses.{reached, access};
+ghost use Rattle.mk_core.specs.Calls.{at_rest};
+ghost use Rattle.mk_core.specs.Counts.{TalliesAreExact, TalliesAreTidy, IsTidy};
+ghost use Rattle.mk_core.specs.History.{IsHistory};
+ghost use Rattle.mk_core.specs.Moments.{holder_number};
+ghost use Rattle.mk_core.specs.Order.{seat_exists};
+ghost use Rattle.mk_words.specs.Seats.{Has};
+ghost use Rattle.mk_words.specs.States.{now_of, call_of, event_of};
+ghost use Rattle.mk_words.specs.Steps.{IsEnabledTo, May, Makes, Finds, Tells};
+ghost use Rattle.mk_words.specs.TurnSteps.{IsTurn, IsFresh, turn_stays, may_take_cell, Acts};
+
+use crate::passes::Pass;
+use crate::words::Words;
+use mk_core::{Access, Seat, Step, TableWord};
+use mk_geom::Cell;
+use mk_never::Op;
+use std::marker::Model;
+
+/// The turn of a table, with the pass of the seat that has it.
+#[derive(Drop)]
+pub struct Turn {
+    pub(crate) pass: Pass,
+    pub(crate) op: Option<Op>,
+    pub(crate) cell: Option<Cell>,
+}
+
+impl Model for Turn {
+    ghost use Rattle.mk_words.specs.States.{TurnState};
+
+    ghost Value = { TurnState };
+
+    ghost use Rattle.mk_words.specs.TurnSteps.{KeepsTurn};
+
+    ghost view = { λ t. record { pass = t.pass; op = t.op } };
+
+    ghost invariant = { λ t. KeepsTurn t.pass t.op t.cell };
+}
+
+/// Another seat has the turn, by its number: a caller's own, or for the host the number of callers.
+#[derive(Clone, Copy, Debug, PartialEq, Eq)]
+pub struct Busy {
+    pub holder: u64,
+}
+
+impl Pass {
+    /// What the turn word is while the seat has the turn.
+    #[inline(always)]
+    fn turn_word(&self, words: &Words) -> u64
+        requires one_table { self.now.table ≡ words.now }
+        requires exists { seat_exists self.now.table.config self.now.seat ≡ true }
+        ensures { result ≡ 1 + holder_number self.now.table.config self.now.seat }
+    {
+        words.is_within_limits();
+        match self.seat {
+            Seat::Caller(caller) => 1 + caller,
+            Seat::Marker(_) | Seat::Host => 1 + words.callers(),
+        }
+    }
+
+    /// Takes the turn, for an operation where the seat is a caller's, or gives the pass back where another has it.
+    /// A New's flag is ignored.
+    pub fn try_take(mut self, words: &Words, op: Option<Op>) -> Result<Turn, (Pass, Busy)>
+        requires one_table { self.table ≡ words.now }
+        requires enabled { IsEnabledTo self (step.Take op) }
+        ensures made { IfOk result (λ turn. Finds self (step.Take op) 0 turn.pass) }
+        ensures op { IfOk result (λ turn. turn.op ≡ op) }
+        ensures fresh { IfOk result (λ turn. IsFresh turn.pass op) }
+        ensures exact { IfOk result (λ turn. TalliesAreExact turn.pass.table.config turn.pass.seen) }
+        ensures tidy { IfOk result (λ turn. TalliesAreTidy turn.pass.table.config turn.pass.seen) }
+        ensures busy { IfErr result (λ back. Finds self (step.Take op) (1 + back.1.holder) back.0) }
+        ensures stays { IfErr result (λ back. call_of back.0 ≡ call_of self) }
+        ensures again { IfErr result (λ back. IsEnabledTo back.0 (step.Take op)) }
+    {
+        let number = self.turn_word(words);
+        let found = self.perform(
+            words,
+            Step::Take(op),
+            TableWord::Turn,
+            Access::Exchange {
+                old: 0,
+                new: number,
+            },
+        );
+        self.is_in_order();
+        if found == 0 {
+            Ok(Turn {
+                pass: self,
+                op,
+                cell: None,
+            })
+        } else {
+            Err((self, Busy { holder: found - 1 }))
+        }
+    }
+}
+
+impl Turn {
+    /// Who has the turn.
+    pub fn seat(&self) -> Seat
+        ensures { result ≡ self.now.pass.seat }
+    {
+        self.pass.seat()
+    }
+
+    /// The operation that `try_take` was given.
+    pub fn op(&self) -> Option<Op>
+        ensures { result ≡ self.now.op }
+    {
+        self.op
+    }
+
+    /// What holds of every turn. It does nothing.
+    #[inline(always)]
+    pub fn is_in_order(&self)
+        ensures turn { IsTurn self.now.pass self.now.op }
+        ensures own { Has self.now.pass.seats self.now.pass.seat }
+        ensures history { IsHistory self.now.pass.table.config self.now.pass.seen }
+        ensures tidy { IsTidy self.now.pass.table.config self.now.pass.seen }
+    {
+        self.pass.is_in_order();
+    }
+
+    /// Makes a step behind which the turn goes on.
+    #[inline(always)]
+    pub(crate) fn perform(&mut self, words: &Words, step: Step, word: TableWord, by: Access) -> u64
+        requires one_table { self.old.pass.table ≡ words.now }
+        requires stays { turn_stays step ≡ true }
+        requires takes_none { may_take_cell step ≡ false }
+        requires may { May self.old.pass step }
+        requires word { word ≡ reached self.old.pass.table.config (now_of self.old.pass) (event_of self.old.pass step) }
+        requires access { by ≡ access self.old.pass.table.config (now_of self.old.pass) (event_of self.old.pass step) }
+        ensures told { Tells self.old.pass step result self.new.pass }
+        ensures op { self.new.op ≡ self.old.op }
+        ensures acts { Acts self.old.pass step self.new.pass }
+        ensures own { Has self.old.pass.seats self.old.pass.seat }
+        ensures history { IsHistory self.new.pass.table.config self.new.pass.seen }
+    {
+        self.pass.perform(words, step, word, by)
+    }
+
+    /// Gives the turn back.
+    pub fn give(self, words: &Words) -> Pass
+        requires one_table { self.pass.table ≡ words.now }
+        requires enabled { IsEnabledTo self.pass step.Give }
+        requires tidy { TalliesAreTidy self.pass.table.config self.pass.seen }
+        ensures acts { Acts self.pass step.Give result }
+        ensures rests { call_of result ≡ at_rest }
+    {
+        let Turn { mut pass, .. } = self;
+        pass.perform(words, Step::Give, TableWord::Turn, Access::Store(0));
+        pass
+    }
+}

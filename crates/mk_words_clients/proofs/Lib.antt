@@ -1,0 +1,3 @@
+pub mod Enabling
+pub mod Admitting
+pub mod TurnFacts
