@@ -1,9 +1,8 @@
 -- The parts that several calls have in common.
-use Rattle.std.proofs.Common.{◌≡◌, ◌≢◌, ℕ, ◌<◌, true, List, [], ◌∷◌, ◌++◌, refl, sym, ◌∙◌, ap, subst}
-use Rattle.std.specs.Prelude.{Option, Some, None, map}
+use Rattle.std.proofs.Common.{◌≡◌, ◌≢◌, ℕ, ◌<◌, true, List, [], ◌∷◌, refl, sym, ◌∙◌, ap, subst}
+use Rattle.std.specs.Prelude.{Some, None, map}
 use Rattle.mk_never.specs.declared.operations.Op.{Op}
 use Rattle.mk_never.specs.declared.values.Value.TheVariants.{Null as NullValue}
-use Rattle.mk_core.specs.declared.events.Answer.{Answer}
 use Rattle.mk_core.specs.declared.events.Answer.TheVariants as answer
 use Rattle.mk_core.specs.declared.events.Step.{Step}
 use Rattle.mk_core.specs.declared.events.Step.TheVariants as step
@@ -16,15 +15,18 @@ use Rattle.mk_words.specs.States.{PassState, call_of}
 use Rattle.mk_caller.specs.States.{never_of, value_of}
 use Rattle.mk_caller.specs.Called.{Called, step_at, refused_from}
 use Rattle.mk_caller.specs.Moves.{IsReady, At, is_access, is_store, refused_steps, refused_register, behind_q}
-use Rattle.mk_caller.proofs.Chains.{go, to, on_to, either_to, of_same, end, called, value_kept, access_finds_null, access_finds_some, access_is_small, null_steps, refused_puts}
+use Rattle.mk_caller.proofs.Chains.{go, to, on_to, either_to, of_same, called, value_kept, access_finds_null, access_finds_some, access_is_small, null_steps, refused_puts}
 use Rattle.mk_caller.proofs.Onward.{store_goes_on}
 
-pub marks_and_leaves : {p q r : PassState} → At p (call_of p).op (step.Dirty ∷ []) None (onward (call_of p) None).flight q
-    → At q (call_of q).op (step.Leave ∷ []) None at_rest r → At p (call_of p).op (step.Dirty ∷ step.Leave ∷ []) None at_rest r
+pub marks_and_leaves : {p q r : PassState} → At p (call_of p).op (step.Dirty ∷ []) None
+    (onward (call_of p) None).flight q
+    → At q (call_of q).op (step.Leave ∷ []) None at_rest r
+    → At p (call_of p).op (step.Dirty ∷ step.Leave ∷ []) None at_rest r
 marks_and_leaves a b = to a (of_same (ap (λ (f : Flight). f.op) a.call) b)
 
 pub stores_and_leaves : {p q r : PassState} (v : ℕ) → is_store (call_of p).stage ≡ true
-    → At p (call_of p).op (step.Reg ∷ []) (progress_reg (call_of p) (call_of p).stage v).answer (progress_reg (call_of p) (call_of p).stage v).flight q
+    → At p (call_of p).op (step.Reg ∷ []) (progress_reg (call_of p) (call_of p).stage v).answer
+    (progress_reg (call_of p) (call_of p).stage v).flight q
     → At q (call_of q).op (step.Leave ∷ []) None at_rest r
     → At p (call_of p).op (step.Reg ∷ step.Leave ∷ []) (progress_reg (call_of p) (call_of p).stage v).answer at_rest r
 stores_and_leaves {p} v is a b =
@@ -32,30 +34,41 @@ stores_and_leaves {p} v is a b =
     (of_same (ap (λ (f : Flight). f.op) a.call ∙ (store_goes_on p.table.config (call_of p) v is).op) b)
 
 -- a refusal that makes a register null
-pub refuses : {p q r : PassState} (d : ℕ) → (call_of p).stage ≡ stage_refused (call_of p).op → Some d ≡ refused_register (call_of p).op
-    → At p (call_of p).op (step.Reg ∷ []) (progress_reg (call_of p) (call_of p).stage 0).answer (progress_reg (call_of p) (call_of p).stage 0).flight q
+pub refuses : {p q r : PassState} (d : ℕ) → (call_of p).stage ≡ stage_refused (call_of p).op
+    → Some d ≡ refused_register (call_of p).op
+    → At p (call_of p).op (step.Reg ∷ []) (progress_reg (call_of p) (call_of p).stage 0).answer
+    (progress_reg (call_of p) (call_of p).stage 0).flight q
     → At q (call_of q).op (step.Leave ∷ []) None at_rest r
     → At p (call_of p).op (refused_steps (call_of p).op) None at_rest r
 refuses {p} {q} {r} d at is a b =
     let put : stage_refused (call_of p).op ≡ stage.Put = (refused_puts (call_of p).op d is).0 in
     let here : (call_of p).stage ≡ stage.Put = at ∙ put in
     subst (λ (s : Stage). At p (call_of p).op (map step_at (refused_from s)) None at_rest r) (sym put)
-    (subst (λ (s : Stage). At p (call_of p).op (step.Reg ∷ step.Leave ∷ []) (progress_reg (call_of p) s 0).answer at_rest r) here
+    (subst (λ (s : Stage). At p (call_of p).op (step.Reg ∷ step.Leave ∷ []) (progress_reg (call_of p) s 0).answer
+    at_rest r) here
     (stores_and_leaves 0 (ap (λ (s : Stage). is_store s) here) a b))
 
-loaded : {p q r : PassState} {o : Op} (u : ℕ) (x : Progress) → progress_reg (begun o) (begun o).stage u ≡ x → At p o (step.Enter o ∷ []) None (begun o) q
-    → At q (call_of q).op (step.Reg ∷ []) (progress_reg (call_of q) (call_of q).stage u).answer (progress_reg (call_of q) (call_of q).stage u).flight r
+loaded : {p q r : PassState} {o : Op} (u : ℕ) (x : Progress) → progress_reg (begun o) (begun o).stage u ≡ x
+    → At p o (step.Enter o ∷ []) None (begun o) q
+    → At q (call_of q).op (step.Reg ∷ []) (progress_reg (call_of q) (call_of q).stage u).answer
+    (progress_reg (call_of q) (call_of q).stage u).flight r
     → At p o (step.Enter o ∷ step.Reg ∷ []) x.answer x.flight r
 loaded {p} {q} {r} {o} u x is a b =
-    subst (λ (y : Progress). At p o (step.Enter o ∷ step.Reg ∷ []) y.answer y.flight r) is (go a (λ (f : Flight). progress_reg f f.stage u) refl b)
+    subst (λ (y : Progress). At p o (step.Enter o ∷ step.Reg ∷ []) y.answer y.flight r) is
+    (go a (λ (f : Flight). progress_reg f f.stage u) refl b)
 
-pub begins : {p q r : PassState} {o : Op} (u : ℕ) → is_access o ≡ true → u ≢ 0 → At p o (step.Enter o ∷ []) None (begun o) q
-    → At q (call_of q).op (step.Reg ∷ []) (progress_reg (call_of q) (call_of q).stage u).answer (progress_reg (call_of q) (call_of q).stage u).flight r
+pub begins : {p q r : PassState} {o : Op} (u : ℕ) → is_access o ≡ true → u ≢ 0
+    → At p o (step.Enter o ∷ []) None (begun o) q
+    → At q (call_of q).op (step.Reg ∷ []) (progress_reg (call_of q) (call_of q).stage u).answer
+    (progress_reg (call_of q) (call_of q).stage u).flight r
     → At p o (step.Enter o ∷ step.Reg ∷ []) None (behind_q o u) r
-begins {p} {q} {r} {o} u access ne a b = loaded u (onward (record (begun o) { q = u }) None) (access_finds_some o u access ne) a b
+begins {p} {q} {r} {o} u access ne a b = loaded u (onward (record (begun o) { q = u }) None)
+    (access_finds_some o u access ne) a b
 
-pub null_ends : {p q r s : PassState} {o : Op} (u : ℕ) → is_access o ≡ true → u ≡ 0 → At p o (step.Enter o ∷ []) None (begun o) q
-    → At q (call_of q).op (step.Reg ∷ []) (progress_reg (call_of q) (call_of q).stage u).answer (progress_reg (call_of q) (call_of q).stage u).flight r
+pub null_ends : {p q r s : PassState} {o : Op} (u : ℕ) → is_access o ≡ true → u ≡ 0
+    → At p o (step.Enter o ∷ []) None (begun o) q
+    → At q (call_of q).op (step.Reg ∷ []) (progress_reg (call_of q) (call_of q).stage u).answer
+    (progress_reg (call_of q) (call_of q).stage u).flight r
     → At r (call_of r).op (refused_steps (call_of r).op) None at_rest s → Called p o answer.Null s
 null_ends {p} {q} {r} {s} {o} u access zero a b e =
     let x = loaded u (refused (record (begun o) { q = 0 }) answer.Null)
@@ -63,18 +76,24 @@ null_ends {p} {q} {r} {s} {o} u access zero a b e =
     let same : (call_of r).op ≡ o = ap (λ (f : Flight). f.op) x.call in
     called (on_to x (subst (λ (y : Op). At r y (refused_steps y) None at_rest s) same e)) (null_steps o access)
 
-pub null_value : {p q : PassState} {o : Op} {ss : List Step} {f : Flight} (r : ℕ) → IsReady p o → is_access o ≡ true → r ≡ q_of o → At p o ss None f q
+pub null_value : {p q : PassState} {o : Op} {ss : List Step} {f : Flight} (r : ℕ) → IsReady p o → is_access o ≡ true
+    → r ≡ q_of o → At p o ss None f q
     → value_of q r ≡ NullValue → value_of p (q_of o) ≡ NullValue
 null_value {p} {q} {o} r ready access is a null =
-    sym (value_kept a.makes (q_of o) (access_is_small (never_of p) o access ready.admits.in_range)) ∙ ap (λ x. value_of q x) (sym is) ∙ null
+    sym (value_kept a.makes (q_of o) (access_is_small (never_of p) o access ready.admits.in_range))
+    ∙ ap (λ x. value_of q x) (sym is) ∙ null
 
-pub some_value : {p q : PassState} {o : Op} {ss : List Step} {f : Flight} (r : ℕ) → IsReady p o → is_access o ≡ true → r ≡ q_of o → At p o ss None f q
+pub some_value : {p q : PassState} {o : Op} {ss : List Step} {f : Flight} (r : ℕ) → IsReady p o → is_access o ≡ true
+    → r ≡ q_of o → At p o ss None f q
     → value_of p r ≡ NullValue → value_of q r ≡ NullValue
 some_value {p} {q} {o} r ready access is a null =
-    value_kept a.makes r (subst (λ x. x < 8) (sym is) (access_is_small (never_of p) o access ready.admits.in_range)) ∙ null
+    value_kept a.makes r (subst (λ x. x < 8) (sym is) (access_is_small (never_of p) o access ready.admits.in_range))
+    ∙ null
 
-pub fault_ends : {p q r : PassState} → At p (call_of p).op (step.Probe ∷ []) (Some answer.Fault) (refused (call_of p) answer.Fault).flight q
-    → At q (call_of q).op (refused_steps (call_of q).op) None at_rest r → At p (call_of p).op (step.Probe ∷ refused_steps (call_of p).op) (Some answer.Fault) at_rest r
+pub fault_ends : {p q r : PassState} → At p (call_of p).op (step.Probe ∷ []) (Some answer.Fault)
+    (refused (call_of p) answer.Fault).flight q
+    → At q (call_of q).op (refused_steps (call_of q).op) None at_rest r
+    → At p (call_of p).op (step.Probe ∷ refused_steps (call_of p).op) (Some answer.Fault) at_rest r
 fault_ends {p} {q} {r} a e =
     let same : (call_of q).op ≡ (call_of p).op = ap (λ (f : Flight). f.op) a.call in
     on_to a (subst (λ (y : Op). At q y (refused_steps y) None at_rest r) same e)

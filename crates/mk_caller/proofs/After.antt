@@ -1,6 +1,6 @@
 -- What a call leaves in its caller's registers.
-use Rattle.std.proofs.Common.{◌≡◌, ◌≢◌, ℕ, ◌+◌, ◌*◌, ◌<◌, Bool, true, false, List, ◌++◌, length, refl, sym, ◌∙◌, ap, subst, arith}
-use Rattle.std.specs.Prelude.{Option, Some, None, if◌then◌else◌, slice_index_or, slice_set}
+use Rattle.std.proofs.Common.{◌≡◌, ◌≢◌, ℕ, ◌+◌, ◌*◌, ◌<◌, Bool, true, false, List, ◌++◌, refl, sym, ◌∙◌, ap, subst, arith}
+use Rattle.std.specs.Prelude.{Some, if◌then◌else◌, slice_index_or}
 use Rattle.std.proofs.lemmas.List.{get_or-set_same, get_or-set_other}
 use Rattle.mk_never.specs.declared.operations.Op.{Op}
 use Rattle.mk_never.specs.declared.operations.Op.TheVariants as op
@@ -8,23 +8,23 @@ use Rattle.mk_never.specs.declared.values.Target.{Target}
 use Rattle.mk_never.specs.declared.values.Target.TheVariants.{Nothing, Unmapped, WordOf}
 use Rattle.mk_never.specs.declared.values.Value.{Value}
 use Rattle.mk_never.specs.declared.values.Value.TheVariants.{Null, Num, Ptr}
-use Rattle.mk_never.specs.NeverHeap.{NeverState, register_at, with_register, word_at, with_word, target_of, left_at, after_free, after_op, is_same, global_at}
+use Rattle.mk_never.specs.NeverHeap.{NeverState, register_at, with_register, word_at, with_word, target_of, left_at, after_free, after_op, is_same}
 use Rattle.mk_never.specs.Admitted.{IsCaller}
-use Rattle.mk_core.specs.declared.config.Config.{Config}
 use Rattle.mk_core.specs.declared.events.Answer.{Answer}
-use Rattle.mk_core.specs.declared.events.Event.{Event}
-use Rattle.mk_core.specs.History.{never_behind, IsHistory}
-use Rattle.mk_frames.proofs.LastEvents.{stands}
+use Rattle.mk_core.specs.History.{never_behind}
 use Rattle.mk_frames.proofs.OtherCalls.{never_continues}
 use Rattle.mk_words.specs.States.{PassState}
 use Rattle.mk_caller.specs.States.{number_of, never_of, value_of}
 use Rattle.mk_caller.specs.Called.{Called}
 use Rattle.mk_caller.specs.Laws.{destination, CallsLeaveOtherRegisters}
 
-set_other : (n : NeverState) (k d r : ℕ) (v : Value) → Some d ≢ Some r → register_at (with_register n k d v) k r ≡ register_at n k r
-set_other n k d r v ne = get_or-set_other n.registers (8 * k + d) (8 * k + r) v Null (λ e. ne (let same : d ≡ r = omega arith in cc))
+set_other : (n : NeverState) (k d r : ℕ) (v : Value) → Some d ≢ Some r
+    → register_at (with_register n k d v) k r ≡ register_at n k r
+set_other n k d r v ne = get_or-set_other n.registers (8 * k + d) (8 * k + r) v Null
+    (λ e. ne (let same : d ≡ r = omega arith in cc))
 
-pub set_same : (n : NeverState) (k d : ℕ) (v : Value) → IsCaller n k → d < 8 → register_at (with_register n k d v) k d ≡ v
+pub set_same : (n : NeverState) (k d : ℕ) (v : Value) → IsCaller n k → d < 8
+    → register_at (with_register n k d v) k d ≡ v
 set_same n k d v is lt = get_or-set_same n.registers (8 * k + d) v Null (omega arith)
 
 free_leaves : (n : NeverState) (k r : ℕ) (v : Value) → register_at (after_free n v) k r ≡ register_at n k r
@@ -32,23 +32,27 @@ free_leaves n k r Null = refl
 free_leaves n k r (Num m) = refl
 free_leaves n k r (Ptr a t o) = refl
 
-write_leaves : (n : NeverState) (k r : ℕ) (t : Target) (v : ℕ → ℕ → Value) → register_at (left_at t n (λ a w. with_word n a w (v a w))) k r ≡ register_at n k r
+write_leaves : (n : NeverState) (k r : ℕ) (t : Target) (v : ℕ → ℕ → Value)
+    → register_at (left_at t n (λ a w. with_word n a w (v a w))) k r ≡ register_at n k r
 write_leaves n k r Nothing v = refl
 write_leaves n k r Unmapped v = refl
 write_leaves n k r (WordOf a w) v = refl
 
-either_leaves : (n : NeverState) (k r a w : ℕ) (v : Value) (b : Bool) → register_at (if b then with_word n a w v else n) k r ≡ register_at n k r
+either_leaves : (n : NeverState) (k r a w : ℕ) (v : Value) (b : Bool)
+    → register_at (if b then with_word n a w v else n) k r ≡ register_at n k r
 either_leaves n k r a w v true = refl
 either_leaves n k r a w v false = refl
 
 cas_leaves : (n : NeverState) (k r : ℕ) (t : Target) (x v : Value)
-    → register_at (left_at t n (λ a w. if is_same (word_at n a w) x then with_word n a w v else n)) k r ≡ register_at n k r
+    → register_at (left_at t n (λ a w. if is_same (word_at n a w) x then with_word n a w v else n)) k r ≡ register_at
+    n k r
 cas_leaves n k r Nothing x v = refl
 cas_leaves n k r Unmapped x v = refl
 cas_leaves n k r (WordOf a w) x v = either_leaves n k r a w v (is_same (word_at n a w) x)
 
 read_leaves : (n : NeverState) (k d r : ℕ) (t : Target) → Some d ≢ Some r
-    → register_at (left_at t (with_register n k d Null) (λ a w. with_register n k d (word_at n a w))) k r ≡ register_at n k r
+    → register_at (left_at t (with_register n k d Null) (λ a w. with_register n k d (word_at n a w))) k
+    r ≡ register_at n k r
 read_leaves n k d r Nothing ne = set_other n k d r Null ne
 read_leaves n k d r Unmapped ne = set_other n k d r Null ne
 read_leaves n k d r (WordOf a w) ne = set_other n k d r (word_at n a w) ne
@@ -56,16 +60,19 @@ read_leaves n k d r (WordOf a w) ne = set_other n k d r (word_at n a w) ne
 new_leaves : (n m : NeverState) (k d r : ℕ) (v : Value) (full : Bool) → m.registers ≡ n.registers → Some d ≢ Some r
     → register_at (if full then n else with_register m k d v) k r ≡ register_at n k r
 new_leaves n m k d r v true same ne = refl
-new_leaves n m k d r v false same ne = set_other m k d r v ne ∙ ap (λ (xs : List Value). slice_index_or xs (8 * k + r) Null) same
+new_leaves n m k d r v false same ne = set_other m k d r v ne
+    ∙ ap (λ (xs : List Value). slice_index_or xs (8 * k + r) Null) same
 
-leaves : (n : NeverState) (k : ℕ) (o : Op) (r : ℕ) → destination o ≢ Some r → register_at (after_op n k o) k r ≡ register_at n k r
+leaves : (n : NeverState) (k : ℕ) (o : Op) (r : ℕ) → destination o ≢ Some r
+    → register_at (after_op n k o) k r ≡ register_at n k r
 leaves n k (op.New d ty full) r ne = new_leaves n _ k d r _ full refl ne
 leaves n k (op.Free p) r ne = free_leaves n k r (register_at n k p)
 leaves n k (op.GetNum q i) r ne = refl
 leaves n k (op.SetNum q i m) r ne = write_leaves n k r (target_of n (register_at n k q) i) (λ a w. Num m)
 leaves n k (op.GetPtr d q i) r ne = read_leaves n k d r (target_of n (register_at n k q) i) ne
 leaves n k (op.SetPtr q i p) r ne = write_leaves n k r (target_of n (register_at n k q) i) (λ a w. register_at n k p)
-leaves n k (op.CasPtr q i p x) r ne = cas_leaves n k r (target_of n (register_at n k q) i) (register_at n k p) (register_at n k x)
+leaves n k (op.CasPtr q i p x) r ne = cas_leaves n k r (target_of n (register_at n k q) i) (register_at n k p)
+    (register_at n k x)
 leaves n k (op.Lea d q i) r ne = set_other n k d r _ ne
 leaves n k (op.Move d q) r ne = set_other n k d r _ ne
 leaves n k (op.Clear d) r ne = set_other n k d r _ ne
@@ -76,15 +83,18 @@ leaves n k (op.IsNull p) r ne = refl
 
 -- A register behind a call is what the operation leaves at its place.
 pub value_left : {p q : PassState} {o : Op} {a : Answer} → (c : Called p o a q) → (r : ℕ) → r < 8
-    → value_of q r ≡ register_at (after_op (never_behind p.table.config (p.seen ++ c.decided.before)) (number_of p) o) (number_of p) r
+    → value_of q r ≡ register_at (after_op (never_behind p.table.config (p.seen ++ c.decided.before)) (number_of p) o)
+    (number_of p) r
 value_left {p} {q} c r lt = ap (λ (x : PassState). value_of x r) c.is ∙ c.decided.left_so r lt
 
 pub calls_leave_other_registers : CallsLeaveOtherRegisters
 calls_leave_other_registers p o a q r c lt ne =
-    value_left c r lt ∙ leaves (never_behind p.table.config (p.seen ++ c.decided.before)) (number_of p) o r ne ∙ c.decided.known r lt
+    value_left c r lt ∙ leaves (never_behind p.table.config (p.seen ++ c.decided.before)) (number_of p) o r ne
+    ∙ c.decided.known r lt
 
 -- A caller stays one.
-pub still_caller : {p q : PassState} {o : Op} {a : Answer} → (c : Called p o a q) → IsCaller (never_of p) (number_of p) → IsCaller (never_of q) (number_of q)
+pub still_caller : {p q : PassState} {o : Op} {a : Answer} → (c : Called p o a q)
+    → IsCaller (never_of p) (number_of p) → IsCaller (never_of q) (number_of q)
 still_caller {p} {q} c is =
     let on = never_continues p.table.config p.seen c.more in
     subst (λ (x : PassState). IsCaller (never_of x) (number_of x)) (sym c.is)

@@ -1,17 +1,15 @@
 -- A call step by step, from its beginning to its end.
-use Rattle.std.proofs.Common.{◌≡◌, ◌≢◌, ℕ, ◌<◌, Bool, true, false, List, [], ◌∷◌, ◌++◌, refl, sym, ◌∙◌, ap, subst, append_assoc}
+use Rattle.std.proofs.Common.{◌≡◌, ◌≢◌, ℕ, ◌<◌, Bool, true, List, ◌∷◌, ◌++◌, refl, sym, ◌∙◌, ap, subst, append_assoc}
 use Rattle.std.specs.Prelude.{Option, Some, None, ◌==◌, if◌then◌else◌}
 use Rattle.std.proofs.lemmas.Bool.{ne_eqb}
 use Rattle.mk_never.specs.declared.operations.Op.{Op}
 use Rattle.mk_never.specs.declared.operations.Op.TheVariants as op
 use Rattle.mk_never.specs.declared.values.Target.{Target}
-use Rattle.mk_never.specs.declared.values.Target.TheVariants.{Unmapped, WordOf}
+use Rattle.mk_never.specs.declared.values.Target.TheVariants.{Unmapped}
 use Rattle.mk_never.specs.declared.values.Value.{Value}
-use Rattle.mk_never.specs.declared.values.Value.TheVariants.{Null as NullValue}
 use Rattle.mk_never.specs.NeverHeap.{NeverState, target_of}
 use Rattle.mk_never.specs.Admitted.{OperandsAreInRange}
 use Rattle.mk_never.specs.Laws.{KeepsRegisters}
-use Rattle.mk_core.specs.declared.config.Config.{Config}
 use Rattle.mk_core.specs.declared.events.Answer.{Answer}
 use Rattle.mk_core.specs.declared.events.Answer.TheVariants as answer
 use Rattle.mk_core.specs.declared.events.Event.{Event}
@@ -25,17 +23,19 @@ use Rattle.mk_core.specs.History.{never_behind}
 use Rattle.mk_words.specs.States.{PassState, call_of, event_of}
 use Rattle.mk_caller.specs.States.{number_of, never_of, value_of}
 use Rattle.mk_caller.specs.Called.{Called, steps_made}
-use Rattle.mk_caller.specs.Causes.{Probes, ProbesAWord, IsRefused}
-use Rattle.mk_caller.specs.declared.refusals.Refusal.TheVariants as refusal
-use Rattle.mk_caller.specs.Moves.{IsReady, Makes, At, is_access, refused_register, refused_steps}
+use Rattle.mk_caller.specs.Causes.{Probes, ProbesAWord}
+use Rattle.mk_caller.specs.Moves.{loads, IsReady, Makes, At, is_access, refused_register, refused_steps}
 use Rattle.mk_caller.proofs.Joined.{joined, joined_on}
 
 -- Further steps of a call that isn't decided; how they go on is told by the call before them.
-pub go : {p q r : PassState} {o : Op} {ss ts : List Step} {f : Flight} → At p o ss None f q → (X : Flight → Progress) → f.op ≡ o
-    → At q (call_of q).op ts (X (call_of q)).answer (X (call_of q)).flight r → At p o (ss ++ ts) (X f).answer (X f).flight r
+pub go : {p q r : PassState} {o : Op} {ss ts : List Step} {f : Flight} → At p o ss None f q → (X : Flight → Progress)
+    → f.op ≡ o
+    → At q (call_of q).op ts (X (call_of q)).answer (X (call_of q)).flight r
+    → At p o (ss ++ ts) (X f).answer (X f).flight r
 go {p} {q} {r} {o} {ss} {ts} {f} a X same b =
     let makes : Makes q o ts (X f).answer r =
-    subst (λ (y : Op). Makes q y ts (X f).answer r) same (subst (λ (g : Flight). Makes q g.op ts (X g).answer r) a.call b.makes) in
+    subst (λ (y : Op). Makes q y ts (X f).answer r) same
+    (subst (λ (g : Flight). Makes q g.op ts (X g).answer r) a.call b.makes) in
     record {
       makes = joined p o ss ts (X f).answer q r a.makes makes;
       call = b.call ∙ ap (λ (g : Flight). (X g).flight) a.call;
@@ -43,12 +43,15 @@ go {p} {q} {r} {o} {ss} {ts} {f} a X same b =
     }
 
 -- and of one that is
-pub go_on : {p q r : PassState} {o : Op} {ss ts : List Step} {a : Answer} {f : Flight} → At p o ss (Some a) f q → (X : Flight → Progress) → f.op ≡ o
-    → (X f).answer ≡ None → At q (call_of q).op ts (X (call_of q)).answer (X (call_of q)).flight r → At p o (ss ++ ts) (Some a) (X f).flight r
+pub go_on : {p q r : PassState} {o : Op} {ss ts : List Step} {a : Answer} {f : Flight} → At p o ss (Some a) f q
+    → (X : Flight → Progress) → f.op ≡ o
+    → (X f).answer ≡ None → At q (call_of q).op ts (X (call_of q)).answer (X (call_of q)).flight r
+    → At p o (ss ++ ts) (Some a) (X f).flight r
 go_on {p} {q} {r} {o} {ss} {ts} {a} {f} before X same none b =
     let makes : Makes q o ts None r =
     subst (λ (y : Option Answer). Makes q o ts y r) none
-    (subst (λ (y : Op). Makes q y ts (X f).answer r) same (subst (λ (g : Flight). Makes q g.op ts (X g).answer r) before.call b.makes)) in
+    (subst (λ (y : Op). Makes q y ts (X f).answer r) same
+    (subst (λ (g : Flight). Makes q g.op ts (X g).answer r) before.call b.makes)) in
     record {
       makes = joined_on p o ss ts a q r before.makes makes;
       call = b.call ∙ ap (λ (g : Flight). (X g).flight) before.call;
@@ -56,50 +59,41 @@ go_on {p} {q} {r} {o} {ss} {ts} {a} {f} before X same none b =
     }
 
 -- parts of one call
-pub to : {p q r : PassState} {o : Op} {ss ts : List Step} {a : Option Answer} {f g : Flight} → At p o ss None f q → At q o ts a g r → At p o (ss ++ ts) a g r
-to {p} {q} {r} {o} {ss} {ts} {a} x y = record { makes = joined p o ss ts a q r x.makes y.makes; call = y.call; underway = y.underway }
+pub to : {p q r : PassState} {o : Op} {ss ts : List Step} {a : Option Answer} {f g : Flight} → At p o ss None f q
+    → At q o ts a g r → At p o (ss ++ ts) a g r
+to {p} {q} {r} {o} {ss} {ts} {a} x y = record {
+  makes = joined p o ss ts a q r x.makes y.makes;
+  call = y.call;
+  underway = y.underway;
+}
 
-pub on_to : {p q r : PassState} {o : Op} {ss ts : List Step} {a : Answer} {f g : Flight} → At p o ss (Some a) f q → At q o ts None g r
+pub on_to : {p q r : PassState} {o : Op} {ss ts : List Step} {a : Answer} {f g : Flight} → At p o ss (Some a) f q
+    → At q o ts None g r
     → At p o (ss ++ ts) (Some a) g r
-on_to {p} {q} {r} {o} {ss} {ts} {a} x y = record { makes = joined_on p o ss ts a q r x.makes y.makes; call = y.call; underway = y.underway }
+on_to {p} {q} {r} {o} {ss} {ts} {a} x y = record {
+  makes = joined_on p o ss ts a q r x.makes y.makes;
+  call = y.call;
+  underway = y.underway;
+}
 
 -- whether it is decided or not
-pub either_to : {p q r : PassState} {o : Op} {ss ts : List Step} {f g : Flight} → (a : Option Answer) → At p o ss a f q → At q o ts None g r
+pub either_to : {p q r : PassState} {o : Op} {ss ts : List Step} {f g : Flight} → (a : Option Answer)
+    → At p o ss a f q → At q o ts None g r
     → At p o (ss ++ ts) a g r
 either_to None x y = to x y
 either_to (Some a) x y = on_to x y
 
 -- the operation of the later part is that of the call in flight there
-pub of_same : {q r : PassState} {o : Op} {ts : List Step} {a : Option Answer} {g : Flight} → (call_of q).op ≡ o → At q (call_of q).op ts a g r → At q o ts a g r
+pub of_same : {q r : PassState} {o : Op} {ts : List Step} {a : Option Answer} {g : Flight} → (call_of q).op ≡ o
+    → At q (call_of q).op ts a g r → At q o ts a g r
 of_same {q} {r} {o} {ts} {a} {g} is x = subst (λ (y : Op). At q y ts a g r) is x
 
--- how a call goes on: by a load, by the load of a global, by a write and so on, and by the last steps
-
-abbrev pub loads : ℕ → Flight → Progress
-loads v f = progress_reg f f.stage v
-
-abbrev pub loads_global : ℕ → Flight → Progress
-loads_global v f = progress_getg f v
-
-abbrev pub writes : Flight → Progress
-writes f = onward f (Some answer.Done)
-
-abbrev pub probes : Flight → Progress
-probes f = onward f None
-
-abbrev pub reads : ℕ → Flight → Progress
-reads v f = progress_read f f.op v
-
-abbrev pub exchanges : Bool → Flight → Progress
-exchanges b f = onward f (Some (answer.Num (one_if b)))
-
+-- by a store and the last step
 abbrev pub stores : ℕ → Flight → Progress
-stores v f = record { flight = at_rest; answer = (progress_reg f f.stage v).answer }
+stores v f = record { flight = at_rest; answer = (loads v f).answer }
 
-abbrev pub end : Flight → Progress
-end f = record { flight = at_rest; answer = None }
-
-pub called : {p r : PassState} {o : Op} {ss : List Step} {a : Answer} → At p o ss (Some a) at_rest r → ss ≡ steps_made o a → Called p o a r
+pub called : {p r : PassState} {o : Op} {ss : List Step} {a : Answer} → At p o ss (Some a) at_rest r
+    → ss ≡ steps_made o a → Called p o a r
 called {p} {r} {o} {ss} {a} at steps =
     record {
       more = at.makes.more;
@@ -111,19 +105,23 @@ called {p} {r} {o} {ss} {a} at steps =
     }
 
 -- While nothing is decided the caller's registers keep their values.
-pub keeps : {p q : PassState} {o : Op} {ss : List Step} → Makes p o ss None q → KeepsRegisters (number_of p) (never_of p) (never_of q)
+pub keeps : {p q : PassState} {o : Op} {ss : List Step} → Makes p o ss None q
+    → KeepsRegisters (number_of p) (never_of p) (never_of q)
 keeps {p} {q} m = subst (λ (x : PassState). KeepsRegisters (number_of p) (never_of p) (never_of x)) (sym m.is) m.decided
 
-pub value_kept : {p q : PassState} {o : Op} {ss : List Step} → Makes p o ss None q → (r : ℕ) → r < 8 → value_of q r ≡ value_of p r
+pub value_kept : {p q : PassState} {o : Op} {ss : List Step} → Makes p o ss None q → (r : ℕ) → r < 8
+    → value_of q r ≡ value_of p r
 value_kept {p} {q} m r lt =
     ap (λ (x : PassState). Rattle.mk_never.specs.NeverHeap.register_at (never_of q) (number_of x) r) m.is ∙ keeps m r lt
 
 -- a probe of the later steps
-pub probes_from : {p q r : PassState} {o : Op} {ss : List Step} {t : Target} → Makes p o ss None q → q_of o < 8 → Probes q o r t → Probes p o r t
+pub probes_from : {p q r : PassState} {o : Op} {ss : List Step} {t : Target} → Makes p o ss None q → q_of o < 8
+    → Probes q o r t → Probes p o r t
 probes_from {p} {q} {r} {o} {ss} {t} m lt probes =
     by m.more m.decided (subst (λ (x : PassState). Probes x o r t) m.is probes)
   where
-    by : (m1 : List Event) → KeepsRegisters (number_of p) (never_of p) (never_behind p.table.config (p.seen ++ m1)) → Probes (record p { seen = p.seen ++ m1 }) o r t
+    by : (m1 : List Event) → KeepsRegisters (number_of p) (never_of p) (never_behind p.table.config (p.seen ++ m1))
+        → Probes (record p { seen = p.seen ++ m1 }) o r t
         → Probes p o r t
     by m1 keeps x =
         let join = append_assoc p.seen m1 x.before in
@@ -132,8 +130,10 @@ probes_from {p} {q} {r} {o} {ss} {t} m lt probes =
           behind = x.behind;
           is = x.is ∙ ap (λ (l : List Event). l ++ event_of p step.Probe ∷ x.behind) join;
           gets_to =
-              subst (λ (v : Value). target_of (never_behind p.table.config (p.seen ++ (m1 ++ x.before))) v (i_of o) ≡ t) (keeps (q_of o) lt)
-              (subst (λ (l : List Event). target_of (never_behind p.table.config l) (value_of (record p { seen = p.seen ++ m1 }) (q_of o)) (i_of o) ≡ t) join x.gets_to);
+              subst (λ (v : Value). target_of (never_behind p.table.config (p.seen ++ (m1 ++ x.before))) v
+              (i_of o) ≡ t) (keeps (q_of o) lt)
+              (subst (λ (l : List Event). target_of (never_behind p.table.config l)
+              (value_of (record p { seen = p.seen ++ m1 }) (q_of o)) (i_of o) ≡ t) join x.gets_to);
         }
 
 -- facts of operations
@@ -147,7 +147,8 @@ access_begins (op.CasPtr q i p r) h = refl
 access_begins (op.Lea d q i) h = refl
 access_begins _ h = cc
 
-pub access_finds_null : (o : Op) → is_access o ≡ true → progress_reg (begun o) (begun o).stage 0 ≡ refused (record (begun o) { q = 0 }) answer.Null
+pub access_finds_null : (o : Op) → is_access o ≡ true → progress_reg (begun o) (begun o).stage 0 ≡ refused
+    (record (begun o) { q = 0 }) answer.Null
 access_finds_null (op.GetNum q i) h = refl
 access_finds_null (op.SetNum q i n) h = refl
 access_finds_null (op.GetPtr d q i) h = refl
@@ -185,11 +186,14 @@ refused_leaves (op.Lea d q i) h = cc
 refused_leaves _ h = refl
 
 some_for : (o : Op) (u : ℕ) → u ≢ 0
-    → (if u == 0 then refused (record (begun o) { q = u }) answer.Null else onward (record (begun o) { q = u }) None) ≡ onward (record (begun o) { q = u }) None
+    → (if u == 0 then refused (record (begun o) { q = u }) answer.Null else onward (record (begun o) { q = u }) None)
+    ≡ onward (record (begun o) { q = u }) None
 some_for o u ne =
-    ap (λ (b : Bool). if b then refused (record (begun o) { q = u }) answer.Null else onward (record (begun o) { q = u }) None) (ne_eqb u 0 ne)
+    ap (λ (b : Bool). if b then refused (record (begun o) { q = u }) answer.Null else onward
+    (record (begun o) { q = u }) None) (ne_eqb u 0 ne)
 
-pub access_finds_some : (o : Op) (u : ℕ) → is_access o ≡ true → u ≢ 0 → progress_reg (begun o) (begun o).stage u ≡ onward (record (begun o) { q = u }) None
+pub access_finds_some : (o : Op) (u : ℕ) → is_access o ≡ true → u ≢ 0
+    → progress_reg (begun o) (begun o).stage u ≡ onward (record (begun o) { q = u }) None
 access_finds_some (op.GetNum q i) u h ne = some_for (op.GetNum q i) u ne
 access_finds_some (op.SetNum q i n) u h ne = some_for (op.SetNum q i n) u ne
 access_finds_some (op.GetPtr d q i) u h ne = some_for (op.GetPtr d q i) u ne
@@ -199,33 +203,38 @@ access_finds_some (op.Lea d q i) u h ne = some_for (op.Lea d q i) u ne
 access_finds_some _ u h ne = cc
 
 -- What a pass has seen goes on.
-pub record GoesOn (q r : PassState) : Type 0 where
+pub record SeesMore (q r : PassState) : Type 0 where
   pub more : List Event
   pub is : r.seen ≡ q.seen ++ more
 
-pub goes_on : {q r : PassState} {o : Op} {ts : List Step} {a : Option Answer} {f : Flight} → At q o ts a f r → GoesOn q r
-goes_on x = record { more = x.makes.more; is = ap (λ (s : PassState). s.seen) x.makes.is }
+pub sees_more : {q r : PassState} {o : Op} {ts : List Step} {a : Option Answer} {f : Flight} → At q o ts a f r
+    → SeesMore q r
+sees_more x = record { more = x.makes.more; is = ap (λ (s : PassState). s.seen) x.makes.is }
 
-pub goes_further : {q r s : PassState} {o : Op} {ts : List Step} {a : Option Answer} {f : Flight} → GoesOn q r → At r o ts a f s → GoesOn q s
-goes_further {q} g x =
+pub sees_further : {q r s : PassState} {o : Op} {ts : List Step} {a : Option Answer} {f : Flight} → SeesMore q r
+    → At r o ts a f s → SeesMore q s
+sees_further {q} g x =
     record {
       more = g.more ++ x.makes.more;
-      is = ap (λ (s : PassState). s.seen) x.makes.is ∙ ap (λ (l : List Event). l ++ x.makes.more) g.is ∙ append_assoc q.seen g.more x.makes.more;
+      is = ap (λ (s : PassState). s.seen) x.makes.is ∙ ap (λ (l : List Event). l ++ x.makes.more) g.is
+          ∙ append_assoc q.seen g.more x.makes.more;
     }
 
 -- a probe of earlier steps
-pub probes_on : {p q r : PassState} {o : Op} {t : Target} → Probes p o q t → GoesOn q r → Probes p o r t
+pub probes_on : {p q r : PassState} {o : Op} {t : Target} → Probes p o q t → SeesMore q r → Probes p o r t
 probes_on {p} {q} {r} {o} {t} x g =
     record {
       before = x.before;
       behind = x.behind ++ g.more;
-      is = g.is ∙ ap (λ (l : List Event). l ++ g.more) x.is ∙ append_assoc (p.seen ++ x.before) (event_of p step.Probe ∷ x.behind) g.more;
+      is = g.is ∙ ap (λ (l : List Event). l ++ g.more) x.is
+          ∙ append_assoc (p.seen ++ x.before) (event_of p step.Probe ∷ x.behind) g.more;
       gets_to = x.gets_to;
     }
 
 -- The call's access got to a word at its probe.
-pub reached : {p q s r : PassState} {o : Op} {ss : List Step} {f : Flight} → IsReady p o → is_access o ≡ true → At p o ss None f q → f.op ≡ o
-    → ProbesAWord q (call_of q).op s → GoesOn s r → ProbesAWord p o r
+pub reached : {p q s r : PassState} {o : Op} {ss : List Step} {f : Flight} → IsReady p o → is_access o ≡ true
+    → At p o ss None f q → f.op ≡ o
+    → ProbesAWord q (call_of q).op s → SeesMore s r → ProbesAWord p o r
 reached {p} {q} {s} {r} {o} ready access a same x g =
     let y : ProbesAWord q o s = subst (λ (y : Op). ProbesAWord q y s) (ap (λ (f : Flight). f.op) a.call ∙ same) x in
     record {
@@ -235,12 +244,16 @@ reached {p} {q} {s} {r} {o} ready access a same x g =
     }
 
 -- It found the allocation's pages unmapped.
-pub faults : {p q r : PassState} {o : Op} {ss : List Step} {f : Flight} → IsReady p o → is_access o ≡ true → At p o ss None f q → f.op ≡ o
+pub faults : {p q r : PassState} {o : Op} {ss : List Step} {f : Flight} → IsReady p o → is_access o ≡ true
+    → At p o ss None f q → f.op ≡ o
     → ss ++ (step.Probe ∷ refused_steps o) ≡ steps_made o answer.Fault
-    → At q (call_of q).op (step.Probe ∷ refused_steps (call_of q).op) (Some answer.Fault) at_rest r → Probes q (call_of q).op r Unmapped
+    → At q (call_of q).op (step.Probe ∷ refused_steps (call_of q).op) (Some answer.Fault) at_rest r
+    → Probes q (call_of q).op r Unmapped
     → Called p o answer.Fault r × Probes p o r Unmapped
 faults {p} {q} {r} {o} ready access a same steps b x =
     let is : (call_of q).op ≡ o = ap (λ (f : Flight). f.op) a.call ∙ same in (
-      called (to a (subst (λ (y : Op). At q y (step.Probe ∷ refused_steps y) (Some answer.Fault) at_rest r) is b)) steps,
-      probes_from a.makes (access_is_small (never_of p) o access ready.admits.in_range) (subst (λ (y : Op). Probes q y r Unmapped) is x),
+      called (to a (subst (λ (y : Op). At q y (step.Probe ∷ refused_steps y) (Some answer.Fault) at_rest r) is b))
+          steps,
+      probes_from a.makes (access_is_small (never_of p) o access ready.admits.in_range)
+          (subst (λ (y : Op). Probes q y r Unmapped) is x),
     )

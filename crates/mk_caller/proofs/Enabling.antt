@@ -1,5 +1,5 @@
 -- When a step of a call is enabled and admitted.
-use Rattle.std.proofs.Common.{◌≡◌, ℕ, ◌<◌, ◌≤◌, Bool, true, false, List, [], ◌∷◌, ◌++◌, length, refl, sym, ◌∙◌, ap, subst, arith}
+use Rattle.std.proofs.Common.{◌≡◌, ℕ, ◌<◌, Bool, true, false, List, length, refl, sym, ap, subst, arith}
 use Rattle.std.specs.Prelude.{Option, Some, None, nat_lt, ◌&&◌}
 use Rattle.std.proofs.lemmas.Bool.{and_from, and_parts, ltb-true, lt-ltb}
 use Rattle.mk_never.specs.declared.operations.Op.{Op}
@@ -8,7 +8,6 @@ use Rattle.mk_never.specs.NeverHeap.{NeverState}
 use Rattle.mk_never.specs.Admitted.{AreAdmitted, IsAdmitted, IsCaller, OperandsAreInRange}
 use Rattle.mk_core.specs.declared.config.Config.{Config}
 use Rattle.mk_core.specs.declared.events.Answer.{Answer}
-use Rattle.mk_core.specs.declared.events.Event.{Event}
 use Rattle.mk_core.specs.declared.events.Group.{Group}
 use Rattle.mk_core.specs.declared.events.Group.TheVariants as group
 use Rattle.mk_core.specs.declared.events.Seat.{Seat}
@@ -19,11 +18,11 @@ use Rattle.mk_core.specs.declared.seats.Flight.{Flight}
 use Rattle.mk_core.specs.declared.seats.Stage.{Stage}
 use Rattle.mk_core.specs.declared.seats.Stage.TheVariants as stage
 use Rattle.mk_core.specs.Accesses.{caller_number, register_met, found}
-use Rattle.mk_core.specs.Calls.{at_rest, is_under_turn, has_operands, has_type, q_of, p_of, r_of, d_of, g_of, progress_reg}
-use Rattle.mk_core.specs.Decided.{asked, entry_of, flagged}
+use Rattle.mk_core.specs.Calls.{is_under_turn, has_operands, has_type, q_of, p_of, r_of, d_of, g_of, progress_reg}
+use Rattle.mk_core.specs.Decided.{asked, entry_of}
 use Rattle.mk_core.specs.Effects.{answer_decided}
 use Rattle.mk_core.specs.Enabled.{IsEnabled, marker_may, holder_may}
-use Rattle.mk_core.specs.History.{left, IsHistory}
+use Rattle.mk_core.specs.History.{IsHistory}
 use Rattle.mk_core.specs.Moments.{Moment, flight_of, outside}
 use Rattle.mk_core.specs.Order.{group_of, comes_next}
 use Rattle.mk_core.specs.Ranges.{is_in_range, has_gates, has_phase}
@@ -34,7 +33,7 @@ use Rattle.mk_frames.proofs.LastEvents.{stands, goes_on_by}
 use Rattle.mk_words.specs.States.{PassState, call_of, event_of, now_of}
 use Rattle.mk_words.specs.Steps.{IsEnabledTo, IsAdmittedTo}
 use Rattle.mk_caller.specs.States.{number_of, never_of, Admits}
-use Rattle.mk_caller.specs.Moves.{IsReady, IsUnderway, is_decided}
+use Rattle.mk_caller.specs.Moves.{IsReady}
 use Rattle.mk_caller.proofs.OneStep.{flagged_same}
 
 -- Callers' kinds have no conditions 5 to 7.
@@ -44,7 +43,8 @@ record IsFree (c : Config) (m : Moment) (seat : Seat) (f : Flight) (s : Step) : 
   pub marker : marker_may c outside s ≡ true
   pub holder : holder_may c m f s ≡ true
 
-is_free : (c : Config) (m : Moment) (seat : Seat) (f : Flight) (s : Step) → group_of s ≡ group.Callers → IsFree c m seat f s
+is_free : (c : Config) (m : Moment) (seat : Seat) (f : Flight) (s : Step) → group_of s ≡ group.Callers
+    → IsFree c m seat f s
 is_free c m seat f (step.Enter o) h = record { gates = refl; phase = refl; marker = refl; holder = refl }
 is_free c m seat f step.Leave h = record { gates = refl; phase = refl; marker = refl; holder = refl }
 is_free c m seat f step.Reg h = record { gates = refl; phase = refl; marker = refl; holder = refl }
@@ -75,82 +75,112 @@ enabled_for c m k s lt kind next range =
     })
 
 -- The next step of a call is enabled, where its argument is in range.
-pub enabled : (p : PassState) (s : Step) (k : ℕ) → p.seat ≡ Caller k → k < p.table.config.callers → group_of s ≡ group.Callers
-    → comes_next (call_of p).stage (call_of p).op s ≡ true → is_in_range p.table.config p.seat (call_of p) s ≡ true → IsEnabledTo p s
+pub enabled : (p : PassState) (s : Step) (k : ℕ) → p.seat ≡ Caller k → k < p.table.config.callers
+    → group_of s ≡ group.Callers
+    → comes_next (call_of p).stage (call_of p).op s ≡ true → is_in_range p.table.config p.seat (call_of p) s ≡ true
+    → IsEnabledTo p s
 enabled p s k is lt kind next range =
     subst
-    (λ (t : Seat). comes_next (flight_of (now_of p) t).stage (flight_of (now_of p) t).op s ≡ true → is_in_range p.table.config t (flight_of (now_of p) t) s ≡ true
+    (λ (t : Seat). comes_next (flight_of (now_of p) t).stage (flight_of (now_of p) t).op s ≡ true
+    → is_in_range p.table.config t (flight_of (now_of p) t) s ≡ true
     → IsEnabled p.table.config (now_of p) (record { seat = t; step = s }))
     (sym is) (enabled_for p.table.config (now_of p) k s lt kind) next range
 
 -- whatever it is answered
-entry_admitted : (globals : List ℕ) (n : NeverState) (k : ℕ) (o : Op) (a : Option Answer) → is_under_turn o ≡ false → IsAdmitted globals n k o
+entry_admitted : (globals : List ℕ) (n : NeverState) (k : ℕ) (o : Op) (a : Option Answer) → is_under_turn o ≡ false
+    → IsAdmitted globals n k o
     → AreAdmitted globals n (asked (entry_of k o a))
 entry_admitted globals n k o None h ad = tt
-entry_admitted globals n k o (Some a) h ad = (subst (λ (y : Op). IsAdmitted globals n k y) (sym (flagged_same o a h)) ad, tt)
+entry_admitted globals n k o (Some a) h ad = (
+  subst (λ (y : Op). IsAdmitted globals n k y) (sym (flagged_same o a h))
+      ad,
+  tt,
+)
 
-pub admitted : (p : PassState) (s : Step) → IsHistory p.table.config p.seen → IsEnabledTo p s → is_under_turn (call_of p).op ≡ false
+pub admitted : (p : PassState) (s : Step) → IsHistory p.table.config p.seen → IsEnabledTo p s
+    → is_under_turn (call_of p).op ≡ false
     → Admits p (call_of p).op → IsAdmittedTo p s
 admitted p s h on entered ad =
     (goes_on_by p.table.config p.seen (event_of p s) h on
-    (entry_admitted p.table.config.globals (never_of p) (number_of p) (call_of p).op (answer_decided p.table.config (now_of p) (event_of p s)) entered ad)).admitted
+    (entry_admitted p.table.config.globals (never_of p) (number_of p) (call_of p).op
+    (answer_decided p.table.config (now_of p) (event_of p s)) entered ad)).admitted
 
 -- A step that decides nothing
 pub idly_admitted : (p : PassState) (s : Step) → IsHistory p.table.config p.seen → IsEnabledTo p s
     → answer_decided p.table.config (now_of p) (event_of p s) ≡ None → IsAdmittedTo p s
 idly_admitted p s h on none =
     (goes_on_by p.table.config p.seen (event_of p s) h on
-    (subst (λ (a : Option Answer). AreAdmitted p.table.config.globals (never_of p) (asked (entry_of (number_of p) (call_of p).op a))) (sym none) tt)).admitted
+    (subst (λ (a : Option Answer). AreAdmitted p.table.config.globals (never_of p)
+    (asked (entry_of (number_of p) (call_of p).op a))) (sym none) tt)).admitted
 
-pub put_decides_nothing : (p : PassState) (k : ℕ) → p.seat ≡ Caller k → (call_of p).stage ≡ stage.Put → answer_decided p.table.config (now_of p) (event_of p step.Reg) ≡ None
+pub put_decides_nothing : (p : PassState) (k : ℕ) → p.seat ≡ Caller k → (call_of p).stage ≡ stage.Put
+    → answer_decided p.table.config (now_of p) (event_of p step.Reg) ≡ None
 put_decides_nothing p k is put =
     subst
-    (λ (t : Seat). (flight_of (now_of p) t).stage ≡ stage.Put → answer_decided p.table.config (now_of p) (record { seat = t; step = step.Reg }) ≡ None) (sym is)
+    (λ (t : Seat). (flight_of (now_of p) t).stage ≡ stage.Put
+    → answer_decided p.table.config (now_of p) (record { seat = t; step = step.Reg }) ≡ None) (sym is)
     (λ (e : (flight_of (now_of p) (Caller k)).stage ≡ stage.Put).
-    ap (λ (s : Stage). (progress_reg (flight_of (now_of p) (Caller k)) s (found p.table.config (now_of p) (record { seat = Caller k; step = step.Reg }))).answer) e) put
+    ap (λ (s : Stage). (progress_reg (flight_of (now_of p) (Caller k)) s
+    (found p.table.config (now_of p) (record { seat = Caller k; step = step.Reg }))).answer) e) put
 
 -- the operands
 
-six : (a b d e f g : Bool) → a ≡ true → b ≡ true → d ≡ true → e ≡ true → f ≡ true → g ≡ true → (a && b && d && e && f && g) ≡ true
+six : (a b d e f g : Bool) → a ≡ true → b ≡ true → d ≡ true → e ≡ true → f ≡ true → g ≡ true
+    → (a && b && d && e && f && g) ≡ true
 six a b d e f g ha hb hd he hf hg =
-    and_from (a && b && d && e && f) g (and_from (a && b && d && e) f (and_from (a && b && d) e (and_from (a && b) d (and_from a b ha hb) hd) he) hf) hg
+    and_from (a && b && d && e && f) g (and_from (a && b && d && e) f
+    (and_from (a && b && d) e (and_from (a && b) d (and_from a b ha hb) hd) he) hf) hg
 
 below : (x n : ℕ) → x < n → nat_lt x n ≡ true
 below x n lt = lt-ltb x n lt
 
-operands : (c : Config) (n : NeverState) (o : Op) → length n.globals ≡ 64 → is_under_turn o ≡ false → OperandsAreInRange n o → has_operands c o ≡ true
+operands : (c : Config) (n : NeverState) (o : Op) → length n.globals ≡ 64 → is_under_turn o ≡ false
+    → OperandsAreInRange n o → has_operands c o ≡ true
 operands c n (op.GetNum q i) g u h = six (nat_lt q 8) _ _ _ _ _ (below q 8 h) refl refl refl refl refl
 operands c n (op.SetNum q i m) g u h = six (nat_lt q 8) _ _ _ _ _ (below q 8 h) refl refl refl refl refl
-operands c n (op.GetPtr d q i) g u h = six (nat_lt q 8) _ _ (nat_lt d 8) _ _ (below q 8 h.1) refl refl (below d 8 h.0) refl refl
-operands c n (op.SetPtr q i p) g u h = six (nat_lt q 8) (nat_lt p 8) _ _ _ _ (below q 8 h.0) (below p 8 h.1) refl refl refl refl
-operands c n (op.CasPtr q i p r) g u h = six (nat_lt q 8) (nat_lt p 8) (nat_lt r 8) _ _ _ (below q 8 h.0) (below p 8 h.1) (below r 8 h.2) refl refl refl
-operands c n (op.Lea d q i) g u h = six (nat_lt q 8) _ _ (nat_lt d 8) _ _ (below q 8 h.1) refl refl (below d 8 h.0) refl refl
-operands c n (op.Move d q) g u h = six (nat_lt q 8) _ _ (nat_lt d 8) _ _ (below q 8 h.1) refl refl (below d 8 h.0) refl refl
+operands c n (op.GetPtr d q i) g u h = six (nat_lt q 8) _ _ (nat_lt d 8) _ _ (below q 8 h.1) refl refl (below d 8 h.0)
+    refl refl
+operands c n (op.SetPtr q i p) g u h = six (nat_lt q 8) (nat_lt p 8) _ _ _ _ (below q 8 h.0) (below p 8 h.1) refl refl
+    refl refl
+operands c n (op.CasPtr q i p r) g u h = six (nat_lt q 8) (nat_lt p 8) (nat_lt r 8) _ _ _ (below q 8 h.0)
+    (below p 8 h.1) (below r 8 h.2) refl refl refl
+operands c n (op.Lea d q i) g u h = six (nat_lt q 8) _ _ (nat_lt d 8) _ _ (below q 8 h.1) refl refl (below d 8 h.0)
+    refl refl
+operands c n (op.Move d q) g u h = six (nat_lt q 8) _ _ (nat_lt d 8) _ _ (below q 8 h.1) refl refl (below d 8 h.0)
+    refl refl
 operands c n (op.Clear d) g u h = six _ _ _ (nat_lt d 8) _ _ refl refl refl (below d 8 h) refl refl
-operands c n (op.GetGlobal d x) g u h = six _ _ _ (nat_lt d 8) (nat_lt x 64) _ refl refl refl (below d 8 h.0) (below x 64 (omega arith)) refl
-operands c n (op.SetGlobal x p) g u h = six _ (nat_lt p 8) _ _ (nat_lt x 64) _ refl (below p 8 h.1) refl refl (below x 64 (omega arith)) refl
-operands c n (op.Same p q) g u h = six (nat_lt q 8) (nat_lt p 8) _ _ _ _ (below q 8 h.1) (below p 8 h.0) refl refl refl refl
+operands c n (op.GetGlobal d x) g u h = six _ _ _ (nat_lt d 8) (nat_lt x 64) _ refl refl refl (below d 8 h.0)
+    (below x 64 (omega arith)) refl
+operands c n (op.SetGlobal x p) g u h = six _ (nat_lt p 8) _ _ (nat_lt x 64) _ refl (below p 8 h.1) refl refl
+    (below x 64 (omega arith)) refl
+operands c n (op.Same p q) g u h = six (nat_lt q 8) (nat_lt p 8) _ _ _ _ (below q 8 h.1) (below p 8 h.0) refl refl
+    refl refl
 operands c n (op.IsNull p) g u h = six _ (nat_lt p 8) _ _ _ _ refl (below p 8 h) refl refl refl refl
 operands c n (op.New d ty full) g u h = cc
 operands c n (op.Free p) g u h = cc
 
-pub caller_exists : (p : PassState) (o : Op) (k : ℕ) → IsHistory p.table.config p.seen → p.seat ≡ Caller k → Admits p o → k < p.table.config.callers
+pub caller_exists : (p : PassState) (o : Op) (k : ℕ) → IsHistory p.table.config p.seen → p.seat ≡ Caller k
+    → Admits p o → k < p.table.config.callers
 caller_exists p o k h is ad =
-    let has : IsCaller (never_of p) k = subst (λ (j : ℕ). IsCaller (never_of p) j) (ap (λ (s : Seat). caller_number s) is) ad.of_a_caller in
+    let has : IsCaller (never_of p) k = subst (λ (j : ℕ). IsCaller (never_of p) j)
+    (ap (λ (s : Seat). caller_number s) is) ad.of_a_caller in
     let count = (stands p.table.config p.seen h).all.mirrors.register_count in
     omega arith
 
-pub enter_enabled : (p : PassState) (o : Op) → IsHistory p.table.config p.seen → IsReady p o → IsEnabledTo p (step.Enter o)
+pub enter_enabled : (p : PassState) (o : Op) → IsHistory p.table.config p.seen → IsReady p o
+    → IsEnabledTo p (step.Enter o)
 enter_enabled p o h ready =
     let st = stands p.table.config p.seen h in
     enabled p (step.Enter o) ready.caller ready.seat (caller_exists p o ready.caller h ready.seat ready.admits) refl
-    (subst (λ (f : Flight). comes_next f.stage f.op (step.Enter o) ≡ true) (sym ready.rest) (ap Rattle.std.specs.Prelude.not ready.entered))
+    (subst (λ (f : Flight). comes_next f.stage f.op (step.Enter o) ≡ true) (sym ready.rest)
+    (ap Rattle.std.specs.Prelude.not ready.entered))
     (operands p.table.config (never_of p) o st.all.mirrors.global_count ready.entered ready.admits.in_range)
 
 -- A register of the call in flight is one of the eight.
 pub met_is_small : (p : PassState) (s : Stage) → IsHistory p.table.config p.seen → register_met (call_of p) s < 8
 met_is_small p s h =
-    let has : has_operands p.table.config (call_of p).op ≡ true = seat_operands p.table.config (now_of p) p.seat (stands p.table.config p.seen h).known.now in
+    let has : has_operands p.table.config (call_of p).op ≡ true = seat_operands p.table.config (now_of p) p.seat
+    (stands p.table.config p.seen h).known.now in
     by (call_of p) s has
   where
     by : (f : Flight) (s : Stage) → has_operands p.table.config f.op ≡ true → register_met f s < 8
@@ -160,7 +190,8 @@ met_is_small p s h =
         let four = and_parts _ (nat_lt (d_of f.op) 8) global.0 in
         let three = and_parts _ (nat_lt (r_of f.op) 8) four.0 in
         let two = and_parts (nat_lt (q_of f.op) 8) (nat_lt (p_of f.op) 8) three.0 in
-        at s (ltb-true (q_of f.op) 8 two.0) (ltb-true (p_of f.op) 8 two.1) (ltb-true (r_of f.op) 8 three.1) (ltb-true (d_of f.op) 8 four.1)
+        at s (ltb-true (q_of f.op) 8 two.0) (ltb-true (p_of f.op) 8 two.1) (ltb-true (r_of f.op) 8 three.1)
+        (ltb-true (d_of f.op) 8 four.1)
       where
         at : (s : Stage) → q_of f.op < 8 → p_of f.op < 8 → r_of f.op < 8 → d_of f.op < 8 → register_met f s < 8
         at stage.LoadQ q p r d = q

@@ -1,11 +1,9 @@
 -- The first step: it begins the call, or finds the gate held.
-use Rattle.std.proofs.Common.{◌≡◌, ℕ, true, false, List, ◌∷◌, ◌++◌, [], refl, sym, ◌∙◌, ap, subst, append-nil}
+use Rattle.std.proofs.Common.{refl, sym, ◌∙◌, ap, subst, append-nil}
 use Rattle.std.specs.Prelude.{Result, Ok, Err, OnOk, OnErr, None}
 use Rattle.mk_never.specs.declared.operations.Op.{Op}
-use Rattle.mk_core.specs.declared.events.Event.{Event}
 use Rattle.mk_core.specs.declared.events.Step.TheVariants as step
 use Rattle.mk_core.specs.Calls.{begun, still}
-use Rattle.mk_core.specs.Decided.{Decided}
 use Rattle.mk_core.specs.History.{IsHistory}
 use Rattle.mk_words.specs.Seats.{Has}
 use Rattle.mk_words.specs.States.{PassState, call_of}
@@ -15,26 +13,31 @@ use Rattle.mk_words.specs.declared.call_steps.Held.{Held}
 use Rattle.mk_caller.specs.States.{number_of, never_of}
 use Rattle.mk_caller.specs.Called.{own_calls}
 use Rattle.mk_caller.specs.Causes.{FindsGateHeld}
-use Rattle.mk_caller.specs.Moves.{IsReady, Moves, Makes}
+use Rattle.mk_caller.specs.Moves.{IsReady, Moves}
 use Rattle.mk_caller.proofs.OneStep.{one_step}
 use Rattle.mk_caller.proofs.Onward.{enters}
 
-pub entered : (p : PassState) (o : Op) (q : PassState) (r : Result (Unit {0}) Held) → IsReady p o → Has p.seats p.seat → IsHistory p.table.config p.seen
+pub entered : (p : PassState) (o : Op) (q : PassState) (r : Result (Unit {0}) Held) → IsReady p o → Has p.seats p.seat
+    → IsHistory p.table.config p.seen
     → IsHistory q.table.config q.seen → OnOk r (Goes p (step.Enter o) (record { flight = begun o; answer = None }) q)
     → OnOk r (Moves p o (step.Enter o) (record { flight = begun o; answer = None }) q)
 entered p o q (Ok u) ready own before history g = enters p o q ready own before history g
 entered p o q (Err e) ready own before history g = tt
 
-pub held : (p : PassState) (o : Op) (q : PassState) (r : Result (Unit {0}) Held) → IsReady p o → Has p.seats p.seat → IsHistory p.table.config p.seen
-    → IsHistory q.table.config q.seen → OnErr r (FindsHeld p o q) → OnErr r (Goes p (step.Enter o) (still (call_of p)) q)
+pub held : (p : PassState) (o : Op) (q : PassState) (r : Result (Unit {0}) Held) → IsReady p o → Has p.seats p.seat
+    → IsHistory p.table.config p.seen
+    → IsHistory q.table.config q.seen → OnErr r (FindsHeld p o q)
+    → OnErr r (Goes p (step.Enter o) (still (call_of p)) q)
     → OnErr r (FindsGateHeld p o q)
 held p o q (Ok u) ready own before history finds stays = tt
 held p o q (Err e) ready own before history finds stays =
-    let m = one_step p o (step.Enter o) (still (call_of p)) q ready.caller ready.seat own history stays ready.entered refl in
+    let m = one_step p o (step.Enter o) (still (call_of p)) q ready.caller ready.seat own history stays ready.entered
+    refl in
     record {
       finds = finds;
       entries =
           ap (λ (r : PassState). own_calls p r.seen) m.is ∙ m.entry ∙ append-nil (own_calls p p.seen);
-      registers = subst (λ (r : PassState). Rattle.mk_never.specs.Laws.KeepsRegisters (number_of p) (never_of p) (never_of r)) (sym m.is) m.decided;
+      registers = subst (λ (r : PassState). Rattle.mk_never.specs.Laws.KeepsRegisters (number_of p) (never_of p)
+          (never_of r)) (sym m.is) m.decided;
       rest = stays.call ∙ ready.rest;
     }

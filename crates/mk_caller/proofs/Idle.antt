@@ -1,13 +1,12 @@
 -- What holds of a caller whose pass is home.
-use Rattle.std.proofs.Common.{◌≡◌, ℕ, true, refl, sym, ◌∙◌, ap, subst}
+use Rattle.std.proofs.Common.{◌≡◌, ℕ, true, ◌∙◌, ap, subst}
 use Rattle.std.specs.Prelude.{Option, Some, None}
-use Rattle.mk_never.specs.declared.operations.Op.{Op}
-use Rattle.mk_core.specs.Calls.{is_under_turn}
 use Rattle.mk_words.specs.States.{WordsState, PassState}
-use Rattle.mk_caller.specs.States.{CallerState, caller_of, IsWhole, IsIdleCaller, Admits}
-use Rattle.mk_caller.specs.Moves.{IsReady}
+use Rattle.mk_caller.specs.States.{CallerState, caller_of, IsWhole, IsIdleCaller}
 
-pub idle : (w : WordsState) (k : ℕ) (x : Option PassState) (s : CallerState) → caller_of w k x ≡ s → IsWhole w k x → s.home ≡ true → IsIdleCaller s.pass
+pub idle : (w : WordsState) (k : ℕ) (x : Option PassState) (s : CallerState) → caller_of w k x ≡ s → IsWhole w k x
+    → s.home ≡ true → IsIdleCaller s.pass
 idle w k (Some p) s is whole home =
     subst (λ (y : CallerState). IsIdleCaller y.pass) is (record { caller = k; seat = whole.1; rest = whole.2 })
-idle w k None s is whole home = absurd (let e : Rattle.std.specs.Prelude.false ≡ true = ap (λ (y : CallerState). y.home) is ∙ home in cc)
+idle w k None s is whole home = absurd (let e : Rattle.std.specs.Prelude.false ≡ true = ap
+    (λ (y : CallerState). y.home) is ∙ home in cc)

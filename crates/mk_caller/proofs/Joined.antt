@@ -1,8 +1,8 @@
 -- Steps of a call, one behind the other.
-use Rattle.std.proofs.Common.{◌≡◌, ℕ, ◌<◌, List, [], ◌∷◌, ◌++◌, refl, sym, ◌∙◌, ap, subst, append-nil, append_assoc}
+use Rattle.std.proofs.Common.{◌≡◌, List, [], ◌∷◌, ◌++◌, sym, ◌∙◌, ap, subst, append-nil, append_assoc}
 use Rattle.std.specs.Prelude.{Option, Some, None}
 use Rattle.mk_never.specs.declared.operations.Op.{Op}
-use Rattle.mk_never.specs.NeverHeap.{NeverState, reply_of, after_op}
+use Rattle.mk_never.specs.NeverHeap.{reply_of, after_op}
 use Rattle.mk_never.specs.Laws.{KeepsRegisters}
 use Rattle.mk_core.specs.declared.config.Config.{Config}
 use Rattle.mk_core.specs.declared.events.Answer.{Answer}
@@ -23,16 +23,19 @@ use Rattle.mk_caller.proofs.OneStep.{keeps_both}
 abbrev seen_more : PassState → List Event → PassState
 seen_more p m = record p { seen = p.seen ++ m }
 
-steps_joined : (p : PassState) (m1 m2 : List Event) (ss ts : List Step) → own_steps p m1 ≡ ss → own_steps (seen_more p m1) m2 ≡ ts
+steps_joined : (p : PassState) (m1 m2 : List Event) (ss ts : List Step) → own_steps p m1 ≡ ss
+    → own_steps (seen_more p m1) m2 ≡ ts
     → own_steps p (m1 ++ m2) ≡ ss ++ ts
 steps_joined p m1 m2 ss ts a b =
     steps_append p.table.config p.seat (left p.table.config p.seen) m1 m2
-    ∙ ap (λ (l : List Step). l ++ steps_from p.table.config p.seat (left_from p.table.config (left p.table.config p.seen) m1) m2) a
+    ∙ ap (λ (l : List Step). l ++ steps_from p.table.config p.seat
+    (left_from p.table.config (left p.table.config p.seen) m1) m2) a
     ∙ ap (λ (w : World). ss ++ steps_from p.table.config p.seat w m2) (sym (left_in_parts p.table.config p.seen m1))
     ∙ ap (λ (l : List Step). ss ++ l) b
 
 -- a decision of the later steps
-decided_later : (p : PassState) (o : Op) (a : Answer) (m1 m2 : List Event) → KeepsRegisters (number_of p) (never_of p) (never_behind p.table.config (p.seen ++ m1))
+decided_later : (p : PassState) (o : Op) (a : Answer) (m1 m2 : List Event)
+    → KeepsRegisters (number_of p) (never_of p) (never_behind p.table.config (p.seen ++ m1))
     → IsDecidedIn (seen_more p m1) o a m2 → IsDecidedIn p o a (m1 ++ m2)
 decided_later p o a m1 m2 keeps d =
     let c : Config = p.table.config in
@@ -42,18 +45,26 @@ decided_later p o a m1 m2 keeps d =
       event = d.event;
       behind = d.behind;
       is = ap (λ (l : List Event). m1 ++ l) d.is ∙ sym (append_assoc m1 d.before (d.event ∷ d.behind));
-      decides = subst (λ (l : List Event). call_decided c (left c l).now d.event ≡ entry_of (number_of p) o (Some a)) join d.decides;
-      reply = subst (λ (l : List Event). a ≡ answer_of (bases_of (left c (l ++ d.event ∷ [])).allocations) (reply_of (never_behind c l) (number_of p) o)) join d.reply;
-      known = keeps_both (number_of p) (never_of p) (never_behind c (p.seen ++ m1)) (never_behind c (p.seen ++ (m1 ++ d.before))) keeps
-          (subst (λ (l : List Event). KeepsRegisters (number_of p) (never_behind c (p.seen ++ m1)) (never_behind c l)) join d.known);
+      decides = subst (λ (l : List Event). call_decided c (left c l).now d.event ≡ entry_of (number_of p) o (Some a))
+          join d.decides;
+      reply = subst (λ (l : List Event). a ≡ answer_of (bases_of (left c (l ++ d.event ∷ [])).allocations)
+          (reply_of (never_behind c l) (number_of p) o)) join d.reply;
+      known = keeps_both (number_of p) (never_of p) (never_behind c (p.seen ++ m1))
+          (never_behind c (p.seen ++ (m1 ++ d.before))) keeps
+          (subst (λ (l : List Event). KeepsRegisters (number_of p) (never_behind c (p.seen ++ m1)) (never_behind c l))
+          join d.known);
       left_so =
-          subst (λ (l : List Event). KeepsRegisters (number_of p) (after_op (never_behind c (p.seen ++ (m1 ++ d.before))) (number_of p) o) (never_behind c l)) (append_assoc p.seen m1 m2)
-          (subst (λ (l : List Event). KeepsRegisters (number_of p) (after_op (never_behind c l) (number_of p) o) (never_behind c ((p.seen ++ m1) ++ m2))) join d.left_so);
+          subst (λ (l : List Event). KeepsRegisters (number_of p)
+          (after_op (never_behind c (p.seen ++ (m1 ++ d.before))) (number_of p) o) (never_behind c l))
+          (append_assoc p.seen m1 m2)
+          (subst (λ (l : List Event). KeepsRegisters (number_of p) (after_op (never_behind c l) (number_of p) o)
+          (never_behind c ((p.seen ++ m1) ++ m2))) join d.left_so);
     }
 
 -- or of the earlier ones
 decided_before : (p : PassState) (o : Op) (a : Answer) (m1 m2 : List Event) → IsDecidedIn p o a m1
-    → KeepsRegisters (number_of p) (never_behind p.table.config (p.seen ++ m1)) (never_behind p.table.config ((p.seen ++ m1) ++ m2))
+    → KeepsRegisters (number_of p) (never_behind p.table.config (p.seen ++ m1))
+    (never_behind p.table.config ((p.seen ++ m1) ++ m2))
     → IsDecidedIn p o a (m1 ++ m2)
 decided_before p o a m1 m2 d keeps =
     let c : Config = p.table.config in
@@ -66,26 +77,36 @@ decided_before p o a m1 m2 d keeps =
       reply = d.reply;
       known = d.known;
       left_so =
-          subst (λ (l : List Event). KeepsRegisters (number_of p) (after_op (never_behind c (p.seen ++ d.before)) (number_of p) o) (never_behind c l)) (append_assoc p.seen m1 m2)
-          (keeps_both (number_of p) (after_op (never_behind c (p.seen ++ d.before)) (number_of p) o) (never_behind c (p.seen ++ m1)) (never_behind c ((p.seen ++ m1) ++ m2)) d.left_so keeps);
+          subst (λ (l : List Event). KeepsRegisters (number_of p)
+          (after_op (never_behind c (p.seen ++ d.before)) (number_of p) o) (never_behind c l))
+          (append_assoc p.seen m1 m2)
+          (keeps_both (number_of p) (after_op (never_behind c (p.seen ++ d.before)) (number_of p) o)
+          (never_behind c (p.seen ++ m1)) (never_behind c ((p.seen ++ m1) ++ m2)) d.left_so keeps);
     }
 
-decided_as_later : (p : PassState) (o : Op) (a : Option Answer) (m1 m2 : List Event) → KeepsRegisters (number_of p) (never_of p) (never_behind p.table.config (p.seen ++ m1))
+decided_as_later : (p : PassState) (o : Op) (a : Option Answer) (m1 m2 : List Event)
+    → KeepsRegisters (number_of p) (never_of p) (never_behind p.table.config (p.seen ++ m1))
     → IsDecidedAs (seen_more p m1) o a m2 → IsDecidedAs p o a (m1 ++ m2)
 decided_as_later p o None m1 m2 keeps d =
-    subst (λ (l : List Event). KeepsRegisters (number_of p) (never_of p) (never_behind p.table.config l)) (append_assoc p.seen m1 m2)
-    (keeps_both (number_of p) (never_of p) (never_behind p.table.config (p.seen ++ m1)) (never_behind p.table.config ((p.seen ++ m1) ++ m2)) keeps d)
+    subst (λ (l : List Event). KeepsRegisters (number_of p) (never_of p) (never_behind p.table.config l))
+    (append_assoc p.seen m1 m2)
+    (keeps_both (number_of p) (never_of p) (never_behind p.table.config (p.seen ++ m1))
+    (never_behind p.table.config ((p.seen ++ m1) ++ m2)) keeps d)
 decided_as_later p o (Some a) m1 m2 keeps d = decided_later p o a m1 m2 keeps d
 
-is_joined : (p r : PassState) (m1 m2 : List Event) → r ≡ record p { seen = (p.seen ++ m1) ++ m2 } → r ≡ record p { seen = p.seen ++ (m1 ++ m2) }
+is_joined : (p r : PassState) (m1 m2 : List Event) → r ≡ record p { seen = (p.seen ++ m1) ++ m2 }
+    → r ≡ record p { seen = p.seen ++ (m1 ++ m2) }
 is_joined p r m1 m2 is = is ∙ ap (λ (l : List Event). record p { seen = l }) (append_assoc p.seen m1 m2)
 
 -- steps that decide nothing, and then others
-pub joined : (p : PassState) (o : Op) (ss ts : List Step) (a : Option Answer) (q r : PassState) → Makes p o ss None q → Makes q o ts a r → Makes p o (ss ++ ts) a r
-joined p o ss ts a q r first second = by first.more first.steps first.entry first.decided (subst (λ (x : PassState). Makes x o ts a r) first.is second)
+pub joined : (p : PassState) (o : Op) (ss ts : List Step) (a : Option Answer) (q r : PassState) → Makes p o ss None q
+    → Makes q o ts a r → Makes p o (ss ++ ts) a r
+joined p o ss ts a q r first second = by first.more first.steps first.entry first.decided
+    (subst (λ (x : PassState). Makes x o ts a r) first.is second)
   where
     by : (m1 : List Event) → own_steps p m1 ≡ ss → own_calls p (p.seen ++ m1) ≡ own_calls p p.seen ++ []
-        → KeepsRegisters (number_of p) (never_of p) (never_behind p.table.config (p.seen ++ m1)) → Makes (seen_more p m1) o ts a r → Makes p o (ss ++ ts) a r
+        → KeepsRegisters (number_of p) (never_of p) (never_behind p.table.config (p.seen ++ m1))
+        → Makes (seen_more p m1) o ts a r → Makes p o (ss ++ ts) a r
     by m1 steps entry keeps second =
         record {
           more = m1 ++ second.more;
@@ -98,10 +119,13 @@ joined p o ss ts a q r first second = by first.more first.steps first.entry firs
         }
 
 -- steps that decide the call, and then others
-pub joined_on : (p : PassState) (o : Op) (ss ts : List Step) (a : Answer) (q r : PassState) → Makes p o ss (Some a) q → Makes q o ts None r → Makes p o (ss ++ ts) (Some a) r
-joined_on p o ss ts a q r first second = by first.more first.steps first.entry first.decided (subst (λ (x : PassState). Makes x o ts None r) first.is second)
+pub joined_on : (p : PassState) (o : Op) (ss ts : List Step) (a : Answer) (q r : PassState) → Makes p o ss (Some a) q
+    → Makes q o ts None r → Makes p o (ss ++ ts) (Some a) r
+joined_on p o ss ts a q r first second = by first.more first.steps first.entry first.decided
+    (subst (λ (x : PassState). Makes x o ts None r) first.is second)
   where
-    by : (m1 : List Event) → own_steps p m1 ≡ ss → own_calls p (p.seen ++ m1) ≡ own_calls p p.seen ++ entry_of (number_of p) o (Some a)
+    by : (m1 : List Event) → own_steps p m1 ≡ ss → own_calls p (p.seen ++ m1) ≡ own_calls p p.seen ++ entry_of
+        (number_of p) o (Some a)
         → IsDecidedIn p o a m1 → Makes (seen_more p m1) o ts None r → Makes p o (ss ++ ts) (Some a) r
     by m1 steps entry decided second =
         record {

@@ -13,7 +13,6 @@ use Rattle.mk_core.specs.declared.events.Seat.{Seat}
 use Rattle.mk_core.specs.declared.events.Seat.TheVariants.{Caller}
 use Rattle.mk_core.specs.declared.events.Step.{Step}
 use Rattle.mk_core.specs.declared.seats.Flight.{Flight}
-use Rattle.mk_core.specs.declared.seats.Stage.{Stage}
 use Rattle.mk_core.specs.declared.seats.Stage.TheVariants as stage
 use Rattle.mk_core.specs.declared.seats.Progress.{Progress}
 use Rattle.mk_core.specs.Accesses.{caller_number}
@@ -21,25 +20,23 @@ use Rattle.mk_core.specs.Calls.{is_under_turn}
 use Rattle.mk_core.specs.Decided.{Decided, asked, answered, entry_of, flagged}
 use Rattle.mk_core.specs.Effects.{answer_decided}
 use Rattle.mk_core.specs.Growing.{AreOfOthers}
-use Rattle.mk_core.specs.History.{World, first_world, world_behind, left, left_from, calls, call_decided, never_behind, bases_of, IsHistory}
+use Rattle.mk_core.specs.History.{World, first_world, world_behind, left, calls, call_decided, never_behind, bases_of, IsHistory}
 use Rattle.mk_core.specs.Image.{answer_of, answers_of}
-use Rattle.mk_core.specs.Moments.{flight_of}
 use Rattle.mk_core.specs.Ranges.{is_word_met}
 use Rattle.mk_core.proofs.Histories.{calls_more}
-use Rattle.mk_core.proofs.HistoryParts.{left_in_parts}
 use Rattle.mk_images.proofs.OneEvent.{one_event}
 use Rattle.mk_invariant.proofs.Joined.{told_to_images}
 use Rattle.mk_frames.proofs.AdmittedStill.{call_on}
 use Rattle.mk_frames.proofs.LastEvents.{stands, comes_last}
 use Rattle.mk_frames.proofs.OtherCalls.{registers_are_left, never_continues}
 use Rattle.mk_words.specs.Seats.{Has}
-use Rattle.mk_words.specs.States.{PassState, call_of, event_of, now_of}
-use Rattle.mk_words.specs.Steps.{Goes, Makes as MakesStep, moment_of}
+use Rattle.mk_words.specs.States.{PassState, call_of, event_of}
+use Rattle.mk_words.specs.Steps.{Goes}
 use Rattle.mk_words.proofs.Made.{Made, made}
 use Rattle.mk_caller.specs.States.{number_of, never_of, Admits}
-use Rattle.mk_caller.specs.Called.{own_steps, own_calls, IsDecidedIn}
-use Rattle.mk_caller.specs.Moves.{IsDecidedAs, Makes, Moves, IsUnderway, is_decided}
-use Rattle.mk_caller.proofs.OwnSteps.{steps_append, own_step, by_append, own_entry, others_add_none, calls_by}
+use Rattle.mk_caller.specs.Called.{own_calls}
+use Rattle.mk_caller.specs.Moves.{IsDecidedAs, Makes, IsUnderway, is_decided}
+use Rattle.mk_caller.proofs.OwnSteps.{own_step, by_append, own_entry, others_add_none, calls_by}
 
 -- An operation that isn't a New has no flag.
 pub flagged_same : (o : Op) (a : Answer) → is_under_turn o ≡ false → flagged o a ≡ o
@@ -53,7 +50,8 @@ keeps_both k n m l f g r lt = g r lt ∙ f r lt
 pub own_seat : (p : PassState) (k : ℕ) → p.seat ≡ Caller k → p.seat ≡ Caller (number_of p)
 own_seat p k is = is ∙ ap (λ j. Caller j) (sym (ap (λ (s : Seat). caller_number s) is))
 
-module _ (p : PassState) (o : Op) (s : Step) (x : Progress) (q : PassState) (k : ℕ) (seat : p.seat ≡ Caller k) (own : Has p.seats p.seat)
+module _ (p : PassState) (o : Op) (s : Step) (x : Progress) (q : PassState) (k : ℕ) (seat : p.seat ≡ Caller k)
+    (own : Has p.seats p.seat)
     (history : IsHistory q.table.config q.seen) (g : Goes p s x q) (entered : is_under_turn o ≡ false)
     (same_op : entry_of (number_of p) (call_of p).op x.answer ≡ entry_of (number_of p) o x.answer) where
   abbrev c : Config
@@ -83,7 +81,8 @@ module _ (p : PassState) (o : Op) (s : Step) (x : Progress) (q : PassState) (k :
   joint : p.seen ++ (others ++ e ∷ []) ≡ es ++ e ∷ []
   joint = sym (append_assoc p.seen others (e ∷ []))
 
-  never : never_behind c (p.seen ++ (others ++ e ∷ [])) ≡ after_calls (never_behind c es) (asked (entry_of (number_of p) o x.answer))
+  never : never_behind c (p.seen ++ (others ++ e ∷ [])) ≡ after_calls (never_behind c es)
+      (asked (entry_of (number_of p) o x.answer))
   never =
       ap (λ (l : List Event). never_behind c l) joint
       ∙ (comes_last c es e d.whole).never
@@ -92,32 +91,43 @@ module _ (p : PassState) (o : Op) (s : Step) (x : Progress) (q : PassState) (k :
   before : KeepsRegisters (number_of p) (never_of p) (never_behind c es)
   before = registers_are_left c p.seen others (number_of p) d.history of_others
 
-  right : answered (entry_of (number_of p) o x.answer) ≡ answers_of (bases_of (left c (es ++ e ∷ [])).allocations) (replies_of (never_behind c es) (asked (entry_of (number_of p) o x.answer)))
+  right : answered (entry_of (number_of p) o x.answer) ≡ answers_of (bases_of (left c (es ++ e ∷ [])).allocations)
+      (replies_of (never_behind c es) (asked (entry_of (number_of p) o x.answer)))
   right =
       let last = comes_last c es e d.whole in
       let st = stands c es d.history in
-      let f = one_event c (left c es) (never_behind c es) e st.known (told_to_images c (left c es) (never_behind c es) st.known st.all) st.all.mirrors last.on last.admitted in
+      let f = one_event c (left c es) (never_behind c es) e st.known
+      (told_to_images c (left c es) (never_behind c es) st.known st.all) st.all.mirrors last.on last.admitted in
       sym (ap (λ (l : List Decided). answered l) decides)
       ∙ f.right []
-      ∙ ap (λ (bs : List ℕ). answers_of bs (replies_of (never_behind c es) (asked (call_decided c (left c es).now e)))) (append-nil (bases_of (world_behind c (left c es) e).allocations))
-      ∙ ap (λ (w : World). answers_of (bases_of w.allocations) (replies_of (never_behind c es) (asked (call_decided c (left c es).now e)))) (sym last.leaves)
-      ∙ ap (λ (l : List Decided). answers_of (bases_of (left c (es ++ e ∷ [])).allocations) (replies_of (never_behind c es) (asked l))) decides
+      ∙ ap (λ (bs : List ℕ). answers_of bs (replies_of (never_behind c es)
+      (asked (call_decided c (left c es).now e))))
+      (append-nil (bases_of (world_behind c (left c es) e).allocations))
+      ∙ ap (λ (w : World). answers_of (bases_of w.allocations)
+      (replies_of (never_behind c es) (asked (call_decided c (left c es).now e)))) (sym last.leaves)
+      ∙ ap (λ (l : List Decided). answers_of (bases_of (left c (es ++ e ∷ [])).allocations)
+      (replies_of (never_behind c es) (asked l))) decides
 
   decided_as : (a : Option Answer) → x.answer ≡ a → IsDecidedAs p o a (others ++ e ∷ [])
   decided_as None is =
       subst (λ (n : NeverState). KeepsRegisters (number_of p) (never_of p) n)
-      (sym (never ∙ ap (λ (a : Option Answer). after_calls (never_behind c es) (asked (entry_of (number_of p) o a))) is)) before
+      (sym (never ∙ ap (λ (a : Option Answer). after_calls (never_behind c es) (asked (entry_of (number_of p) o a)))
+      is)) before
   decided_as (Some a) is =
       let flag = flagged_same o a entered in
-      let one : (a ∷ []) ≡ answer_of (bases_of (left c (es ++ e ∷ [])).allocations) (reply_of (never_behind c es) (number_of p) (flagged o a)) ∷ [] =
-      subst (λ (b : Option Answer). answered (entry_of (number_of p) o b) ≡ answers_of (bases_of (left c (es ++ e ∷ [])).allocations) (replies_of (never_behind c es) (asked (entry_of (number_of p) o b)))) is right in
+      let one : (a ∷ []) ≡ answer_of (bases_of (left c (es ++ e ∷ [])).allocations)
+      (reply_of (never_behind c es) (number_of p) (flagged o a)) ∷ [] =
+      subst (λ (b : Option Answer). answered (entry_of (number_of p) o b) ≡ answers_of
+      (bases_of (left c (es ++ e ∷ [])).allocations)
+      (replies_of (never_behind c es) (asked (entry_of (number_of p) o b)))) is right in
       record {
         before = others;
         event = e;
         behind = [];
         is = refl;
         decides = decides ∙ ap (λ (b : Option Answer). entry_of (number_of p) o b) is;
-        reply = subst (λ (y : Op). a ≡ answer_of (bases_of (left c (es ++ e ∷ [])).allocations) (reply_of (never_behind c es) (number_of p) y)) flag (cc one);
+        reply = subst (λ (y : Op). a ≡ answer_of (bases_of (left c (es ++ e ∷ [])).allocations)
+            (reply_of (never_behind c es) (number_of p) y)) flag (cc one);
         known = before;
         left_so =
             let after : never_behind c (p.seen ++ (others ++ e ∷ [])) ≡ after_op (never_behind c es) (number_of p) o =
@@ -139,7 +149,8 @@ module _ (p : PassState) (o : Op) (s : Step) (x : Progress) (q : PassState) (k :
             ap (λ (l : List Event). own_calls p l) joint
             ∙ ap (λ (l : List Decided). calls_by (number_of p) l) (calls_more c (first_world c) es e)
             ∙ by_append (number_of p) (calls c es) (call_decided c (left c es).now e)
-            ∙ ap (λ (l : List Decided). l ++ calls_by (number_of p) (call_decided c (left c es).now e)) (others_add_none c (number_of p) p.seen others of_others)
+            ∙ ap (λ (l : List Decided). l ++ calls_by (number_of p) (call_decided c (left c es).now e))
+            (others_add_none c (number_of p) p.seen others of_others)
             ∙ ap (λ (l : List Decided). own_calls p p.seen ++ calls_by (number_of p) l) decides
             ∙ ap (λ (l : List Decided). own_calls p p.seen ++ l) (own_entry (number_of p) o x.answer);
         decided = decided_as x.answer refl;
@@ -152,14 +163,18 @@ module _ (p : PassState) (o : Op) (s : Step) (x : Progress) (q : PassState) (k :
   goes_underway exists known goes_on next page =
       let back : (P : PassState → Type 0) → P (record p { seen = p.seen ++ (others ++ e ∷ []) }) → P q =
       λ P h. subst P (sym is_more) h in
-      let whole : IsHistory c (p.seen ++ (others ++ e ∷ [])) = subst (λ (l : List Event). IsHistory c l) (sym joint) d.whole in
-      let at_last : (h : (x.answer ≡ None) × Admits p x.flight.op) → Admits (record p { seen = p.seen ++ (others ++ e ∷ []) }) x.flight.op =
+      let whole : IsHistory c (p.seen ++ (others ++ e ∷ [])) = subst (λ (l : List Event). IsHistory c l) (sym joint)
+      d.whole in
+      let at_last : (h : (x.answer ≡ None) × Admits p x.flight.op)
+      → Admits (record p { seen = p.seen ++ (others ++ e ∷ []) }) x.flight.op =
       λ h.
-      let keeps : KeepsRegisters (number_of p) (never_of p) (never_behind c (p.seen ++ (others ++ e ∷ []))) = decided_as None h.0 in
+      let keeps : KeepsRegisters (number_of p) (never_of p) (never_behind c (p.seen ++ (others ++ e ∷ []))) =
+      decided_as None h.0 in
       let st = stands c p.seen known in
       let flag = flagged_same x.flight.op answer.Done goes_on in
       subst (λ (y : Op). Admits (record p { seen = p.seen ++ (others ++ e ∷ []) }) y) flag
-      (call_on c.globals (never_of p) (never_behind c (p.seen ++ (others ++ e ∷ []))) (number_of p) (never_continues c p.seen (others ++ e ∷ [])) keeps
+      (call_on c.globals (never_of p) (never_behind c (p.seen ++ (others ++ e ∷ []))) (number_of p)
+      (never_continues c p.seen (others ++ e ∷ [])) keeps
       st.all.mirrors.typed x.flight.op (Some answer.Done) (subst (λ (y : Op). Admits p y) (sym flag) h.1, tt)).0 in
       record {
         caller = k;
@@ -168,8 +183,10 @@ module _ (p : PassState) (o : Op) (s : Step) (x : Progress) (q : PassState) (k :
         entered = ap (λ (f : Flight). is_under_turn f.op) g.call ∙ goes_on;
         admits = λ undecided.
             subst (λ (f : Flight). Admits q f.op) (sym g.call)
-            (back (λ r. Admits r x.flight.op) (at_last (next (ap (λ (f : Flight). is_decided f.stage) (sym g.call) ∙ undecided))));
+            (back (λ r. Admits r x.flight.op) (at_last
+            (next (ap (λ (f : Flight). is_decided f.stage) (sym g.call) ∙ undecided))));
         page = λ dirty.
             subst (λ (f : Flight). is_word_met q.table.config f ≡ true) (sym g.call)
-            (back (λ r. is_word_met r.table.config x.flight ≡ true) (page (ap (λ (f : Flight). f.stage) (sym g.call) ∙ dirty)));
+            (back (λ r. is_word_met r.table.config x.flight ≡ true)
+            (page (ap (λ (f : Flight). f.stage) (sym g.call) ∙ dirty)));
       }

@@ -1,5 +1,5 @@
 -- The own steps and the own calls of a list in parts: events of others have none of them.
-use Rattle.std.proofs.Common.{◌≡◌, ◌≢◌, ℕ, Bool, true, false, List, [], ◌∷◌, ◌++◌, map, refl, sym, ◌∙◌, ap, subst, append-nil, append_assoc, cond}
+use Rattle.std.proofs.Common.{◌≡◌, ◌≢◌, ℕ, Bool, true, false, List, [], ◌∷◌, ◌++◌, map, refl, sym, ◌∙◌, ap, append-nil, cond}
 use Rattle.std.specs.Prelude.{◌==◌, filter, Option, Some, None, if◌then◌else◌}
 use Rattle.std.proofs.lemmas.Bool.{eq-eqb, ne_eqb}
 use Rattle.std.proofs.lemmas.List.{map-append}
@@ -17,7 +17,7 @@ use Rattle.mk_core.specs.Effects.{answer_decided}
 use Rattle.mk_core.specs.Growing.{AreOfOthers, Finding, own_from, is_same_seat, is_one_of}
 use Rattle.mk_core.specs.History.{World, world_behind, left_from, left, calls, calls_from, call_decided}
 use Rattle.mk_core.specs.Moments.{flight_of}
-use Rattle.mk_core.proofs.HistoryParts.{calls_in_parts, left_in_parts}
+use Rattle.mk_core.proofs.HistoryParts.{calls_in_parts}
 use Rattle.mk_protocol.proofs.Frames.{other_seat}
 use Rattle.mk_words.proofs.Seats.{same_seat, same_self}
 
@@ -26,7 +26,8 @@ own_append : (c : Config) (s : Seat) (w : World) (xs ys : List Event)
 unfolding own_from left_from
 own_append c s w [] ys = refl
 own_append c s w (e ∷ xs) ys =
-    by (is_same_seat s e.seat) (record { event = e; found = found c w.now e }) _ _ _ (own_append c s (world_behind c w e) xs ys)
+    by (is_same_seat s e.seat) (record { event = e; found = found c w.now e }) _ _ _
+    (own_append c s (world_behind c w e) xs ys)
   where
     by : (b : Bool) (f : Finding) (a x y : List Finding) → a ≡ x ++ y
         → (if b then f ∷ a else a) ≡ (if b then f ∷ x else x) ++ y
@@ -47,7 +48,8 @@ own_of_others : (c : Config) (s : Seat) (w : World) (es : List Event) → AreOfO
 unfolding own_from AreOfOthers
 own_of_others c s w [] others = refl
 own_of_others c s w (e ∷ es) others =
-    skips (is_same_seat s e.seat) (record { event = e; found = found c w.now e }) (own_from c s (world_behind c w e) es) (not_same s e.seat others.0)
+    skips (is_same_seat s e.seat) (record { event = e; found = found c w.now e })
+    (own_from c s (world_behind c w e) es) (not_same s e.seat others.0)
     ∙ own_of_others c s (world_behind c w e) es others.1
 
 abbrev pub steps_from : Config → Seat → World → List Event → List Step
@@ -59,11 +61,13 @@ steps_append c s w xs ys =
     ap (λ (l : List Finding). map (λ (x : Finding). x.event.step) l) (own_append c s w xs ys)
     ∙ map-append (λ (x : Finding). x.event.step) (own_from c s w xs) (own_from c s (left_from c w xs) ys)
 
-one_own : (c : Config) (s : Seat) (w : World) (x : Step) → steps_from c s w (record { seat = s; step = x } ∷ []) ≡ x ∷ []
+one_own : (c : Config) (s : Seat) (w : World) (x : Step)
+    → steps_from c s w (record { seat = s; step = x } ∷ []) ≡ x ∷ []
 unfolding own_from
 one_own c s w x =
     let e : Event = record { seat = s; step = x } in
-    ap (λ (b : Bool). map (λ (f : Finding). f.event.step) (if b then record { event = e; found = found c w.now e } ∷ [] else []))
+    ap (λ (b : Bool). map (λ (f : Finding). f.event.step)
+    (if b then record { event = e; found = found c w.now e } ∷ [] else []))
     (same_self s)
 
 -- one own step behind what others did
@@ -71,7 +75,8 @@ pub own_step : (c : Config) (s : Seat) (w : World) (others : List Event) (x : St
     → steps_from c s w (others ++ record { seat = s; step = x } ∷ []) ≡ x ∷ []
 own_step c s w others x of_others =
     steps_append c s w others (record { seat = s; step = x } ∷ [])
-    ∙ ap (λ (l : List Finding). map (λ (f : Finding). f.event.step) l ++ steps_from c s (left_from c w others) (record { seat = s; step = x } ∷ []))
+    ∙ ap (λ (l : List Finding). map (λ (f : Finding). f.event.step) l ++ steps_from c s (left_from c w others)
+    (record { seat = s; step = x } ∷ []))
     (own_of_others c s w others of_others)
     ∙ one_own c s (left_from c w others) x
 
@@ -95,11 +100,13 @@ other_entry j k o (Some a) ne =
 other_decided : (c : Config) (w : World) (seat : Seat) (x : Step) (k : ℕ) → seat ≢ Caller k
     → calls_by k (call_decided c w.now (record { seat = seat; step = x })) ≡ []
 other_decided c w (Caller j) x k ne =
-    other_entry j k (flight_of w.now (Caller j)).op (answer_decided c w.now (record { seat = Caller j; step = x })) (λ e. ne (ap (λ i. Caller i) e))
+    other_entry j k (flight_of w.now (Caller j)).op (answer_decided c w.now (record { seat = Caller j; step = x }))
+    (λ e. ne (ap (λ i. Caller i) e))
 other_decided c w (Marker j) x k ne = refl
 other_decided c w Host x k ne = refl
 
-calls_of_others : (c : Config) (k : ℕ) (w : World) (es : List Event) → AreOfOthers (Caller k ∷ []) es → calls_by k (calls_from c w es) ≡ []
+calls_of_others : (c : Config) (k : ℕ) (w : World) (es : List Event) → AreOfOthers (Caller k ∷ []) es
+    → calls_by k (calls_from c w es) ≡ []
 unfolding calls_from AreOfOthers
 calls_of_others c k w [] others = refl
 calls_of_others c k w (e ∷ es) others =

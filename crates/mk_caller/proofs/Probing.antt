@@ -1,13 +1,11 @@
 -- What a probe tells of the heap that never reuses storage.
-use Rattle.std.proofs.Common.{◌≡◌, ◌≢◌, ℕ, ◌+◌, ◌*◌, ◌/◌, ◌<◌, Bool, true, false, List, [], ◌∷◌, ◌++◌, length, refl, sym, ◌∙◌, ap, subst, append_assoc, arith}
+use Rattle.std.proofs.Common.{◌≡◌, ◌≢◌, ℕ, ◌+◌, ◌*◌, ◌<◌, Bool, true, false, List, [], ◌∷◌, ◌++◌, refl, sym, ◌∙◌, ap, subst}
 use Rattle.std.specs.Prelude.{if◌then◌else◌}
 use Rattle.mk_never.specs.declared.operations.Op.{Op}
-use Rattle.mk_never.specs.declared.types.Kind.{Kind}
-use Rattle.mk_never.specs.declared.values.Target.{Target}
 use Rattle.mk_never.specs.declared.values.Target.TheVariants.{Unmapped, WordOf}
 use Rattle.mk_never.specs.declared.values.Value.{Value}
 use Rattle.mk_never.specs.declared.values.Value.TheVariants.{Null, Num, Ptr}
-use Rattle.mk_never.specs.NeverHeap.{NeverState, register_at, target_of, is_unmapped, allocation_at, words_of}
+use Rattle.mk_never.specs.NeverHeap.{NeverState, register_at, target_of}
 use Rattle.mk_never.specs.Admitted.{Meets}
 use Rattle.mk_never.specs.Typed.{IsSound}
 use Rattle.mk_geom.specs.Headers.{header_of}
@@ -19,12 +17,12 @@ use Rattle.mk_core.specs.declared.events.Step.TheVariants as step
 use Rattle.mk_core.specs.declared.seats.Flight.{Flight}
 use Rattle.mk_core.specs.declared.seats.Stage.{Stage}
 use Rattle.mk_core.specs.declared.seats.Stage.TheVariants as stage
-use Rattle.mk_core.specs.Accesses.{caller_number, found}
+use Rattle.mk_core.specs.Accesses.{caller_number}
 use Rattle.mk_core.specs.Calls.{q_of, i_of, page_met}
 use Rattle.mk_core.specs.Cells.{header_in, is_unmapped_header}
 use Rattle.mk_core.specs.Growing.{AreOfOthers}
 use Rattle.mk_core.specs.History.{World, left, never_behind, bases_of, IsHistory}
-use Rattle.mk_core.specs.Moments.{Moment, flight_of}
+use Rattle.mk_core.specs.Moments.{flight_of}
 use Rattle.mk_core.specs.Words.{header_at}
 use Rattle.mk_protocol.proofs.OrderlyLists.{not_astray}
 use Rattle.mk_protocol.proofs.Stages.{calls_stand, is_call_stage}
@@ -36,10 +34,10 @@ use Rattle.mk_frames.proofs.LastEvents.{Stands, stands}
 use Rattle.mk_frames.proofs.OtherCalls.{registers_are_left, never_continues}
 use Rattle.mk_frames.proofs.ProbesStill.{ready, pages_tell}
 use Rattle.mk_words.specs.Seats.{Has}
-use Rattle.mk_words.specs.States.{PassState, call_of, event_of, now_of}
-use Rattle.mk_words.specs.Steps.{Makes, Finds, moment_of}
+use Rattle.mk_words.specs.States.{PassState, call_of, event_of}
+use Rattle.mk_words.specs.Steps.{Finds}
 use Rattle.mk_words.proofs.Made.{Made, made}
-use Rattle.mk_caller.specs.States.{number_of, never_of, value_of, Admits}
+use Rattle.mk_caller.specs.States.{number_of, never_of, value_of}
 use Rattle.mk_caller.specs.Causes.{Probes, ProbesAWord}
 use Rattle.mk_caller.specs.Moves.{IsUnderway, is_access}
 use Rattle.mk_caller.proofs.Enabling.{met_is_small}
@@ -56,7 +54,8 @@ abbrev GetsTo : Bool → NeverState → Value → ℕ → Type 0
 GetsTo true n v i = target_of n v i ≡ Unmapped
 GetsTo false n v i = GetsToWord n v i
 
-mapped_word : (n : NeverState) (v : Value) (i : ℕ) → v ≢ Null → IsSound n v → Meets n v i (λ kind. Unit {0}) → IsMet n v i → GetsToWord n v i
+mapped_word : (n : NeverState) (v : Value) (i : ℕ) → v ≢ Null → IsSound n v → Meets n v i (λ kind. Unit {0})
+    → IsMet n v i → GetsToWord n v i
 mapped_word n Null i some sound meets met = absurd (some refl)
 mapped_word n (Num m) i some sound meets met = absurd sound
 mapped_word n (Ptr a t o) i some sound meets met =
@@ -64,7 +63,9 @@ mapped_word n (Ptr a t o) i some sound meets met =
 
 module _ (c : Config) (es : List Event) (k : ℕ) (h : IsHistory c es) (lt : k < c.callers)
     (at : (flight_of (left c es).now (Caller k)).stage ≡ stage.Probe)
-    (meets : Meets (never_behind c es) (register_at (never_behind c es) k (q_of (flight_of (left c es).now (Caller k)).op)) (i_of (flight_of (left c es).now (Caller k)).op) (λ kind. Unit {0})) where
+    (meets : Meets (never_behind c es) (register_at (never_behind c es) k
+    (q_of (flight_of (left c es).now (Caller k)).op)) (i_of (flight_of (left c es).now (Caller k)).op)
+    (λ kind. Unit {0})) where
   abbrev f : Flight
   f = flight_of (left c es).now (Caller k)
 
@@ -84,7 +85,8 @@ module _ (c : Config) (es : List Event) (k : ℕ) (h : IsHistory c es) (lt : k <
   car = st.all.mirrors.images.carried k
 
   in_call : standing f ≡ InCall
-  in_call = calls_stand f.stage f.op (ap (λ (s : Stage). is_call_stage s) at) (not_astray c w.now st.known.now.orderly k lt)
+  in_call = calls_stand f.stage f.op (ap (λ (s : Stage). is_call_stage s) at)
+      (not_astray c w.now st.known.now.orderly k lt)
 
   has : has_q f.stage f.op ≡ true
   has = ap (λ (s : Stage). has_q s f.op) at
@@ -93,34 +95,45 @@ module _ (c : Config) (es : List Event) (k : ℕ) (h : IsHistory c es) (lt : k <
   some = ap (λ (s : Stage). has_some_q s f.op) at
 
   not_null : v ≢ Null
-  not_null is = car.some_q some (car.q has ∙ ap (λ (x : Value). Rattle.mk_core.specs.Image.image_of (bases_of w.allocations) x) is)
+  not_null is = car.some_q some (car.q has ∙ ap (λ (x : Value). Rattle.mk_core.specs.Image.image_of
+      (bases_of w.allocations) x) is)
 
   pub gets_to : (b : Bool) → is_unmapped_header (header_in w.now.words (page_met f)) ≡ b → GetsTo b n v (i_of f.op)
   gets_to true u =
-      unmapped_target c.globals st.all.mirrors.safe.0 (scene_of w) n (ready c w n st.known st.all) (header_at w.now.words)
+      unmapped_target c.globals st.all.mirrors.safe.0 (scene_of w) n (ready c w n st.known st.all)
+      (header_at w.now.words)
       (pages_tell c w n st.known st.all k lt in_call) v f.q (i_of f.op) (λ kind. Unit {0})
-      (car.q has) (car.some_q some) (st.all.mirrors.typed.registers (8 * k + q_of f.op)) (st.all.mirrors.safe.1.registers (8 * k + q_of f.op)) meets u
+      (car.q has) (car.some_q some) (st.all.mirrors.typed.registers (8 * k + q_of f.op))
+      (st.all.mirrors.safe.1.registers (8 * k + q_of f.op)) meets u
   gets_to false u =
       mapped_word n v (i_of f.op) not_null (st.all.mirrors.typed.registers (8 * k + q_of f.op)) meets
       (mapped_met c.globals st.all.mirrors.safe.0 (scene_of w) n (ready c w n st.known st.all) (header_at w.now.words)
       (pages_tell c w n st.known st.all k lt in_call) v f.q (i_of f.op)
-      (car.q has) (car.some_q some) (st.all.mirrors.typed.registers (8 * k + q_of f.op)) (st.all.mirrors.safe.1.registers (8 * k + q_of f.op)) u)
+      (car.q has) (car.some_q some) (st.all.mirrors.typed.registers (8 * k + q_of f.op))
+      (st.all.mirrors.safe.1.registers (8 * k + q_of f.op)) u)
 
 -- a seat's, behind what others did
-gets_to_for : (c : Config) (es : List Event) (t : Seat) (k : ℕ) → t ≡ Caller k → IsHistory c es → k < c.callers → (flight_of (left c es).now t).stage ≡ stage.Probe
-    → Meets (never_behind c es) (register_at (never_behind c es) (caller_number t) (q_of (flight_of (left c es).now t).op)) (i_of (flight_of (left c es).now t).op) (λ kind. Unit {0})
+gets_to_for : (c : Config) (es : List Event) (t : Seat) (k : ℕ) → t ≡ Caller k → IsHistory c es → k < c.callers
+    → (flight_of (left c es).now t).stage ≡ stage.Probe
+    → Meets (never_behind c es) (register_at (never_behind c es) (caller_number t)
+    (q_of (flight_of (left c es).now t).op)) (i_of (flight_of (left c es).now t).op) (λ kind. Unit {0})
     → (b : Bool) → is_unmapped_header (header_in (left c es).now.words (page_met (flight_of (left c es).now t))) ≡ b
-    → GetsTo b (never_behind c es) (register_at (never_behind c es) (caller_number t) (q_of (flight_of (left c es).now t).op)) (i_of (flight_of (left c es).now t).op)
+    → GetsTo b (never_behind c es) (register_at (never_behind c es) (caller_number t)
+    (q_of (flight_of (left c es).now t).op)) (i_of (flight_of (left c es).now t).op)
 gets_to_for c es t k is h lt at meets b u =
     subst
     (λ (t : Seat). (flight_of (left c es).now t).stage ≡ stage.Probe
-    → Meets (never_behind c es) (register_at (never_behind c es) (caller_number t) (q_of (flight_of (left c es).now t).op)) (i_of (flight_of (left c es).now t).op) (λ kind. Unit {0})
+    → Meets (never_behind c es) (register_at (never_behind c es) (caller_number t)
+    (q_of (flight_of (left c es).now t).op)) (i_of (flight_of (left c es).now t).op) (λ kind. Unit {0})
     → is_unmapped_header (header_in (left c es).now.words (page_met (flight_of (left c es).now t))) ≡ b
-    → GetsTo b (never_behind c es) (register_at (never_behind c es) (caller_number t) (q_of (flight_of (left c es).now t).op)) (i_of (flight_of (left c es).now t).op))
+    → GetsTo b (never_behind c es) (register_at (never_behind c es) (caller_number t)
+    (q_of (flight_of (left c es).now t).op)) (i_of (flight_of (left c es).now t).op))
     (sym is) (λ at' meets' u'. gets_to c es k h lt at' meets' b u') at meets u
 
-module _ (p : PassState) (q : PassState) (n : ℕ) (u : IsUnderway p) (own : Has p.seats p.seat) (h : IsHistory p.table.config p.seen)
-    (history : IsHistory q.table.config q.seen) (finds : Finds p step.Probe n q) (at : (call_of p).stage ≡ stage.Probe) (through : is_access (call_of p).op ≡ true) where
+module _ (p : PassState) (q : PassState) (n : ℕ) (u : IsUnderway p) (own : Has p.seats p.seat)
+    (h : IsHistory p.table.config p.seen)
+    (history : IsHistory q.table.config q.seen) (finds : Finds p step.Probe n q)
+    (at : (call_of p).stage ≡ stage.Probe) (through : is_access (call_of p).op ≡ true) where
   abbrev es : List Event
   es = p.seen ++ finds.makes.others
 
@@ -142,21 +155,29 @@ module _ (p : PassState) (q : PassState) (n : ℕ) (u : IsUnderway p) (own : Has
   small : q_of o < 8
   small = met_is_small p stage.LoadQ h
 
-  meets : Meets (never_behind p.table.config es) (register_at (never_behind p.table.config es) (number_of p) (q_of o)) (i_of o) (λ kind. Unit {0})
+  meets : Meets (never_behind p.table.config es) (register_at (never_behind p.table.config es) (number_of p) (q_of o))
+      (i_of o) (λ kind. Unit {0})
   meets =
       meets_register p.table.config.globals (never_of p) (never_behind p.table.config es) (number_of p)
-      (never_continues p.table.config p.seen finds.makes.others) keeps (stands p.table.config p.seen h).all.mirrors.typed (q_of o) (i_of o) (λ kind. Unit {0}) small
-      (access_meets (never_of p) (number_of p) o through (u.admits (ap (λ (s : Stage). Rattle.mk_caller.specs.Moves.is_decided s) at)).access)
+      (never_continues p.table.config p.seen finds.makes.others) keeps
+      (stands p.table.config p.seen h).all.mirrors.typed (q_of o) (i_of o) (λ kind. Unit {0}) small
+      (access_meets (never_of p) (number_of p) o through
+      (u.admits (ap (λ (s : Stage). Rattle.mk_caller.specs.Moves.is_decided s) at)).access)
 
-  finds_header : is_unmapped_header (header_of n) ≡ is_unmapped_header (header_in (left p.table.config es).now.words (page_met (flight_of (left p.table.config es).now p.seat)))
+  finds_header : is_unmapped_header (header_of n) ≡ is_unmapped_header
+      (header_in (left p.table.config es).now.words (page_met (flight_of (left p.table.config es).now p.seat)))
   finds_header = ap (λ x. is_unmapped_header (header_of x)) finds.finds
 
-  gets : (b : Bool) → is_unmapped_header (header_of n) ≡ b → GetsTo b (never_behind p.table.config es) (value_of p (q_of o)) (i_of o)
+  gets : (b : Bool) → is_unmapped_header (header_of n) ≡ b
+      → GetsTo b (never_behind p.table.config es) (value_of p (q_of o)) (i_of o)
   gets b is =
       subst (λ (x : Value). GetsTo b (never_behind p.table.config es) x (i_of o)) (keeps (q_of o) small)
-      (subst (λ (f : Flight). GetsTo b (never_behind p.table.config es) (register_at (never_behind p.table.config es) (number_of p) (q_of f.op)) (i_of f.op)) same
+      (subst (λ (f : Flight). GetsTo b (never_behind p.table.config es)
+      (register_at (never_behind p.table.config es) (number_of p) (q_of f.op)) (i_of f.op)) same
       (gets_to_for p.table.config es p.seat u.caller u.seat d.history u.exists (ap (λ (f : Flight). f.stage) same ∙ at)
-      (subst (λ (f : Flight). Meets (never_behind p.table.config es) (register_at (never_behind p.table.config es) (number_of p) (q_of f.op)) (i_of f.op) (λ kind. Unit {0})) (sym same) meets)
+      (subst (λ (f : Flight). Meets (never_behind p.table.config es)
+      (register_at (never_behind p.table.config es) (number_of p) (q_of f.op)) (i_of f.op) (λ kind. Unit {0}))
+      (sym same) meets)
       b (sym finds_header ∙ is)))
 
   seen : q.seen ≡ p.seen ++ finds.makes.others ++ event_of p step.Probe ∷ []
@@ -168,4 +189,9 @@ module _ (p : PassState) (q : PassState) (n : ℕ) (u : IsUnderway p) (own : Has
   pub probes_a_word : is_unmapped_header (header_of n) ≡ false → ProbesAWord p o q
   probes_a_word is =
       let g = gets false is in
-      record { number = g.number; place = g.place; probes = record { before = finds.makes.others; behind = []; is = seen; gets_to = g.is } }
+      record {
+        number = g.number;
+        place = g.place;
+        probes = record
+            { before = finds.makes.others; behind = []; is = seen; gets_to = g.is };
+      }

@@ -1,6 +1,6 @@
 -- Each step of a call, from what is known of a call on its way: it may be made, and the call goes on.
 use Rattle.std.proofs.Common.{◌≡◌, ℕ, ◌+◌, ◌-◌, ◌*◌, ◌/◌, ◌^◌, ◌<◌, ◌≤◌, Bool, true, false, refl, sym, ◌∙◌, ap, subst, arith}
-use Rattle.std.specs.Prelude.{◌↔◌, Some, None, nat_lt, nat_le, if◌then◌else◌}
+use Rattle.std.specs.Prelude.{◌↔◌, None, nat_lt, nat_le, if◌then◌else◌}
 use Rattle.std.proofs.lemmas.Bool.{and_parts, ltb-true, leb-true}
 use Rattle.mk_never.specs.declared.operations.Op.{Op}
 use Rattle.mk_never.specs.declared.values.Value.TheVariants.{Null}
@@ -10,7 +10,6 @@ use Rattle.mk_core.specs.declared.events.Step.{Step}
 use Rattle.mk_core.specs.declared.events.Step.TheVariants as step
 use Rattle.mk_core.specs.declared.seats.Stage.{Stage}
 use Rattle.mk_core.specs.declared.seats.Stage.TheVariants as stage
-use Rattle.mk_core.specs.declared.seats.Progress.{Progress}
 use Rattle.mk_core.specs.Accesses.{register_met}
 use Rattle.mk_core.specs.Calls.{word_met, i_of, refused, onward}
 use Rattle.mk_core.specs.Cells.{is_unmapped_header}
@@ -21,15 +20,13 @@ use Rattle.mk_core.specs.History.{IsHistory}
 use Rattle.mk_core.specs.Order.{group_of, comes_next}
 use Rattle.mk_core.specs.Ranges.{is_in_range, is_word_met}
 use Rattle.mk_images.specs.Images.{has_q, has_some_q, is_put}
-use Rattle.mk_words.specs.Seats.{Has}
 use Rattle.mk_words.specs.States.{PassState, call_of}
-use Rattle.mk_words.specs.Steps.{IsEnabledTo, IsAdmittedTo, Goes}
+use Rattle.mk_words.specs.Steps.{IsEnabledTo, IsAdmittedTo}
 use Rattle.mk_words.specs.CallSteps.{register_of}
 use Rattle.mk_caller.specs.States.{value_of}
-use Rattle.mk_caller.specs.Moves.{IsUnderway, Moves, is_access, is_decided, is_load, is_store, is_written}
+use Rattle.mk_caller.specs.Moves.{IsUnderway, Moves, is_access, is_decided, is_load, is_store}
 use Rattle.mk_caller.proofs.Enabling.{enabled, admitted, idly_admitted, put_decides_nothing, met_is_small}
 use Rattle.mk_caller.proofs.WordsMet.{null_tells, word_is_met}
-use Rattle.mk_caller.proofs.Onward.{Next, moves, load_next, store_goes_on}
 
 load_comes : (s : Stage) (o : Op) → is_load s ≡ true → comes_next s o step.Reg ≡ true
 load_comes stage.LoadQ o h = refl
@@ -53,7 +50,8 @@ module _ (p : PassState) (u : IsUnderway p) (h : IsHistory p.table.config p.seen
 
   pub may_load : is_load (call_of p).stage ≡ true → IsAdmittedTo p step.Reg
   may_load is =
-      admitted_step step.Reg (load_undecided (call_of p).stage is).0 (enabled_step step.Reg refl (load_comes (call_of p).stage (call_of p).op is) refl)
+      admitted_step step.Reg (load_undecided (call_of p).stage is).0
+      (enabled_step step.Reg refl (load_comes (call_of p).stage (call_of p).op is) refl)
 
   pub may_store : is_store (call_of p).stage ≡ true → IsAdmittedTo p step.Reg
   may_store is = by (call_of p).stage refl is
@@ -71,17 +69,21 @@ module _ (p : PassState) (u : IsUnderway p) (h : IsHistory p.table.config p.seen
   pub null_is : (r : ℕ) → is_load (call_of p).stage ≡ true → r ≡ register_met (call_of p) (call_of p).stage
       → (register_of p r ≡ 0) ↔ (value_of p r ≡ Null)
   null_is r is met =
-      null_tells p u.caller r u.seat h (subst (λ x. x < 8) (sym met) (met_is_small p (call_of p).stage h)) (load_undecided (call_of p).stage is).1
+      null_tells p u.caller r u.seat h (subst (λ x. x < 8) (sym met) (met_is_small p (call_of p).stage h))
+      (load_undecided (call_of p).stage is).1
 
   -- a step that reaches the accessed word, or its page
-  module _ (s : Stage) (at : (call_of p).stage ≡ s) (through : is_access (call_of p).op ≡ true) (undecided : is_decided s ≡ false)
+  module _ (s : Stage) (at : (call_of p).stage ≡ s) (through : is_access (call_of p).op ≡ true)
+      (undecided : is_decided s ≡ false)
       (has : has_q s (call_of p).op ≡ true) (some : has_some_q s (call_of p).op ≡ true) where
     pub met : is_word_met p.table.config (call_of p) ≡ true
     met =
-        word_is_met p u.caller u.seat h (ap (λ (x : Stage). has_q x (call_of p).op) at ∙ has) (ap (λ (x : Stage). has_some_q x (call_of p).op) at ∙ some) through
+        word_is_met p u.caller u.seat h (ap (λ (x : Stage). has_q x (call_of p).op) at ∙ has)
+        (ap (λ (x : Stage). has_some_q x (call_of p).op) at ∙ some) through
         (u.admits (ap (λ (x : Stage). is_decided x) at ∙ undecided))
 
-    pub may_reach : (x : Step) → group_of x ≡ group.Callers → comes_next s (call_of p).op x ≡ true → is_in_range p.table.config p.seat (call_of p) x ≡ is_word_met p.table.config (call_of p)
+    pub may_reach : (x : Step) → group_of x ≡ group.Callers → comes_next s (call_of p).op x ≡ true
+        → is_in_range p.table.config p.seat (call_of p) x ≡ is_word_met p.table.config (call_of p)
         → IsEnabledTo p x × IsAdmittedTo p x
     may_reach x kind next range =
         let on = enabled_step x kind (ap (λ (y : Stage). comes_next y (call_of p).op x) at ∙ next) (range ∙ met) in
@@ -90,39 +92,50 @@ module _ (p : PassState) (u : IsUnderway p) (h : IsHistory p.table.config p.seen
   -- a step that reaches a global
   pub may_getg : (call_of p).stage ≡ stage.Getg → IsAdmittedTo p step.Getg
   may_getg at =
-      admitted_step step.Getg (ap (λ (x : Stage). is_decided x) at) (enabled_step step.Getg refl (ap (λ (x : Stage). comes_next x (call_of p).op step.Getg) at) refl)
+      admitted_step step.Getg (ap (λ (x : Stage). is_decided x) at)
+      (enabled_step step.Getg refl (ap (λ (x : Stage). comes_next x (call_of p).op step.Getg) at) refl)
 
   pub may_setg : (call_of p).stage ≡ stage.Setg → IsAdmittedTo p step.Setg
   may_setg at =
-      admitted_step step.Setg (ap (λ (x : Stage). is_decided x) at) (enabled_step step.Setg refl (ap (λ (x : Stage). comes_next x (call_of p).op step.Setg) at) refl)
+      admitted_step step.Setg (ap (λ (x : Stage). is_decided x) at)
+      (enabled_step step.Setg refl (ap (λ (x : Stage). comes_next x (call_of p).op step.Setg) at) refl)
 
   -- what the word is
-  pub met_bounds : (value offset : ℕ) → value ≡ (call_of p).q → offset ≡ i_of (call_of p).op → is_word_met p.table.config (call_of p) ≡ true
-      → (65536 ≤ value) × (word_met (call_of p) < 64 * p.table.config.pages) × ((value - 65536) / 8 + offset ≡ word_met (call_of p))
+  pub met_bounds : (value offset : ℕ) → value ≡ (call_of p).q → offset ≡ i_of (call_of p).op
+      → is_word_met p.table.config (call_of p) ≡ true
+      → (65536 ≤ value) × (word_met (call_of p) < 64 * p.table.config.pages) ×
+      ((value - 65536) / 8 + offset ≡ word_met (call_of p))
   met_bounds value offset v i is =
-      let parts = and_parts (nat_le 65536 (call_of p).q) (nat_lt (word_met (call_of p)) (64 * p.table.config.pages)) is in
+      let parts = and_parts (nat_le 65536 (call_of p).q) (nat_lt (word_met (call_of p)) (64 * p.table.config.pages))
+      is in
       let low = leb-true 65536 (call_of p).q parts.0 in (
         omega arith,
         ltb-true (word_met (call_of p)) (64 * p.table.config.pages) parts.1,
         ap (λ x. (x - 65536) / 8 + offset) v ∙ ap (λ x. ((call_of p).q - 65536) / 8 + x) i,
       )
 
-probe_by : (p q : PassState) (n : ℕ) (b : Bool) → is_unmapped_header (header_of n) ≡ b → Moves p (call_of p).op step.Probe (progress_probe (call_of p) n) q
+probe_by : (p q : PassState) (n : ℕ) (b : Bool) → is_unmapped_header (header_of n) ≡ b
+    → Moves p (call_of p).op step.Probe (progress_probe (call_of p) n) q
     → Moves p (call_of p).op step.Probe (if b then refused (call_of p) answer.Fault else onward (call_of p) None) q
 probe_by p q n b is m =
-    subst (λ (x : Bool). Moves p (call_of p).op step.Probe (if x then refused (call_of p) answer.Fault else onward (call_of p) None) q) is m
+    subst (λ (x : Bool). Moves p (call_of p).op step.Probe
+    (if x then refused (call_of p) answer.Fault else onward (call_of p) None) q) is m
 
-pub probe_refused : (p q : PassState) (n : ℕ) → is_unmapped_header (header_of n) ≡ true → Moves p (call_of p).op step.Probe (progress_probe (call_of p) n) q
+pub probe_refused : (p q : PassState) (n : ℕ) → is_unmapped_header (header_of n) ≡ true
+    → Moves p (call_of p).op step.Probe (progress_probe (call_of p) n) q
     → Moves p (call_of p).op step.Probe (refused (call_of p) answer.Fault) q
 probe_refused p q n is m = probe_by p q n true is m
 
-pub probe_passed : (p q : PassState) (n : ℕ) → is_unmapped_header (header_of n) ≡ false → Moves p (call_of p).op step.Probe (progress_probe (call_of p) n) q
+pub probe_passed : (p q : PassState) (n : ℕ) → is_unmapped_header (header_of n) ≡ false
+    → Moves p (call_of p).op step.Probe (progress_probe (call_of p) n) q
     → Moves p (call_of p).op step.Probe (onward (call_of p) None) q
 probe_passed p q n is m = probe_by p q n false is m
 
 -- A pointer that is moved on stays within its allocation.
-pub moved_within : (p : PassState) (u : IsUnderway p) (h : IsHistory p.table.config p.seen) (value offset : ℕ) (config : Config)
-    → (call_of p).stage ≡ stage.Store → is_access (call_of p).op ≡ true → has_q stage.Store (call_of p).op ≡ true → has_some_q stage.Store (call_of p).op ≡ true
+pub moved_within : (p : PassState) (u : IsUnderway p) (h : IsHistory p.table.config p.seen) (value offset : ℕ)
+    (config : Config)
+    → (call_of p).stage ≡ stage.Store → is_access (call_of p).op ≡ true → has_q stage.Store (call_of p).op ≡ true
+    → has_some_q stage.Store (call_of p).op ≡ true
     → value ≡ (call_of p).q → offset ≡ i_of (call_of p).op → p.table.config ≡ config → config.pages ≤ 4096
     → value + 8 * offset < 2 ^ 64
 moved_within p u h value offset config at access has some v i table pages =

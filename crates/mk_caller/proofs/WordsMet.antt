@@ -1,13 +1,13 @@
 -- What the words that a call loads show of its registers' values, and the heap word that it accesses.
-use Rattle.std.proofs.Common.{◌≡◌, ◌≢◌, ℕ, ◌+◌, ◌-◌, ◌*◌, ◌/◌, ◌%◌, ◌<◌, ◌≤◌, Bool, true, false, List, length, refl, sym, ◌∙◌, ap, subst, arith}
-use Rattle.std.specs.Prelude.{nat_lt, nat_le, slice_index, slice_index_or, ◌↔◌}
+use Rattle.std.proofs.Common.{◌≡◌, ℕ, ◌+◌, ◌*◌, ◌/◌, ◌%◌, ◌<◌, true, false, List, sym, ◌∙◌, ap, subst, arith}
+use Rattle.std.specs.Prelude.{nat_lt, nat_le, ◌↔◌}
 use Rattle.std.proofs.lemmas.Bool.{and_from, lt-ltb, le-leb}
 use Rattle.mk_never.specs.declared.operations.Op.{Op}
 use Rattle.mk_never.specs.declared.operations.Op.TheVariants as op
 use Rattle.mk_never.specs.declared.types.Kind.{Kind}
 use Rattle.mk_never.specs.declared.values.Value.{Value}
 use Rattle.mk_never.specs.declared.values.Value.TheVariants.{Null, Num, Ptr}
-use Rattle.mk_never.specs.NeverHeap.{NeverState, register_at, words_of}
+use Rattle.mk_never.specs.NeverHeap.{NeverState, register_at}
 use Rattle.mk_never.specs.Admitted.{AccessIsAdmitted, Meets, IsNumber, IsPointer}
 use Rattle.mk_never.specs.Typed.{IsSound}
 use Rattle.mk_core.specs.declared.config.Config.{Config}
@@ -16,7 +16,6 @@ use Rattle.mk_core.specs.declared.events.Seat.{Seat}
 use Rattle.mk_core.specs.declared.events.Seat.TheVariants.{Caller}
 use Rattle.mk_core.specs.declared.seats.Flight.{Flight}
 use Rattle.mk_core.specs.Accesses.{caller_number}
-use Rattle.mk_core.specs.Allocations.{placed_at}
 use Rattle.mk_core.specs.Calls.{q_of, i_of, word_met}
 use Rattle.mk_core.specs.History.{World, left, never_behind, bases_of, IsHistory}
 use Rattle.mk_core.specs.Image.{image_of}
@@ -24,7 +23,7 @@ use Rattle.mk_core.specs.Moments.{flight_of}
 use Rattle.mk_core.specs.Ranges.{is_word_met}
 use Rattle.mk_core.specs.Words.{register_word}
 use Rattle.mk_core.proofs.Lengths.{histories_keep_lengths}
-use Rattle.mk_images.specs.Images.{scene_of, shown, is_put, has_q, has_some_q, CarriesOwn, flight_among}
+use Rattle.mk_images.specs.Images.{shown, is_put, has_q, has_some_q, CarriesOwn, flight_among}
 use Rattle.mk_images.specs.SafeSets.{IsSafe}
 use Rattle.mk_images.proofs.Kept.{base_at}
 use Rattle.mk_images.proofs.Pairs.{shows_plain}
@@ -53,8 +52,10 @@ access_meets n k (op.Lea d q i) a h = h
 access_meets n k _ a h = cc
 
 -- A register, where nothing is owed to it, is the image of its value.
-own_image : (c : Config) (es : List Event) (k r : ℕ) → IsHistory c es → r < 8 → is_put (flight_of (left c es).now (Caller k)).stage ≡ false
-    → register_word (left c es).now.words k r ≡ image_of (bases_of (left c es).allocations) (register_at (never_behind c es) k r)
+own_image : (c : Config) (es : List Event) (k r : ℕ) → IsHistory c es → r < 8
+    → is_put (flight_of (left c es).now (Caller k)).stage ≡ false
+    → register_word (left c es).now.words k r ≡ image_of (bases_of (left c es).allocations)
+    (register_at (never_behind c es) k r)
 own_image c es k r h lt plain =
     let m = (stands c es h).all.mirrors.images.registers (8 * k + r) in
     let at : (8 * k + r) / 8 ≡ k = omega arith in
@@ -62,20 +63,24 @@ own_image c es k r h lt plain =
     let f : Flight = flight_of (left c es).now (Caller k) in
     sym (shows_plain f r (register_word (left c es).now.words k r) plain)
     ∙ ap (λ j. shown f j (register_word (left c es).now.words k r)) (sym in_it)
-    ∙ ap (λ j. shown (flight_among (left c es).now.seats.flights j) ((8 * k + r) % 8) (register_word (left c es).now.words k r)) (sym at)
+    ∙ ap (λ j. shown (flight_among (left c es).now.seats.flights j) ((8 * k + r) % 8)
+    (register_word (left c es).now.words k r)) (sym at)
     ∙ m
 
-null_for : (c : Config) (es : List Event) (k r : ℕ) → IsHistory c es → r < 8 → is_put (flight_of (left c es).now (Caller k)).stage ≡ false
+null_for : (c : Config) (es : List Event) (k r : ℕ) → IsHistory c es → r < 8
+    → is_put (flight_of (left c es).now (Caller k)).stage ≡ false
     → (register_word (left c es).now.words k r ≡ 0) ↔ (register_at (never_behind c es) k r ≡ Null)
 null_for c es k r h lt plain =
     let is = own_image c es k r h lt plain in
     let bases = bases_of (left c es).allocations in (
-      λ zero. image_zero (never_behind c es) bases (register_at (never_behind c es) k r) ((stands c es h).all.mirrors.typed.registers (8 * k + r)) (sym is ∙ zero),
+      λ zero. image_zero (never_behind c es) bases (register_at (never_behind c es) k r)
+          ((stands c es h).all.mirrors.typed.registers (8 * k + r)) (sym is ∙ zero),
       λ null. is ∙ ap (λ (v : Value). image_of bases v) null,
     )
 
 -- It is 0 exactly where the value is null.
-pub null_tells : (p : PassState) (k r : ℕ) → p.seat ≡ Caller k → IsHistory p.table.config p.seen → r < 8 → is_put (call_of p).stage ≡ false
+pub null_tells : (p : PassState) (k r : ℕ) → p.seat ≡ Caller k → IsHistory p.table.config p.seen → r < 8
+    → is_put (call_of p).stage ≡ false
     → (register_of p r ≡ 0) ↔ (value_of p r ≡ Null)
 null_tells p k r is h lt plain =
     subst
@@ -84,11 +89,14 @@ null_tells p k r is h lt plain =
     (sym is) (null_for p.table.config p.seen k r h lt) plain
 
 -- The word that is accessed through a value lies in the heap.
-word_for : (c : Config) (es : List Event) (k : ℕ) → IsHistory c es → has_q (flight_of (left c es).now (Caller k)).stage (flight_of (left c es).now (Caller k)).op ≡ true
+word_for : (c : Config) (es : List Event) (k : ℕ) → IsHistory c es
+    → has_q (flight_of (left c es).now (Caller k)).stage (flight_of (left c es).now (Caller k)).op ≡ true
     → has_some_q (flight_of (left c es).now (Caller k)).stage (flight_of (left c es).now (Caller k)).op ≡ true
-    → Meets (never_behind c es) (register_at (never_behind c es) k (q_of (flight_of (left c es).now (Caller k)).op)) (i_of (flight_of (left c es).now (Caller k)).op) (λ kind. Unit {0})
+    → Meets (never_behind c es) (register_at (never_behind c es) k (q_of (flight_of (left c es).now (Caller k)).op))
+    (i_of (flight_of (left c es).now (Caller k)).op) (λ kind. Unit {0})
     → is_word_met c (flight_of (left c es).now (Caller k)) ≡ true
-word_for c es k h has some meets = by (register_at n k (q_of f.op)) (car.q has) (st.all.mirrors.typed.registers (8 * k + q_of f.op)) (st.all.mirrors.safe.1.registers (8 * k + q_of f.op)) meets
+word_for c es k h has some meets = by (register_at n k (q_of f.op)) (car.q has)
+    (st.all.mirrors.typed.registers (8 * k + q_of f.op)) (st.all.mirrors.safe.1.registers (8 * k + q_of f.op)) meets
   where
     f : Flight
     f = flight_of (left c es).now (Caller k)
@@ -105,7 +113,8 @@ word_for c es k h has some meets = by (register_at n k (q_of f.op)) (car.q has) 
     car : CarriesOwn (bases_of w.allocations) n k f
     car = st.all.mirrors.images.carried k
 
-    by : (v : Value) → f.q ≡ image_of (bases_of w.allocations) v → IsSound n v → IsSafe st.all.mirrors.safe.0 v → Meets n v (i_of f.op) (λ kind. Unit {0})
+    by : (v : Value) → f.q ≡ image_of (bases_of w.allocations) v → IsSound n v → IsSafe st.all.mirrors.safe.0 v
+        → Meets n v (i_of f.op) (λ kind. Unit {0})
         → is_word_met c f ≡ true
     by Null is sound safe meets = absurd (car.some_q some is)
     by (Num x) is sound safe meets = absurd sound
@@ -114,14 +123,19 @@ word_for c es k h has some meets = by (register_at n k (q_of f.op)) (car.q has) 
         let inside = r.bound a (o + i_of f.op) (r.set.unreleased a safe) meets.0 in
         let base = base_at w.allocations a in
         let long = (histories_keep_lengths c es).heap in
-        and_from (nat_le 65536 f.q) (nat_lt (word_met f) (64 * c.pages)) (le-leb 65536 f.q (omega arith)) (lt-ltb (word_met f) (64 * c.pages) (omega arith))
+        and_from (nat_le 65536 f.q) (nat_lt (word_met f) (64 * c.pages)) (le-leb 65536 f.q (omega arith))
+        (lt-ltb (word_met f) (64 * c.pages) (omega arith))
 
-pub word_is_met : (p : PassState) (k : ℕ) → p.seat ≡ Caller k → IsHistory p.table.config p.seen → has_q (call_of p).stage (call_of p).op ≡ true
-    → has_some_q (call_of p).stage (call_of p).op ≡ true → is_access (call_of p).op ≡ true → Admits p (call_of p).op → is_word_met p.table.config (call_of p) ≡ true
+pub word_is_met : (p : PassState) (k : ℕ) → p.seat ≡ Caller k → IsHistory p.table.config p.seen
+    → has_q (call_of p).stage (call_of p).op ≡ true
+    → has_some_q (call_of p).stage (call_of p).op ≡ true → is_access (call_of p).op ≡ true → Admits p (call_of p).op
+    → is_word_met p.table.config (call_of p) ≡ true
 word_is_met p k is h has some through ad =
     subst
-    (λ (t : Seat). has_q (flight_of (now_of p) t).stage (flight_of (now_of p) t).op ≡ true → has_some_q (flight_of (now_of p) t).stage (flight_of (now_of p) t).op ≡ true
-    → Meets (never_of p) (register_at (never_of p) (caller_number t) (q_of (flight_of (now_of p) t).op)) (i_of (flight_of (now_of p) t).op) (λ kind. Unit {0})
+    (λ (t : Seat). has_q (flight_of (now_of p) t).stage (flight_of (now_of p) t).op ≡ true
+    → has_some_q (flight_of (now_of p) t).stage (flight_of (now_of p) t).op ≡ true
+    → Meets (never_of p) (register_at (never_of p) (caller_number t) (q_of (flight_of (now_of p) t).op))
+    (i_of (flight_of (now_of p) t).op) (λ kind. Unit {0})
     → is_word_met p.table.config (flight_of (now_of p) t) ≡ true)
     (sym is) (word_for p.table.config p.seen k h) has some
     (access_meets (never_of p) (number_of p) (call_of p).op through ad.access)

@@ -1,5 +1,5 @@
 -- A call of a caller, in the history: the one clause of all calls.
-use Rattle.std.specs.Prelude.{◌≡◌, ℕ, ◌==◌, List, [], ◌∷◌, ◌++◌, map, filter, Some, if◌then◌else◌}
+use Rattle.std.specs.Prelude.{◌≡◌, ℕ, Bool, ◌==◌, List, [], ◌∷◌, ◌++◌, map, filter, Some, if◌then◌else◌}
 use Rattle.mk_never.specs.declared.operations.Op.{Op}
 use Rattle.mk_never.specs.NeverHeap.{reply_of, after_op}
 use Rattle.mk_never.specs.Laws.{KeepsRegisters}
@@ -10,13 +10,13 @@ use Rattle.mk_core.specs.declared.events.Step.{Step}
 use Rattle.mk_core.specs.declared.events.Step.TheVariants as step
 use Rattle.mk_core.specs.declared.seats.Stage.{Stage}
 use Rattle.mk_core.specs.declared.seats.Stage.TheVariants as stage
-use Rattle.mk_core.specs.Calls.{at_rest, steps_of, is_same_stage, stage_refused}
+use Rattle.mk_core.specs.Calls.{at_rest, one_if, steps_of, is_same_stage, stage_refused}
 use Rattle.mk_core.specs.Decided.{Decided, entry_of}
 use Rattle.mk_core.specs.Growing.{Finding, in_this_call}
-use Rattle.mk_core.specs.History.{left, calls, call_decided, never_behind, bases_of}
+use Rattle.mk_core.specs.History.{left, calls, call_decided, bases_of}
 use Rattle.mk_core.specs.Image.{answer_of}
 use Rattle.mk_words.specs.States.{PassState, call_of}
-use Rattle.mk_caller.specs.States.{number_of, never_of}
+use Rattle.mk_caller.specs.States.{number_of, never_of, never_then}
 
 -- the step at a stage of a call
 abbrev pub step_at : Stage → Step
@@ -57,22 +57,23 @@ own_steps p more = map (λ (x : Finding). x.event.step) (in_this_call p.table.co
 abbrev pub own_calls : PassState → List Event → List Decided
 own_calls p es = filter (λ (x : Decided). x.caller == number_of p) (calls p.table.config es)
 
--- The event among these that decides the call. Its answer is the image of what the heap that never reuses storage replies
--- there, to the values that the caller's registers had before the call; and what they are then, they are behind the call.
+-- The event among these that decides the call. Its answer is the image of the reply of the heap that never reuses
+-- storage, at its place. There the caller's registers have the values that they had before the call, and behind the
+-- call those that the operation leaves there.
 pub record IsDecidedIn (p : PassState) (o : Op) (a : Answer) (more : List Event) : Type 0 where
   pub before : List Event
   pub event : Event
   pub behind : List Event
   pub is : more ≡ before ++ event ∷ behind
-  pub decides : call_decided p.table.config (left p.table.config (p.seen ++ before)).now event ≡ entry_of (number_of p) o (Some a)
+  pub decides : call_decided p.table.config (left p.table.config (p.seen ++ before)).now event
+      ≡ entry_of (number_of p) o (Some a)
   pub reply : a ≡ answer_of (bases_of (left p.table.config (p.seen ++ before ++ event ∷ [])).allocations)
-      (reply_of (never_behind p.table.config (p.seen ++ before)) (number_of p) o)
-  pub known : KeepsRegisters (number_of p) (never_of p) (never_behind p.table.config (p.seen ++ before))
-  pub left_so : KeepsRegisters (number_of p) (after_op (never_behind p.table.config (p.seen ++ before)) (number_of p) o)
-      (never_behind p.table.config (p.seen ++ more))
+      (reply_of (never_then p before) (number_of p) o)
+  pub known : KeepsRegisters (number_of p) (never_of p) (never_then p before)
+  pub left_so : KeepsRegisters (number_of p) (after_op (never_then p before) (number_of p) o) (never_then p more)
 
--- The pass did this operation and was answered so. What it has seen begins with what it had seen; its own steps since are
--- those of this call, in their order; its caller has one entry more; and it has no call in flight.
+-- The pass did this operation and was answered so. What it has seen begins with what it had seen. Its own steps since
+-- are those of this call, in their order. Its caller has one entry more, and no call in flight.
 pub record Called (p : PassState) (o : Op) (a : Answer) (q : PassState) : Type 0 where
   pub more : List Event
   pub is : q ≡ record p { seen = p.seen ++ more }
@@ -80,6 +81,10 @@ pub record Called (p : PassState) (o : Op) (a : Answer) (q : PassState) : Type 0
   pub entry : own_calls p (p.seen ++ more) ≡ own_calls p p.seen ++ entry_of (number_of p) o (Some a)
   pub decided : IsDecidedIn p o a more
   pub rest : call_of q ≡ at_rest
+
+-- It was answered yes or no.
+abbrev pub Says : PassState → Op → Bool → PassState → Type 0
+Says p o said q = Called p o (answer.Num (one_if said)) q
 
 -- It was answered by a pointer, or null: which one says the reply of the heap that never reuses storage.
 pub record IsAnswered (p : PassState) (o : Op) (q : PassState) : Type 0 where

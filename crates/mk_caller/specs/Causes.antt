@@ -1,5 +1,5 @@
 -- Why a call is refused.
-use Rattle.std.specs.Prelude.{◌≡◌, ◌≢◌, ℕ, true, List, ◌∷◌, ◌++◌}
+use Rattle.std.specs.Prelude.{◌≡◌, ℕ, List, ◌∷◌, ◌++◌}
 use Rattle.mk_never.specs.declared.operations.Op.{Op}
 use Rattle.mk_never.specs.declared.values.Target.{Target}
 use Rattle.mk_never.specs.declared.values.Target.TheVariants.{Unmapped, WordOf}
@@ -10,12 +10,11 @@ use Rattle.mk_core.specs.declared.events.Answer.TheVariants as answer
 use Rattle.mk_core.specs.declared.events.Event.{Event}
 use Rattle.mk_core.specs.declared.events.Step.TheVariants as step
 use Rattle.mk_core.specs.Calls.{at_rest, q_of, i_of}
-use Rattle.mk_core.specs.History.{never_behind}
 use Rattle.mk_words.specs.States.{PassState, call_of, event_of}
 use Rattle.mk_words.specs.CallSteps.{FindsHeld}
 use Rattle.mk_caller.specs.declared.refusals.Refusal.{Refusal}
 use Rattle.mk_caller.specs.declared.refusals.Refusal.TheVariants.{Fault, Null, Held}
-use Rattle.mk_caller.specs.States.{number_of, never_of, value_of}
+use Rattle.mk_caller.specs.States.{number_of, never_of, never_then, value_of}
 use Rattle.mk_caller.specs.Called.{own_calls, Called}
 
 -- The call has its probe here, where its access gets to this in the heap that never reuses storage: to a word, or to a
@@ -24,22 +23,23 @@ pub record Probes (p : PassState) (o : Op) (q : PassState) (t : Target) : Type 0
   pub before : List Event
   pub behind : List Event
   pub is : q.seen ≡ p.seen ++ before ++ event_of p step.Probe ∷ behind
-  pub gets_to : target_of (never_behind p.table.config (p.seen ++ before)) (value_of p (q_of o)) (i_of o) ≡ t
+  pub gets_to : target_of (never_then p before) (value_of p (q_of o)) (i_of o) ≡ t
 
 pub record ProbesAWord (p : PassState) (o : Op) (q : PassState) : Type 0 where
   pub number : ℕ
   pub place : ℕ
   pub probes : Probes p o q (WordOf number place)
 
--- The call's own `enter` found its gate held, so there is no call: no entry, and its caller's registers are as they were.
+-- The call's own `enter` found its gate held, so there is no call: it has no entry, and its caller's registers are as
+-- they were.
 pub record FindsGateHeld (p : PassState) (o : Op) (q : PassState) : Type 0 where
   pub finds : FindsHeld p o q
   pub entries : own_calls p q.seen ≡ own_calls p p.seen
   pub registers : KeepsRegisters (number_of p) (never_of p) (never_of q)
   pub rest : call_of q ≡ at_rest
 
--- Each refusal has its cause: the register's allocation is large and was freed before the probe, the register is null, or
--- the gate was held.
+-- Each refusal has its cause: the register's allocation is large and was freed before the probe, the register is null,
+-- or the gate was held.
 abbrev pub IsRefused : PassState → Op → Refusal → PassState → Type 0
 IsRefused p o Fault q = Called p o answer.Fault q × Probes p o q Unmapped
 IsRefused p o Null q = Called p o answer.Null q × (value_of p (q_of o) ≡ NullValue)

@@ -20,4 +20,5 @@ destination _ = None
 -- A call leaves the registers that it doesn't set.
 abbrev pub CallsLeaveOtherRegisters : Type 0
 CallsLeaveOtherRegisters =
-    (p : PassState) (o : Op) (a : Answer) (q : PassState) (r : ℕ) → Called p o a q → r < 8 → destination o ≢ Some r → value_of q r ≡ value_of p r
+    (p : PassState) (o : Op) (a : Answer) (q : PassState) (r : ℕ) → Called p o a q → r < 8 → destination o ≢ Some r
+    → value_of q r ≡ value_of p r

@@ -4,14 +4,16 @@ use Rattle.mk_never.specs.declared.operations.Op.{Op}
 use Rattle.mk_never.specs.declared.operations.Op.TheVariants as op
 use Rattle.mk_never.specs.Laws.{KeepsRegisters}
 use Rattle.mk_core.specs.declared.events.Answer.{Answer}
+use Rattle.mk_core.specs.declared.events.Answer.TheVariants as answer
 use Rattle.mk_core.specs.declared.events.Event.{Event}
 use Rattle.mk_core.specs.declared.events.Seat.TheVariants.{Caller}
 use Rattle.mk_core.specs.declared.events.Step.{Step}
+use Rattle.mk_core.specs.declared.events.Step.TheVariants as step
 use Rattle.mk_core.specs.declared.seats.Stage.{Stage}
 use Rattle.mk_core.specs.declared.seats.Stage.TheVariants as stage
 use Rattle.mk_core.specs.declared.seats.Flight.{Flight}
 use Rattle.mk_core.specs.declared.seats.Progress.{Progress}
-use Rattle.mk_core.specs.Calls.{at_rest, begun, onward, is_under_turn, stage_refused}
+use Rattle.mk_core.specs.Calls.{at_rest, begun, onward, refused, is_under_turn, stage_refused, one_if, progress_reg, progress_read, progress_getg}
 use Rattle.mk_core.specs.Decided.{entry_of}
 use Rattle.mk_core.specs.History.{never_behind}
 use Rattle.mk_core.specs.Ranges.{is_word_met}
@@ -101,9 +103,50 @@ pub record At (p : PassState) (o : Op) (ss : List Step) (a : Option Answer) (f :
 abbrev pub Moves : PassState → Op → Step → Progress → PassState → Type 0
 Moves p o s x q = At p o (s ∷ []) x.answer x.flight q
 
+-- how a call begins, and goes on by its steps
+
+abbrev pub begins : Op → Progress
+begins o = record { flight = begun o; answer = None }
+
+abbrev pub loads : ℕ → Flight → Progress
+loads value f = progress_reg f f.stage value
+
+abbrev pub loads_global : ℕ → Flight → Progress
+loads_global value f = progress_getg f value
+
+abbrev pub passes : Flight → Progress
+passes f = onward f None
+
+abbrev pub faults : Flight → Progress
+faults f = refused f answer.Fault
+
+abbrev pub reads : ℕ → Flight → Progress
+reads value f = progress_read f f.op value
+
+abbrev pub writes : Flight → Progress
+writes f = onward f (Some answer.Done)
+
+abbrev pub exchanges : Bool → Flight → Progress
+exchanges did f = onward f (Some (answer.Num (one_if did)))
+
+abbrev pub ends : Flight → Progress
+ends f = record { flight = at_rest; answer = None }
+
+-- The pass made a step of the call in flight, which went on so.
+abbrev pub GoesOn : PassState → Step → (Flight → Progress) → PassState → Type 0
+GoesOn p s on q = Moves p (call_of p).op s (on (call_of p)) q
+
+-- It made the last steps of the call in flight, which decided this answer or none.
+abbrev pub Ends : PassState → List Step → Option Answer → PassState → Type 0
+Ends p ss a q = At p (call_of p).op ss a at_rest q
+
 -- The steps of a call that are left behind a refusal: up to its end.
 abbrev pub refused_steps : Op → List Step
 refused_steps o = map step_at (refused_from (stage_refused o))
+
+-- and behind a probe that finds the page unmapped
+abbrev pub fault_steps : Op → List Step
+fault_steps o = step.Probe ∷ refused_steps o
 
 -- the call behind the load of q
 abbrev pub behind_q : Op → ℕ → Flight

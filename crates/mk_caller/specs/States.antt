@@ -1,5 +1,5 @@
 -- What contracts see of a caller.
-use Rattle.std.specs.Prelude.{◌≡◌, ℕ, Bool, true, false, [], Option, Some, None}
+use Rattle.std.specs.Prelude.{◌≡◌, ℕ, Bool, true, false, List, [], ◌++◌, Option, Some, None}
 use Rattle.mk_never.specs.declared.operations.Op.{Op}
 use Rattle.mk_never.specs.declared.values.Value.{Value}
 use Rattle.mk_never.specs.NeverHeap.{NeverState, register_at}
@@ -7,6 +7,7 @@ use Rattle.mk_never.specs.Admitted.{IsAdmitted}
 use Rattle.mk_core.specs.Accesses.{caller_number}
 use Rattle.mk_core.specs.History.{never_behind}
 use Rattle.mk_core.specs.Calls.{at_rest}
+use Rattle.mk_core.specs.declared.events.Event.{Event}
 use Rattle.mk_core.specs.declared.events.Seat.TheVariants.{Caller}
 use Rattle.mk_words.specs.States.{WordsState, PassState, call_of}
 
@@ -28,7 +29,11 @@ number_of p = caller_number p.seat
 abbrev pub never_of : PassState → NeverState
 never_of p = never_behind p.table.config p.seen
 
--- the value of one of the caller's registers there
+-- and behind events that came since
+abbrev pub never_then : PassState → List Event → NeverState
+never_then p more = never_behind p.table.config (p.seen ++ more)
+
+-- the value of one of the caller's registers behind what the pass has seen
 abbrev pub value_of : PassState → ℕ → Value
 value_of p r = register_at (never_of p) (number_of p) r
 

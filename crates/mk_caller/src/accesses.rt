@@ -11,7 +11,7 @@ ghost use Rattle.mk_core.specs.Calls.{at_rest, onward, stage_refused, stage_behi
 ghost use Rattle.mk_words.specs.States.{call_of};
 ghost use Rattle.mk_caller.specs.States.{value_of};
 ghost use Rattle.mk_caller.specs.Causes.{Probes, ProbesAWord, IsRefused};
-ghost use Rattle.mk_caller.specs.Moves.{IsReady, IsUnderway, At, Moves, is_access, is_store, refused_register, refused_steps, behind_q};
+ghost use Rattle.mk_caller.specs.Moves.{IsReady, IsUnderway, At, Ends, GoesOn, is_access, is_store, refused_register, refused_steps, fault_steps, behind_q, loads, passes};
 
 use crate::refusals::Refusal;
 use crate::steps::{dirty, enter, leave, load, probe, store};
@@ -25,7 +25,7 @@ pub(crate) fn refuse(words: &Words, pass: &mut Pass, d: Option<u8>)
     requires stage { (call_of pass.old).stage ≡ stage_refused (call_of pass.old).op }
     requires loaded { (call_of pass.old).loaded ≡ 0 }
     requires register { d ≡ refused_register (call_of pass.old).op }
-    ensures { At pass.old (call_of pass.old).op (refused_steps (call_of pass.old).op) None at_rest pass.new }
+    ensures { Ends pass.old (refused_steps (call_of pass.old).op) None pass.new }
 {
     match d {
         Some(d) => {
@@ -44,8 +44,8 @@ pub(crate) fn store_and_leave(words: &Words, pass: &mut Pass, d: u8, v: u64)
     requires stage { is_store (call_of pass.old).stage ≡ true }
     requires register { d ≡ d_of (call_of pass.old).op }
     requires stores { reg_access (call_of pass.old) (call_of pass.old).stage ≡ Store v }
-    requires last { (progress_reg (call_of pass.old) (call_of pass.old).stage v).flight.stage ≡ stage.Leave }
-    ensures { At pass.old (call_of pass.old).op (step.Reg ∷ step.Leave ∷ []) (progress_reg (call_of pass.old) (call_of pass.old).stage v).answer at_rest pass.new }
+    requires last { (loads v (call_of pass.old)).flight.stage ≡ stage.Leave }
+    ensures { Ends pass.old (step.Reg ∷ step.Leave ∷ []) (loads v (call_of pass.old)).answer pass.new }
 {
     store(words, pass, d, v);
     leave(words, pass);
@@ -59,7 +59,7 @@ pub(crate) fn mark_and_leave(words: &Words, pass: &mut Pass, word: u64)
     requires stage { (call_of pass.old).stage ≡ stage.Dirty }
     requires word { word ≡ word_met (call_of pass.old) }
     requires last { stage_behind stage.Dirty (steps_of (call_of pass.old).op) ≡ stage.Leave }
-    ensures { At pass.old (call_of pass.old).op (step.Dirty ∷ step.Leave ∷ []) None at_rest pass.new }
+    ensures { Ends pass.old (step.Dirty ∷ step.Leave ∷ []) None pass.new }
 {
     dirty(words, pass, word / 64);
     leave(words, pass);
@@ -114,10 +114,10 @@ pub(crate) fn probe_access(
     requires value { u ≡ (call_of pass.old).q }
     requires offset { i ≡ i_of (call_of pass.old).op }
     requires register { d ≡ refused_register (call_of pass.old).op }
-    ensures moves { IfSome result (λ word. Moves pass.old (call_of pass.old).op step.Probe (onward (call_of pass.old) None) pass.new) }
+    ensures moves { IfSome result (λ word. GoesOn pass.old step.Probe passes pass.new) }
     ensures word { IfSome result (λ word. word ≡ word_met (call_of pass.old)) }
     ensures reached { IfSome result (λ word. ProbesAWord pass.old (call_of pass.old).op pass.new) }
-    ensures refused { IfNone result (At pass.old (call_of pass.old).op (step.Probe ∷ refused_steps (call_of pass.old).op) (Some answer.Fault) at_rest pass.new) }
+    ensures refused { IfNone result (Ends pass.old (fault_steps (call_of pass.old).op) (Some answer.Fault) pass.new) }
     ensures unmapped { IfNone result (Probes pass.old (call_of pass.old).op pass.new Unmapped) }
 {
     match probe(words, pass, u, i) {

@@ -4,13 +4,13 @@ ghost use Rattle.mk_never.specs.declared.operations.Op.TheVariants as op;
 ghost use Rattle.mk_never.specs.declared.values.Value.TheVariants.{Null};
 ghost use Rattle.mk_never.specs.NeverHeap.{is_same};
 ghost use Rattle.mk_core.specs.declared.events.Answer.TheVariants as answer;
-ghost use Rattle.mk_core.specs.Calls.{at_rest, one_if};
+ghost use Rattle.mk_core.specs.Calls.{at_rest};
 ghost use Rattle.mk_core.specs.History.{IsHistory};
 ghost use Rattle.mk_words.specs.Seats.{Has};
 ghost use Rattle.mk_words.specs.States.{call_of};
 ghost use Rattle.mk_caller.specs.declared.refusals.Refusal.TheVariants as refusal;
 ghost use Rattle.mk_caller.specs.States.{at_home, lent, number_of, value_of, Admits, IsIdleCaller};
-ghost use Rattle.mk_caller.specs.Called.{Called, IsAnswered};
+ghost use Rattle.mk_caller.specs.Called.{Called, Says, IsAnswered};
 ghost use Rattle.mk_caller.specs.Causes.{FindsGateHeld, IsRefused, ProbesAWord};
 
 use crate::calls;
@@ -185,7 +185,7 @@ impl<'h> Caller<'h> {
         requires home { self.old.home ≡ true }
         requires admitted { Admits self.old.pass (op.CasPtr q i p r) }
         ensures home { self.new.home ≡ true }
-        ensures called { IfOk result (λ exchanged. Called self.old.pass (op.CasPtr q i p r) (answer.Num (one_if exchanged)) self.new.pass) }
+        ensures called { IfOk result (λ exchanged. Says self.old.pass (op.CasPtr q i p r) exchanged self.new.pass) }
         ensures reached { OnOk result (ProbesAWord self.old.pass (op.CasPtr q i p r) self.new.pass) }
         ensures refused { IfErr result (λ e. IsRefused self.old.pass (op.CasPtr q i p r) e self.new.pass) }
     {
@@ -272,7 +272,7 @@ impl<'h> Caller<'h> {
         requires home { self.old.home ≡ true }
         requires admitted { Admits self.old.pass (op.Same p q) }
         ensures home { self.new.home ≡ true }
-        ensures called { IfOk result (λ same. Called self.old.pass (op.Same p q) (answer.Num (one_if same)) self.new.pass) }
+        ensures called { IfOk result (λ same. Says self.old.pass (op.Same p q) same self.new.pass) }
         ensures tells { IfOk result (λ same. same ≡ is_same (value_of self.old.pass p) (value_of self.old.pass q)) }
         ensures held { OnErr result (FindsGateHeld self.old.pass (op.Same p q) self.new.pass) }
     {
@@ -287,7 +287,7 @@ impl<'h> Caller<'h> {
         requires home { self.old.home ≡ true }
         requires admitted { Admits self.old.pass (op.IsNull p) }
         ensures home { self.new.home ≡ true }
-        ensures called { IfOk result (λ null. Called self.old.pass (op.IsNull p) (answer.Num (one_if null)) self.new.pass) }
+        ensures called { IfOk result (λ null. Says self.old.pass (op.IsNull p) null self.new.pass) }
         ensures tells { IfOk result (λ null. null ≡ is_same (value_of self.old.pass p) Null) }
         ensures held { OnErr result (FindsGateHeld self.old.pass (op.IsNull p) self.new.pass) }
     {

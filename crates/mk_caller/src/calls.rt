@@ -3,10 +3,9 @@ ghost use Rattle.std.specs.Prelude.{◌≡◌, ◌≢◌, IfOk, OnOk, OnErr, IfE
 ghost use Rattle.mk_never.specs.declared.operations.Op.TheVariants as op;
 ghost use Rattle.mk_never.specs.declared.values.Value.TheVariants.{Null};
 ghost use Rattle.mk_core.specs.declared.events.Answer.TheVariants as answer;
-ghost use Rattle.mk_core.specs.Calls.{one_if};
 ghost use Rattle.mk_never.specs.NeverHeap.{is_same};
 ghost use Rattle.mk_caller.specs.States.{value_of};
-ghost use Rattle.mk_caller.specs.Called.{Called, IsAnswered};
+ghost use Rattle.mk_caller.specs.Called.{Called, Says, IsAnswered};
 ghost use Rattle.mk_caller.specs.Causes.{FindsGateHeld, IsRefused, ProbesAWord};
 ghost use Rattle.mk_caller.specs.declared.refusals.Refusal.TheVariants as refusal;
 ghost use Rattle.mk_caller.specs.Moves.{IsReady};
@@ -21,7 +20,7 @@ use mk_words::{Held, Pass, Words};
 pub(crate) fn is_null(words: &Words, pass: &mut Pass, p: u8) -> Result<bool, Held>
     requires one_table { pass.old.table ≡ words.now }
     requires ready { IsReady pass.old (op.IsNull p) }
-    ensures called { IfOk result (λ null. Called pass.old (op.IsNull p) (answer.Num (one_if null)) pass.new) }
+    ensures called { IfOk result (λ null. Says pass.old (op.IsNull p) null pass.new) }
     ensures tells { IfOk result (λ null. null ≡ is_same (value_of pass.old p) Null) }
     ensures held { OnErr result (FindsGateHeld pass.old (op.IsNull p) pass.new) }
 {
@@ -35,7 +34,7 @@ pub(crate) fn is_null(words: &Words, pass: &mut Pass, p: u8) -> Result<bool, Hel
 pub(crate) fn same(words: &Words, pass: &mut Pass, p: u8, q: u8) -> Result<bool, Held>
     requires one_table { pass.old.table ≡ words.now }
     requires ready { IsReady pass.old (op.Same p q) }
-    ensures called { IfOk result (λ same. Called pass.old (op.Same p q) (answer.Num (one_if same)) pass.new) }
+    ensures called { IfOk result (λ same. Says pass.old (op.Same p q) same pass.new) }
     ensures tells { IfOk result (λ same. same ≡ is_same (value_of pass.old p) (value_of pass.old q)) }
     ensures held { OnErr result (FindsGateHeld pass.old (op.Same p q) pass.new) }
 {
@@ -193,7 +192,7 @@ pub(crate) fn cas_ptr(
 ) -> Result<bool, Refusal>
     requires one_table { pass.old.table ≡ words.now }
     requires ready { IsReady pass.old (op.CasPtr q i p r) }
-    ensures called { IfOk result (λ exchanged. Called pass.old (op.CasPtr q i p r) (answer.Num (one_if exchanged)) pass.new) }
+    ensures called { IfOk result (λ exchanged. Says pass.old (op.CasPtr q i p r) exchanged pass.new) }
     ensures reached { OnOk result (ProbesAWord pass.old (op.CasPtr q i p r) pass.new) }
     ensures refused { IfErr result (λ e. IsRefused pass.old (op.CasPtr q i p r) e pass.new) }
 {

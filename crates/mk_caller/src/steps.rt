@@ -14,7 +14,7 @@ ghost use Rattle.mk_geom.specs.Headers.{header_of};
 ghost use Rattle.mk_never.specs.declared.values.Target.TheVariants.{Unmapped};
 ghost use Rattle.mk_core.specs.Cells.{is_unmapped_header};
 ghost use Rattle.mk_caller.specs.Causes.{FindsGateHeld, Probes, ProbesAWord};
-ghost use Rattle.mk_caller.specs.Moves.{IsReady, IsUnderway, Moves, is_access, is_load, is_store};
+ghost use Rattle.mk_caller.specs.Moves.{IsReady, IsUnderway, Moves, GoesOn, begins, is_access, is_load, is_store, loads, loads_global, passes, faults, reads, writes, exchanges, ends};
 
 use mk_geom::{Header, decode};
 use mk_never::Op;
@@ -25,7 +25,7 @@ use mk_words::{Held, Pass, Words};
 pub(crate) fn enter(words: &Words, pass: &mut Pass, op: Op) -> Result<(), Held>
     requires one_table { pass.old.table ≡ words.now }
     requires ready { IsReady pass.old op }
-    ensures moves { OnOk result (Moves pass.old op (step.Enter op) (record { flight = begun op; answer = None }) pass.new) }
+    ensures moves { OnOk result (Moves pass.old op (step.Enter op) (begins op) pass.new) }
     ensures held { OnErr result (FindsGateHeld pass.old op pass.new) }
 {
     pass.is_in_order();
@@ -40,7 +40,7 @@ pub(crate) fn leave(words: &Words, pass: &mut Pass)
     requires one_table { pass.old.table ≡ words.now }
     requires underway { IsUnderway pass.old }
     requires stage { (call_of pass.old).stage ≡ stage.Leave }
-    ensures moves { Moves pass.old (call_of pass.old).op step.Leave (record { flight = at_rest; answer = None }) pass.new }
+    ensures moves { GoesOn pass.old step.Leave ends pass.new }
 {
     pass.is_in_order();
     pass.leave(words);
@@ -54,7 +54,7 @@ pub(crate) fn load(words: &Words, pass: &mut Pass, r: u8) -> u64
     requires underway { IsUnderway pass.old }
     requires stage { is_load (call_of pass.old).stage ≡ true }
     requires register { r ≡ register_met (call_of pass.old) (call_of pass.old).stage }
-    ensures moves { Moves pass.old (call_of pass.old).op step.Reg (progress_reg (call_of pass.old) (call_of pass.old).stage result) pass.new }
+    ensures moves { GoesOn pass.old step.Reg (loads result) pass.new }
     ensures null { (result ≡ 0) ↔ (value_of pass.old r ≡ Null) }
 {
     pass.is_in_order();
@@ -71,7 +71,7 @@ pub(crate) fn store(words: &Words, pass: &mut Pass, r: u8, v: u64)
     requires stage { is_store (call_of pass.old).stage ≡ true }
     requires register { r ≡ register_met (call_of pass.old) (call_of pass.old).stage }
     requires stores { reg_access (call_of pass.old) (call_of pass.old).stage ≡ Store v }
-    ensures moves { Moves pass.old (call_of pass.old).op step.Reg (progress_reg (call_of pass.old) (call_of pass.old).stage v) pass.new }
+    ensures moves { GoesOn pass.old step.Reg (loads v) pass.new }
 {
     pass.is_in_order();
     pass.reg_store(words, r, v);
@@ -86,7 +86,7 @@ pub(crate) fn read(words: &Words, pass: &mut Pass, word: u64) -> u64
     requires stage { (call_of pass.old).stage ≡ stage.Read }
     requires access { is_access (call_of pass.old).op ≡ true }
     requires word { word ≡ word_met (call_of pass.old) }
-    ensures moves { Moves pass.old (call_of pass.old).op step.Read (progress_read (call_of pass.old) (call_of pass.old).op result) pass.new }
+    ensures moves { GoesOn pass.old step.Read (reads result) pass.new }
 {
     pass.is_in_order();
     let value = pass.read(words, word);
@@ -103,7 +103,7 @@ pub(crate) fn write(words: &Words, pass: &mut Pass, word: u64, v: u64)
     requires access { is_access (call_of pass.old).op ≡ true }
     requires word { word ≡ word_met (call_of pass.old) }
     requires value { v ≡ value_written (call_of pass.old) (call_of pass.old).op }
-    ensures moves { Moves pass.old (call_of pass.old).op step.Write (onward (call_of pass.old) (Some answer.Done)) pass.new }
+    ensures moves { GoesOn pass.old step.Write writes pass.new }
 {
     pass.is_in_order();
     pass.write(words, word, v);
@@ -120,7 +120,7 @@ pub(crate) fn cas(words: &Words, pass: &mut Pass, word: u64, expected: u64, new:
     requires word { word ≡ word_met (call_of pass.old) }
     requires expected { expected ≡ (call_of pass.old).p }
     requires new { new ≡ (call_of pass.old).r }
-    ensures moves { Moves pass.old (call_of pass.old).op step.Cas (onward (call_of pass.old) (Some (answer.Num (one_if result)))) pass.new }
+    ensures moves { GoesOn pass.old step.Cas (exchanges result) pass.new }
 {
     pass.is_in_order();
     let exchanged = pass.cas(words, word, expected, new);
@@ -135,7 +135,7 @@ pub(crate) fn dirty(words: &Words, pass: &mut Pass, page: u64)
     requires underway { IsUnderway pass.old }
     requires stage { (call_of pass.old).stage ≡ stage.Dirty }
     requires page { page ≡ page_met (call_of pass.old) }
-    ensures moves { Moves pass.old (call_of pass.old).op step.Dirty (onward (call_of pass.old) None) pass.new }
+    ensures moves { GoesOn pass.old step.Dirty passes pass.new }
 {
     pass.is_in_order();
     pass.dirty(words, page);
@@ -149,7 +149,7 @@ pub(crate) fn global_load(words: &Words, pass: &mut Pass, g: u8) -> u64
     requires underway { IsUnderway pass.old }
     requires stage { (call_of pass.old).stage ≡ stage.Getg }
     requires global { g ≡ g_of (call_of pass.old).op }
-    ensures moves { Moves pass.old (call_of pass.old).op step.Getg (progress_getg (call_of pass.old) result) pass.new }
+    ensures moves { GoesOn pass.old step.Getg (loads_global result) pass.new }
 {
     pass.is_in_order();
     let value = pass.global_load(words, g);
@@ -165,7 +165,7 @@ pub(crate) fn global_store(words: &Words, pass: &mut Pass, g: u8, v: u64)
     requires stage { (call_of pass.old).stage ≡ stage.Setg }
     requires global { g ≡ g_of (call_of pass.old).op }
     requires value { v ≡ (call_of pass.old).p }
-    ensures moves { Moves pass.old (call_of pass.old).op step.Setg (onward (call_of pass.old) (Some answer.Done)) pass.new }
+    ensures moves { GoesOn pass.old step.Setg writes pass.new }
 {
     pass.is_in_order();
     pass.global_store(words, g, v);
@@ -199,10 +199,10 @@ pub(crate) fn probe(words: &Words, pass: &mut Pass, u: u64, i: u64) -> Option<u6
     requires access { is_access (call_of pass.old).op ≡ true }
     requires value { u ≡ (call_of pass.old).q }
     requires offset { i ≡ i_of (call_of pass.old).op }
-    ensures moves { IfSome result (λ word. Moves pass.old (call_of pass.old).op step.Probe (onward (call_of pass.old) None) pass.new) }
+    ensures moves { IfSome result (λ word. GoesOn pass.old step.Probe passes pass.new) }
     ensures word { IfSome result (λ word. word ≡ word_met (call_of pass.old)) }
     ensures reached { IfSome result (λ word. ProbesAWord pass.old (call_of pass.old).op pass.new) }
-    ensures refused { IfNone result (Moves pass.old (call_of pass.old).op step.Probe (refused (call_of pass.old) answer.Fault) pass.new) }
+    ensures refused { IfNone result (GoesOn pass.old step.Probe faults pass.new) }
     ensures unmapped { IfNone result (Probes pass.old (call_of pass.old).op pass.new Unmapped) }
 {
     pass.is_in_order();

@@ -1,6 +1,6 @@
 -- A caller's pass of a heap that nobody has used.
-use Rattle.std.proofs.Common.{◌≡◌, ℕ, ◌+◌, ◌*◌, ◌<◌, ◌≤◌, Bool, true, List, [], ◌∷◌, length, refl, sym, ◌∙◌, ap, subst, arith}
-use Rattle.std.specs.Prelude.{Result, Ok, Err, IfOk, replicate, slice_index_or}
+use Rattle.std.proofs.Common.{◌≡◌, ◌*◌, ◌≤◌, true, List, [], ◌∷◌, length, refl, sym, ◌∙◌, ap, subst, arith}
+use Rattle.std.specs.Prelude.{slice_index_or}
 use Rattle.std.proofs.lemmas.List.{length-replicate}
 use Rattle.mk_never.specs.declared.operations.Op.TheVariants as op
 use Rattle.mk_never.specs.declared.values.Value.{Value}
@@ -13,9 +13,8 @@ use Rattle.mk_core.specs.Calls.{at_rest}
 use Rattle.mk_core.specs.History.{World, left, first_world, never_behind, never_first, left_from, calls_from}
 use Rattle.mk_core.specs.Moments.{flight_of}
 use Rattle.mk_protocol.proofs.OrderlyLists.{at_first}
-use Rattle.mk_words.specs.States.{PassState, WordsState, call_of}
-use Rattle.mk_words.specs.declared.call_steps.Held.{Held}
-use Rattle.mk_caller.specs.States.{value_of, never_of, Admits, IsIdleCaller}
+use Rattle.mk_words.specs.States.{PassState, WordsState}
+use Rattle.mk_caller.specs.States.{value_of, Admits, IsIdleCaller}
 
 none_left : (c : Config) → left c [] ≡ first_world c
 unfolding left_from
@@ -40,12 +39,14 @@ idle_at_first w =
 admits_at_first : (w : WordsState) → 1 ≤ w.config.callers → Admits (first_pass w) (op.IsNull 0)
 admits_at_first w some =
     let count : length (never_behind w.config []).registers ≡ 8 * w.config.callers =
-    ap (λ (n : Rattle.mk_never.specs.NeverHeap.NeverState). length n.registers) (none_called w.config) ∙ length-replicate (8 * w.config.callers) Null in
+    ap (λ (n : Rattle.mk_never.specs.NeverHeap.NeverState). length n.registers) (none_called w.config)
+    ∙ length-replicate (8 * w.config.callers) Null in
     record { of_a_caller = omega arith; in_range = omega arith; access = tt; store = tt }
 
 null_at_first : (w : WordsState) → value_of (first_pass w) 0 ≡ Null
 null_at_first w =
-    ap (λ (n : Rattle.mk_never.specs.NeverHeap.NeverState). slice_index_or n.registers 0 Null) (none_called w.config) ∙ at_first (8 * w.config.callers) 0 Null
+    ap (λ (n : Rattle.mk_never.specs.NeverHeap.NeverState). slice_index_or n.registers 0 Null) (none_called w.config)
+    ∙ at_first (8 * w.config.callers) 0 Null
 
 -- The same for a pass that is this one.
 
@@ -56,9 +57,11 @@ pub admits : (p : PassState) (w : WordsState) → p ≡ first_pass w → 1 ≤ w
 admits p w is some = subst (λ (x : PassState). Admits x (op.IsNull 0)) (sym is) (admits_at_first w some)
 
 pub tells_null : (p : PassState) (w : WordsState) → p ≡ first_pass w → is_same (value_of p 0) Null ≡ true
-tells_null p w is = ap (λ (x : PassState). is_same (value_of x 0) Null) is ∙ ap (λ (v : Value). is_same v Null) (null_at_first w)
+tells_null p w is = ap (λ (x : PassState). is_same (value_of x 0) Null) is
+    ∙ ap (λ (v : Value). is_same v Null) (null_at_first w)
 
-pub given : (h p : PassState) (w : WordsState) → h.table ≡ w → h.seen ≡ [] → p ≡ record h { seat = Caller 0; seats = Caller 0 ∷ [] } → p ≡ first_pass w
+pub given : (h p : PassState) (w : WordsState) → h.table ≡ w → h.seen ≡ []
+    → p ≡ record h { seat = Caller 0; seats = Caller 0 ∷ [] } → p ≡ first_pass w
 given h p w table first is =
     is ∙ ap (λ (t : WordsState). record { table = t; seat = Caller 0; seats = Caller 0 ∷ []; seen = h.seen }) table
     ∙ ap (λ (l : List Event). record { table = w; seat = Caller 0; seats = Caller 0 ∷ []; seen = l }) first

@@ -1,79 +1,80 @@
 -- A global stays as it is set, up to the next call that sets it.
-use Rattle.std.proofs.Common.{◌≡◌, ◌≢◌, ℕ, suc, ◌+◌, ◌*◌, ◌<◌, Bool, true, false, List, [], ◌∷◌, ◌++◌, length, refl, sym, ◌∙◌, ap, subst, append_assoc, length-append, arith, cond}
-use Rattle.std.specs.Prelude.{◌==◌, filter, Some, if◌then◌else◌, slice_index_or}
-use Rattle.std.proofs.lemmas.Bool.{eqb-true, eq-eqb}
-use Rattle.std.proofs.lemmas.List.{get_or-set_same, get_or-set_other, map-append}
-use Rattle.std.proofs.lemmas.List.Elements.{filter-append}
+use Rattle.std.proofs.Common.{◌≡◌, ℕ, ◌<◌, Bool, true, false, List, [], ◌∷◌, length, refl, sym, ◌∙◌, cond}
+use Rattle.std.specs.Prelude.{filter, if◌then◌else◌}
+use Rattle.std.proofs.lemmas.Bool.{eq-eqb}
+use Rattle.std.proofs.lemmas.List.{get_or-set_same, get_or-set_other}
 use Rattle.mk_never.specs.declared.operations.Op.{Op}
 use Rattle.mk_never.specs.declared.operations.Op.TheVariants as op
 use Rattle.mk_never.specs.declared.values.Target.{Target}
 use Rattle.mk_never.specs.declared.values.Target.TheVariants.{Nothing, Unmapped, WordOf}
 use Rattle.mk_never.specs.declared.values.Value.{Value}
 use Rattle.mk_never.specs.declared.values.Value.TheVariants.{Null, Num, Ptr}
-use Rattle.mk_never.specs.NeverHeap.{NeverState, Call, register_at, global_at, with_global, with_register, word_at, with_word, target_of, left_at, after_free, after_op, after_calls, is_same}
-use Rattle.mk_core.specs.declared.events.Answer.{Answer}
+use Rattle.mk_never.specs.NeverHeap.{NeverState, register_at, global_at, with_register, word_at, with_word, target_of, left_at, after_free, after_op, after_calls, is_same}
 use Rattle.mk_core.specs.Decided.{Decided, asked}
 use Rattle.mk_caller_clients.specs.Setters.{is_set_of}
 
--- a list of the calls that set the global
+-- those of the calls that set the global
 abbrev pub set_among : ℕ → List Decided → List Decided
 set_among g xs = filter (λ (x : Decided). is_set_of g x.op) xs
-
-pub set_append : (g : ℕ) (xs ys : List Decided) → set_among g (xs ++ ys) ≡ set_among g xs ++ set_among g ys
-set_append g xs ys = filter-append (λ (x : Decided). is_set_of g x.op) xs ys
 
 free_keeps : (n : NeverState) (g : ℕ) (v : Value) → global_at (after_free n v) g ≡ global_at n g
 free_keeps n g Null = refl
 free_keeps n g (Num m) = refl
 free_keeps n g (Ptr a t o) = refl
 
-left_keeps : (n m : NeverState) (g : ℕ) (t : Target) (f : ℕ → ℕ → NeverState) → global_at m g ≡ global_at n g → ((a w : ℕ) → global_at (f a w) g ≡ global_at n g)
+left_keeps : (n m : NeverState) (g : ℕ) (t : Target) (f : ℕ → ℕ → NeverState) → global_at m g ≡ global_at n g
+    → ((a w : ℕ) → global_at (f a w) g ≡ global_at n g)
     → global_at (left_at t m f) g ≡ global_at n g
 left_keeps n m g Nothing f x y = x
 left_keeps n m g Unmapped f x y = x
 left_keeps n m g (WordOf a w) f x y = y a w
 
-either_keeps : (n m : NeverState) (g : ℕ) (b : Bool) → global_at m g ≡ global_at n g → global_at (if b then m else n) g ≡ global_at n g
+either_keeps : (n m : NeverState) (g : ℕ) (b : Bool) → global_at m g ≡ global_at n g
+    → global_at (if b then m else n) g ≡ global_at n g
 either_keeps n m g true x = x
 either_keeps n m g false x = refl
 
-new_keeps : (n m : NeverState) (g : ℕ) (full : Bool) → global_at m g ≡ global_at n g → global_at (if full then n else m) g ≡ global_at n g
+new_keeps : (n m : NeverState) (g : ℕ) (full : Bool) → global_at m g ≡ global_at n g
+    → global_at (if full then n else m) g ≡ global_at n g
 new_keeps n m g true x = refl
 new_keeps n m g false x = x
 
-op_keeps : (n : NeverState) (k : ℕ) (o : Op) (g : ℕ) → is_set_of g o ≡ false → global_at (after_op n k o) g ≡ global_at n g
+op_keeps : (n : NeverState) (k : ℕ) (o : Op) (g : ℕ) → is_set_of g o ≡ false
+    → global_at (after_op n k o) g ≡ global_at n g
 op_keeps n k (op.New d ty full) g h = new_keeps n _ g full refl
 op_keeps n k (op.Free p) g h = free_keeps n g (register_at n k p)
 op_keeps n k (op.GetNum q i) g h = refl
-op_keeps n k (op.SetNum q i m) g h = left_keeps n n g (target_of n (register_at n k q) i) (λ a w. with_word n a w (Num m)) refl (λ a w. refl)
-op_keeps n k (op.GetPtr d q i) g h = left_keeps n (with_register n k d Null) g (target_of n (register_at n k q) i) (λ a w. with_register n k d (word_at n a w)) refl (λ a w. refl)
-op_keeps n k (op.SetPtr q i p) g h = left_keeps n n g (target_of n (register_at n k q) i) (λ a w. with_word n a w (register_at n k p)) refl (λ a w. refl)
+op_keeps n k (op.SetNum q i m) g h = left_keeps n n g (target_of n (register_at n k q) i)
+    (λ a w. with_word n a w (Num m)) refl (λ a w. refl)
+op_keeps n k (op.GetPtr d q i) g h = left_keeps n (with_register n k d Null) g (target_of n (register_at n k q) i)
+    (λ a w. with_register n k d (word_at n a w)) refl (λ a w. refl)
+op_keeps n k (op.SetPtr q i p) g h = left_keeps n n g (target_of n (register_at n k q) i)
+    (λ a w. with_word n a w (register_at n k p)) refl (λ a w. refl)
 op_keeps n k (op.CasPtr q i p r) g h =
-    left_keeps n n g (target_of n (register_at n k q) i) (λ a w. if is_same (word_at n a w) (register_at n k p) then with_word n a w (register_at n k r) else n) refl
+    left_keeps n n g (target_of n (register_at n k q) i)
+    (λ a w. if is_same (word_at n a w) (register_at n k p) then with_word n a w (register_at n k r) else n) refl
     (λ a w. either_keeps n (with_word n a w (register_at n k r)) g (is_same (word_at n a w) (register_at n k p)) refl)
 op_keeps n k (op.SetGlobal x p) g h =
-    get_or-set_other n.globals x g (register_at n k p) Null (λ e. (let t : true ≡ false = sym (eq-eqb x g (sym e)) ∙ h in cc))
+    get_or-set_other n.globals x g (register_at n k p) Null
+    (λ e. (let t : true ≡ false = sym (eq-eqb x g (sym e)) ∙ h in cc))
 op_keeps n k _ g h = refl
 
-unset : (g : ℕ) (x : Decided) (xs : List Decided) → set_among g (x ∷ xs) ≡ [] → (is_set_of g x.op ≡ false) × (set_among g xs ≡ [])
+unset : (g : ℕ) (x : Decided) (xs : List Decided) → set_among g (x ∷ xs) ≡ []
+    → (is_set_of g x.op ≡ false) × (set_among g xs ≡ [])
 unset g x xs h = by (is_set_of g x.op) refl h
   where
-    by : (b : Bool) → is_set_of g x.op ≡ b → cond b (x ∷ set_among g xs) (set_among g xs) ≡ [] → (is_set_of g x.op ≡ false) × (set_among g xs ≡ [])
+    by : (b : Bool) → is_set_of g x.op ≡ b → cond b (x ∷ set_among g xs) (set_among g xs) ≡ []
+        → (is_set_of g x.op ≡ false) × (set_among g xs ≡ [])
     by true e h = cc
     by false e h = (e, h)
 
-pub calls_keep : (n : NeverState) (g : ℕ) (xs : List Decided) → set_among g xs ≡ [] → global_at (after_calls n (asked xs)) g ≡ global_at n g
+pub calls_keep : (n : NeverState) (g : ℕ) (xs : List Decided) → set_among g xs ≡ []
+    → global_at (after_calls n (asked xs)) g ≡ global_at n g
 calls_keep n g [] h = refl
 calls_keep n g (x ∷ xs) h =
     let u = unset g x xs h in
     calls_keep (after_op n x.caller x.op) g xs u.1 ∙ op_keeps n x.caller x.op g u.0
 
-pub set_gives : (n : NeverState) (k g p : ℕ) → g < length n.globals → global_at (after_op n k (op.SetGlobal g p)) g ≡ register_at n k p
+pub set_gives : (n : NeverState) (k g p : ℕ) → g < length n.globals
+    → global_at (after_op n k (op.SetGlobal g p)) g ≡ register_at n k p
 set_gives n k g p lt = get_or-set_same n.globals g (register_at n k p) Null lt
-
--- nothing is left where the counts say so
-pub none_left : {A : Type 0} (a z x y : List A) (e : A) → (a ++ z) ++ (e ∷ []) ++ x ++ y ≡ a ++ e ∷ [] → x ≡ []
-none_left a z [] y e h = refl
-none_left a z (b ∷ x) y e h =
-    let lengths = ap length h in
-    absurd (grind (arith, length-append, lengths))

@@ -1,3 +1,5 @@
 pub mod Globals
 pub mod Sameness
 pub mod Beginnings
+pub mod Between
+pub mod Loading

@@ -1,164 +1,96 @@
 -- What the registers of the clients hold behind their calls.
-use Rattle.std.proofs.Common.{◌≡◌, ◌≢◌, ℕ, ◌+◌, ◌*◌, ◌<◌, Bool, true, false, List, [], ◌∷◌, ◌++◌, length, refl, sym, ◌∙◌, ap, subst, append_assoc, append-nil, inl, inr, arith, cond}
-use Rattle.std.specs.Prelude.{Some, filter, Result, Ok, Err, IfOk}
+use Rattle.std.proofs.Common.{◌≡◌, ◌≢◌, ℕ, ◌<◌, Bool, true, List, ◌++◌, length, refl, sym, ◌∙◌, ap, subst, inl, inr}
+use Rattle.std.specs.Prelude.{Result, Ok, Err, IfOk}
 use Rattle.mk_words.specs.declared.call_steps.Held.{Held}
 use Rattle.mk_core.specs.Calls.{one_if}
 use Rattle.std.proofs.lemmas.Bool.{cases_eq, eq-eqb}
 use Rattle.mk_never.specs.declared.operations.Op.{Op}
 use Rattle.mk_never.specs.declared.operations.Op.TheVariants as op
-use Rattle.mk_never.specs.declared.values.Value.{Value}
-use Rattle.mk_never.specs.NeverHeap.{NeverState, register_at, global_at, after_op, after_calls, is_same}
-use Rattle.mk_never.specs.Admitted.{IsAdmitted, IsCaller}
+use Rattle.mk_never.specs.NeverHeap.{NeverState, global_at, is_same}
+use Rattle.mk_never.specs.Admitted.{IsCaller}
 use Rattle.mk_never.proofs.Sameness.{same_from_equal}
 use Rattle.mk_core.specs.declared.config.Config.{Config}
 use Rattle.mk_core.specs.declared.events.Answer.{Answer}
 use Rattle.mk_core.specs.declared.events.Answer.TheVariants as answer
 use Rattle.mk_core.specs.declared.events.Event.{Event}
-use Rattle.mk_core.specs.Decided.{Decided, asked, entry_of}
-use Rattle.mk_core.specs.History.{World, first_world, left, calls, calls_from, call_decided, never_behind}
-use Rattle.mk_core.proofs.Histories.{calls_more}
-use Rattle.mk_core.proofs.HistoryParts.{calls_in_parts, never_in_parts}
+use Rattle.mk_core.specs.History.{never_behind}
 use Rattle.mk_words.specs.States.{PassState}
 use Rattle.mk_caller.specs.States.{number_of, never_of, value_of, Admits}
-use Rattle.mk_caller.specs.Called.{Called, IsAnswered, IsDecidedIn}
+use Rattle.mk_caller.specs.Called.{Called, IsAnswered}
 use Rattle.mk_caller.proofs.After.{set_same, value_left, calls_leave_other_registers, still_caller, caller_there}
 use Rattle.mk_frames.proofs.OtherCalls.{never_continues}
-use Rattle.mk_caller_clients.specs.Setters.{setters, IsOnlySetter}
-use Rattle.mk_caller_clients.proofs.Globals.{set_among, set_append, calls_keep, set_gives, none_left}
+use Rattle.mk_caller_clients.specs.Setters.{is_set_of, IsOnlySetter}
+use Rattle.mk_caller_clients.proofs.Globals.{calls_keep, set_gives}
+use Rattle.mk_caller_clients.proofs.Between.{before, decided, others, between, same_config, place, never_there, never_later, none_between}
 
 pub same_is : (p : PassState) (x y : ℕ) → value_of p x ≡ value_of p y → is_same (value_of p x) (value_of p y) ≡ true
 same_is p x y e = same_from_equal (value_of p x) (value_of p y) e
 
 -- through registers
 
-pub moved : {p q : PassState} (d x : ℕ) → Admits p (op.Move d x) → Called p (op.Move d x) answer.Done q → value_of q d ≡ value_of p x
+pub moved : {p q : PassState} (d x : ℕ) → Admits p (op.Move d x) → Called p (op.Move d x) answer.Done q
+    → value_of q d ≡ value_of p x
 moved {p} d x ad c =
     value_left c d ad.in_range.0
-    ∙ set_same (never_behind p.table.config (p.seen ++ c.decided.before)) (number_of p) d _ (caller_there c ad.of_a_caller) ad.in_range.0
+    ∙ set_same (never_behind p.table.config (p.seen ++ c.decided.before)) (number_of p) d _
+    (caller_there c ad.of_a_caller) ad.in_range.0
     ∙ c.decided.known x ad.in_range.1
 
-source : {p q : PassState} (d x : ℕ) → Admits p (op.Move d x) → Called p (op.Move d x) answer.Done q → value_of q x ≡ value_of p x
+source : {p q : PassState} (d x : ℕ) → Admits p (op.Move d x) → Called p (op.Move d x) answer.Done q
+    → value_of q x ≡ value_of p x
 source {p} {q} d x ad c = elim (cases_eq d x) [
   | inl e ↦ ap (λ y. value_of q y) (sym e) ∙ moved d x ad c
   | inr ne ↦ calls_leave_other_registers p (op.Move d x) answer.Done q x c ad.in_range.1 (λ e. ne (cc e))
 ]
 
-pub moved_same : {p q : PassState} (d x : ℕ) → Admits p (op.Move d x) → Called p (op.Move d x) answer.Done q → is_same (value_of q d) (value_of q x) ≡ true
+pub moved_same : {p q : PassState} (d x : ℕ) → Admits p (op.Move d x) → Called p (op.Move d x) answer.Done q
+    → is_same (value_of q d) (value_of q x) ≡ true
 moved_same {p} {q} d x ad c = same_is q d x (moved d x ad c ∙ sym (source d x ad c))
 
-pub may_compare : {p q : PassState} {o : Op} {a : Answer} (x y : ℕ) → IsCaller (never_of p) (number_of p) → x < 8 → y < 8 → Called p o a q → Admits q (op.Same x y)
+pub may_compare : {p q : PassState} {o : Op} {a : Answer} (x y : ℕ) → IsCaller (never_of p) (number_of p) → x < 8
+    → y < 8 → Called p o a q → Admits q (op.Same x y)
 may_compare x y is lx ly c = record { of_a_caller = still_caller c is; in_range = (lx, ly); access = tt; store = tt }
 
 -- through a global
 
-pub may_get : {p q : PassState} (d g r : ℕ) → Admits p (op.SetGlobal g r) → d < 8 → Called p (op.SetGlobal g r) answer.Done q → Admits q (op.GetGlobal d g)
+pub may_get : {p q : PassState} (d g r : ℕ) → Admits p (op.SetGlobal g r) → d < 8
+    → Called p (op.SetGlobal g r) answer.Done q → Admits q (op.GetGlobal d g)
 may_get {p} {q} d g r ad lt c =
     let on = never_continues p.table.config p.seen c.more in
     let there : g < length (never_of q).globals =
-    subst (λ (x : PassState). g < length (never_of x).globals) (sym c.is) (subst (λ count. g < count) (sym on.globals) ad.in_range.0) in
+    subst (λ (x : PassState). g < length (never_of x).globals) (sym c.is)
+    (subst (λ count. g < count) (sym on.globals) ad.in_range.0) in
     record { of_a_caller = still_caller c ad.of_a_caller; in_range = (lt, there); access = tt; store = tt }
 
-one_call : (c : Config) (es : List Event) (e : Event) → calls_from c (left c es) (e ∷ []) ≡ call_decided c (left c es).now e
-unfolding calls_from
-one_call c es e = append-nil (call_decided c (left c es).now e)
-
-module _ {p0 p1 p2 p3 : PassState} (d g r : ℕ) (word : ℕ) (a : Answer) (o : Op) (ad : Admits p0 (op.SetGlobal g r)) (lt : d < 8) (ne : d ≢ r)
-    (set : Called p0 (op.SetGlobal g r) answer.Done p1) (get : Called p1 (op.GetGlobal d g) (answer.Word word) p2) (last : Called p2 o a p3) where
+module _ {p0 p1 p2 p3 : PassState} (d g r : ℕ) (word : ℕ) (a : Answer) (o : Op) (ad : Admits p0 (op.SetGlobal g r))
+    (lt : d < 8) (ne : d ≢ r)
+    (set : Called p0 (op.SetGlobal g r) answer.Done p1) (get : Called p1 (op.GetGlobal d g) (answer.Word word) p2)
+    (last : Called p2 o a p3) where
   abbrev c : Config
   c = p0.table.config
 
-  abbrev b1 : List Event
-  b1 = p0.seen ++ set.decided.before
+  abbrev n1 : NeverState
+  n1 = never_behind c (before set get)
 
-  -- behind the set
-  abbrev s1 : List Event
-  s1 = b1 ++ set.decided.event ∷ []
-
-  abbrev rest : List Event
-  rest = set.decided.behind ++ get.decided.before
-
-  n1 : NeverState
-  n1 = never_behind c b1
-
-  config_is : p1.table.config ≡ c
-  config_is = ap (λ (x : PassState). x.table.config) set.is
-
-  -- the list at the place of the get
-  place : p1.seen ++ get.decided.before ≡ s1 ++ rest
-  place =
-      ap (λ (x : PassState). x.seen ++ get.decided.before) set.is
-      ∙ ap (λ (l : List Event). (p0.seen ++ l) ++ get.decided.before) set.decided.is
-      ∙ ap (λ (l : List Event). l ++ get.decided.before) (sym (append_assoc p0.seen set.decided.before (set.decided.event ∷ set.decided.behind)) ∙ sym (append_assoc b1 (set.decided.event ∷ []) set.decided.behind))
-      ∙ append_assoc s1 set.decided.behind get.decided.before
-
-  set_there : calls c s1 ≡ calls c b1 ++ record { caller = number_of p0; op = op.SetGlobal g r; answer = answer.Done } ∷ []
-  set_there = calls_more c (first_world c) b1 set.decided.event ∙ ap (λ (l : List Decided). calls c b1 ++ l) set.decided.decides
-
-  never_there : never_behind c s1 ≡ after_op n1 (number_of p0) (op.SetGlobal g r)
-  unfolding n1
-  never_there =
-      never_in_parts c b1 (set.decided.event ∷ [])
-      ∙ ap (λ (l : List Decided). after_calls (never_behind c b1) (asked l)) (one_call c b1 set.decided.event ∙ set.decided.decides)
-
-  -- what the last pass has seen goes on behind the get
-  tail : List Event
-  tail = (get.decided.event ∷ get.decided.behind) ++ last.more
-
-  whole : p3.seen ≡ (s1 ++ rest) ++ tail
-  unfolding tail
-  whole =
-      ap (λ (x : PassState). x.seen) last.is
-      ∙ ap (λ (x : PassState). x.seen ++ last.more) get.is
-      ∙ ap (λ (l : List Event). (p1.seen ++ l) ++ last.more) get.decided.is
-      ∙ ap (λ (l : List Event). l ++ last.more) (sym (append_assoc p1.seen get.decided.before (get.decided.event ∷ get.decided.behind)))
-      ∙ append_assoc (p1.seen ++ get.decided.before) (get.decided.event ∷ get.decided.behind) last.more
-      ∙ ap (λ (l : List Event). l ++ ((get.decided.event ∷ get.decided.behind) ++ last.more)) place
-
-  abbrev entry : List Decided
-  entry = record { caller = number_of p0; op = op.SetGlobal g r; answer = answer.Done } ∷ []
-
-  abbrev own : List Decided
-  own = set_among g (calls c p0.seen)
-
-  abbrev x : List Decided
-  x = calls_from c (left c s1) rest
-
-  abbrev y : List Decided
-  y = calls_from c (left c (s1 ++ rest)) tail
-
-  abbrev z : List Decided
-  z = calls_from c (left c p0.seen) set.decided.before
-
-  entry_sets : set_among g entry ≡ entry
-  entry_sets = ap (λ (b : Bool). cond b entry []) (eq-eqb g g refl)
-
-  parts : set_among g (calls c p3.seen) ≡ (own ++ set_among g z) ++ entry ++ set_among g x ++ set_among g y
-  parts =
-      ap (λ (l : List Event). set_among g (calls c l)) whole
-      ∙ ap (λ (l : List Decided). set_among g l) (calls_in_parts c (s1 ++ rest) tail)
-      ∙ set_append g (calls c (s1 ++ rest)) y
-      ∙ ap (λ (l : List Decided). set_among g l ++ set_among g y) (calls_in_parts c s1 rest)
-      ∙ ap (λ (l : List Decided). l ++ set_among g y) (set_append g (calls c s1) x)
-      ∙ ap (λ (l : List Decided). set_among g l ++ set_among g x ++ set_among g y) set_there
-      ∙ ap (λ (l : List Decided). l ++ set_among g x ++ set_among g y) (set_append g (calls c b1) entry)
-      ∙ ap (λ (l : List Decided). l ++ set_among g entry ++ set_among g x ++ set_among g y) (ap (λ (l : List Decided). set_among g l) (calls_in_parts c p0.seen set.decided.before) ∙ set_append g (calls c p0.seen) z)
-      ∙ ap (λ (l : List Decided). (own ++ set_among g z) ++ l ++ set_among g x ++ set_among g y) entry_sets
-
-  global_there : IsOnlySetter p0 g r p3 → global_at (never_behind c (s1 ++ rest)) g ≡ value_of p0 r
-  unfolding n1
+  global_there : IsOnlySetter p0 g r p3 → global_at (never_behind c (decided set get ++ others set get)) g ≡ value_of
+      p0 r
   global_there only =
-      ap (λ (n : NeverState). global_at n g) (never_in_parts c s1 rest)
-      ∙ calls_keep (never_behind c s1) g x (none_left own (set_among g z) (set_among g x) (set_among g y) (record { caller = number_of p0; op = op.SetGlobal g r; answer = answer.Done }) (sym parts ∙ only))
-      ∙ ap (λ (n : NeverState). global_at n g) never_there
-      ∙ set_gives (never_behind c b1) (number_of p0) g r (subst (λ count. g < count) (sym (never_continues c p0.seen set.decided.before).globals) ad.in_range.0)
+      ap (λ (n : NeverState). global_at n g) (never_later set get)
+      ∙ calls_keep (never_behind c (decided set get)) g (between set get)
+      (none_between set get (is_set_of g) p3.seen last.more (ap (λ (x : PassState). x.seen) last.is) (eq-eqb g g refl)
+      only)
+      ∙ ap (λ (n : NeverState). global_at n g) (never_there set get)
+      ∙ set_gives n1 (number_of p0) g r
+      (subst (λ count. g < count) (sym (never_continues c p0.seen set.decided.before).globals) ad.in_range.0)
       ∙ set.decided.known r ad.in_range.1
 
   got : IsOnlySetter p0 g r p3 → value_of p2 d ≡ value_of p0 r
   got only =
       value_left get d lt
-      ∙ set_same (never_behind p1.table.config (p1.seen ++ get.decided.before)) (number_of p1) d _ (caller_there get (still_caller set ad.of_a_caller)) lt
-      ∙ ap (λ (k : Config). global_at (never_behind k (p1.seen ++ get.decided.before)) g) config_is
-      ∙ ap (λ (l : List Event). global_at (never_behind c l) g) place
+      ∙ set_same (never_behind p1.table.config (p1.seen ++ get.decided.before)) (number_of p1) d _
+      (caller_there get (still_caller set ad.of_a_caller)) lt
+      ∙ ap (λ (k : Config). global_at (never_behind k (p1.seen ++ get.decided.before)) g) (same_config set get)
+      ∙ ap (λ (l : List Event). global_at (never_behind c l) g) (place set get)
       ∙ global_there only
 
   kept : value_of p2 r ≡ value_of p0 r
@@ -175,8 +107,11 @@ pub told : (x : Result Bool Held) (b : Bool) → IfOk x (λ s. s ≡ b) → b �
 told (Ok s) b is h = is ∙ h
 told (Err e) b is h = tt
 
-pub told_of_global : (p0 p1 p2 p3 : PassState) (x : Result Bool Held) (d g r : ℕ) → Admits p0 (op.SetGlobal g r) → d < 8 → d ≢ r
-    → Called p0 (op.SetGlobal g r) answer.Done p1 → IsAnswered p1 (op.GetGlobal d g) p2 → IfOk x (λ s. Called p2 (op.Same r d) (answer.Num (one_if s)) p3)
+pub told_of_global : (p0 p1 p2 p3 : PassState) (x : Result Bool Held) (d g r : ℕ) → Admits p0 (op.SetGlobal g r)
+    → d < 8 → d ≢ r
+    → Called p0 (op.SetGlobal g r) answer.Done p1 → IsAnswered p1 (op.GetGlobal d g) p2
+    → IfOk x (λ s. Called p2 (op.Same r d) (answer.Num (one_if s)) p3)
     → IfOk x (λ s. s ≡ is_same (value_of p2 r) (value_of p2 d)) → IfOk x (λ s. IsOnlySetter p0 g r p3 → s ≡ true)
-told_of_global p0 p1 p2 p3 (Ok s) d g r ad lt ne set get last is = λ only. is ∙ through_global d g r get.word (answer.Num (one_if s)) (op.Same r d) ad lt ne set get.called last only
+told_of_global p0 p1 p2 p3 (Ok s) d g r ad lt ne set get last is = λ only. is
+    ∙ through_global d g r get.word (answer.Num (one_if s)) (op.Same r d) ad lt ne set get.called last only
 told_of_global p0 p1 p2 p3 (Err e) d g r ad lt ne set get last is = tt

@@ -6,9 +6,9 @@ ghost use Rattle.mk_never.specs.declared.operations.Op.TheVariants as op;
 ghost use Rattle.mk_core.specs.declared.events.Seat.TheVariants.{Caller as OfCaller, Host};
 ghost use Rattle.mk_words.specs.Seats.{Has};
 ghost use Rattle.mk_caller.specs.States.{Admits};
-ghost use Rattle.mk_caller_clients.specs.Setters.{IsOnlySetter};
+ghost use Rattle.mk_caller_clients.specs.Setters.{IsOnlySetter, IsOnlyStore};
 
-use mk_caller::Caller;
+use mk_caller::{Caller, Refusal};
 use mk_core::Seat;
 use mk_words::{Held, Pass, Words};
 
@@ -33,6 +33,19 @@ pub fn moves_through_global(caller: &mut Caller, d: u8, g: u8, p: u8) -> Result<
     caller.set_global(g, p)?;
     caller.get_global(d, g)?;
     caller.same(p, d)
+}
+
+/// A number that is stored is what is loaded, where no other caller stores in between.
+pub fn moves_through_memory(caller: &mut Caller, q: u8, i: u64, n: u64) -> Result<u64, Refusal>
+    requires home { caller.old.home ≡ true }
+    requires admitted { Admits caller.old.pass (op.SetNum q i n) }
+    ensures { IfOk result (λ loaded. IsOnlyStore caller.old.pass q i n caller.new.pass → loaded ≡ n) }
+{
+    caller.set_num(q, i, n)?;
+    caller.is_idle();
+    let loaded = caller.get_num(q, i)?;
+    caller.is_idle();
+    Ok(loaded)
 }
 
 /// A caller's first call, of a heap that nobody has used: its register is null.

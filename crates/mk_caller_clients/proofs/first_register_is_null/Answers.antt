@@ -7,16 +7,21 @@ use Rattle.mk_caller_clients.proofs.first_register_is_null.Goals as goal
 pub new-caller-requires-clause-idle : goal.new-caller-requires-clause-idle
 new-caller-requires-clause-idle c =
     let w = c.args.words.now in
-    idle c.split-pass.result w (given c.args.host.now c.split-pass.result w c.requires.one_table c.requires.first c.split-pass.ensures.made)
+    idle c.split-pass.result w (given c.args.host.now c.split-pass.result w c.requires.one_table c.requires.first
+    c.split-pass.ensures.made)
 
 pub is_null-requires-clause-admitted : goal.is_null-requires-clause-admitted
 is_null-requires-clause-admitted c =
     let w = c.args.words.now in
-    let is = given c.args.host.now c.split-pass.result w c.requires.one_table c.requires.first c.split-pass.ensures.made in
-    admits c.new-caller.result.pass w (ap (λ (s : CallerState). s.pass) c.new-caller.ensures ∙ is) c.is_within_limits.ensures.callers.0
+    let is = given c.args.host.now c.split-pass.result w c.requires.one_table c.requires.first
+    c.split-pass.ensures.made in
+    admits c.new-caller.result.pass w (ap (λ (s : CallerState). s.pass) c.new-caller.ensures ∙ is)
+    c.is_within_limits.ensures.callers.0
 
 pub returns : goal.returns
 returns c =
     let w = c.args.words.now in
-    let is = given c.args.host.now c.split-pass.result w c.requires.one_table c.requires.first c.split-pass.ensures.made in
-    told c.is_null.result _ c.is_null.ensures.tells (tells_null c.new-caller.result.pass w (ap (λ (s : CallerState). s.pass) c.new-caller.ensures ∙ is))
+    let is = given c.args.host.now c.split-pass.result w c.requires.one_table c.requires.first
+    c.split-pass.ensures.made in
+    told c.is_null.result _ c.is_null.ensures.tells (tells_null c.new-caller.result.pass w
+    (ap (λ (s : CallerState). s.pass) c.new-caller.ensures ∙ is))

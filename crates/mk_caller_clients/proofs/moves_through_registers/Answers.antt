@@ -8,4 +8,5 @@ same-requires-clause-admitted c =
 
 pub returns : goal.returns
 returns c =
-    told c.same.result _ c.same.ensures.tells (moved_same c.args.d c.args.q c.requires.admitted c.in_ok-move_ptr.ensures.called)
+    told c.same.result _ c.same.ensures.tells (moved_same c.args.d c.args.q c.requires.admitted
+    c.in_ok-move_ptr.ensures.called)

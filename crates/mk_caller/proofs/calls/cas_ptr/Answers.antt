@@ -1,5 +1,6 @@
 use Rattle.std.proofs.Common.{refl}
-use Rattle.mk_caller.proofs.Chains.{called, go, go_on, probes, faults, reached, goes_on, goes_further, exchanges, end, loads}
+use Rattle.mk_caller.proofs.Chains.{called, go, go_on, faults, reached, sees_more, sees_further}
+use Rattle.mk_caller.specs.Moves.{passes, exchanges, ends, loads}
 use Rattle.mk_caller.proofs.calls.cas_ptr.Goals as goal
 
 pub returns-in_default-clause-refused : goal.returns-in_default-clause-refused
@@ -13,12 +14,13 @@ pub returns-clause-called : goal.returns-clause-called
 returns-clause-called c =
     let loaded_0 = go c.in_ok-u.ensures.begun (loads c.load-expected.result) refl c.load-expected.ensures.moves in
     let loaded_1 = go loaded_0 (loads c.load-new.result) refl c.load-new.ensures.moves in
-    let probed = go loaded_1 probes refl c.in-Some.ensures.moves in
+    let probed = go loaded_1 passes refl c.in-Some.ensures.moves in
     let exchanged = go probed (exchanges c.cas-exchanged.result) refl c.cas-exchanged.ensures.moves in
-    called (go_on exchanged end refl refl c.mark_and_leave.ensures) refl
+    called (go_on exchanged ends refl refl c.mark_and_leave.ensures) refl
 
 pub returns-clause-reached : goal.returns-clause-reached
 returns-clause-reached c =
     let loaded_0 = go c.in_ok-u.ensures.begun (loads c.load-expected.result) refl c.load-expected.ensures.moves in
     let loaded_1 = go loaded_0 (loads c.load-new.result) refl c.load-new.ensures.moves in
-    reached c.requires.ready refl loaded_1 refl c.in-Some.ensures.reached (goes_further (goes_on c.cas-exchanged.ensures.moves) c.mark_and_leave.ensures)
+    reached c.requires.ready refl loaded_1 refl c.in-Some.ensures.reached
+    (sees_further (sees_more c.cas-exchanged.ensures.moves) c.mark_and_leave.ensures)

@@ -1,6 +1,5 @@
 use Rattle.std.proofs.Common.{refl}
-use Rattle.mk_core.specs.declared.seats.Flight.{Flight}
-use Rattle.mk_caller.proofs.Chains.{called, end, go, go_on, loads, stores}
+use Rattle.mk_caller.proofs.Chains.{called, go, stores}
 use Rattle.mk_caller.proofs.calls.clear.Goals as goal
 
 pub returns-clause-called : goal.returns-clause-called

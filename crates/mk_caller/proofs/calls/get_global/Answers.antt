@@ -1,9 +1,14 @@
 use Rattle.std.proofs.Common.{refl}
-use Rattle.mk_core.specs.declared.seats.Flight.{Flight}
-use Rattle.mk_caller.proofs.Chains.{called, end, go, go_on, loads, stores, loads_global}
+use Rattle.mk_caller.proofs.Chains.{called, go, go_on, stores}
+use Rattle.mk_caller.specs.Moves.{loads_global}
 use Rattle.mk_caller.proofs.calls.get_global.Goals as goal
 
 pub returns-clause-called : goal.returns-clause-called
 returns-clause-called c =
-    let one = go c.in_ok-enter.ensures.moves (loads_global c.global_load-value.result) refl c.global_load-value.ensures.moves in
-    record { word = c.global_load-value.result; called = called (go_on one (stores c.global_load-value.result) refl refl c.store_and_leave.ensures) refl }
+    let one = go c.in_ok-enter.ensures.moves (loads_global c.global_load-value.result) refl
+    c.global_load-value.ensures.moves in
+    record {
+      word = c.global_load-value.result;
+      called = called
+          (go_on one (stores c.global_load-value.result) refl refl c.store_and_leave.ensures) refl;
+    }

@@ -1,5 +1,6 @@
 use Rattle.std.proofs.Common.{refl}
-use Rattle.mk_caller.proofs.Chains.{called, go, go_on, probes, faults, reached, goes_on, goes_further, reads, stores}
+use Rattle.mk_caller.proofs.Chains.{called, go, go_on, faults, reached, sees_more, sees_further, stores}
+use Rattle.mk_caller.specs.Moves.{passes, reads}
 use Rattle.mk_caller.proofs.calls.get_ptr.Goals as goal
 
 pub returns-in_default-clause-refused : goal.returns-in_default-clause-refused
@@ -9,10 +10,15 @@ returns-in_default-clause-refused c =
 
 pub returns-clause-called : goal.returns-clause-called
 returns-clause-called c =
-    let probed = go c.in_ok-u.ensures.begun probes refl c.in-Some.ensures.moves in
+    let probed = go c.in_ok-u.ensures.begun passes refl c.in-Some.ensures.moves in
     let read = go probed (reads c.read-value.result) refl c.read-value.ensures.moves in
-    record { word = c.read-value.result; called = called (go_on read (stores c.read-value.result) refl refl c.store_and_leave.ensures) refl }
+    record {
+      word = c.read-value.result;
+      called = called
+          (go_on read (stores c.read-value.result) refl refl c.store_and_leave.ensures) refl;
+    }
 
 pub returns-clause-reached : goal.returns-clause-reached
 returns-clause-reached c =
-    reached c.requires.ready refl c.in_ok-u.ensures.begun refl c.in-Some.ensures.reached (goes_further (goes_on c.read-value.ensures.moves) c.store_and_leave.ensures)
+    reached c.requires.ready refl c.in_ok-u.ensures.begun refl c.in-Some.ensures.reached
+    (sees_further (sees_more c.read-value.ensures.moves) c.store_and_leave.ensures)

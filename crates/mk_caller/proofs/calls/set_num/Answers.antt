@@ -1,5 +1,6 @@
 use Rattle.std.proofs.Common.{refl}
-use Rattle.mk_caller.proofs.Chains.{called, go, go_on, probes, faults, reached, goes_on, goes_further, writes, end}
+use Rattle.mk_caller.proofs.Chains.{called, go, go_on, faults, reached, sees_more, sees_further}
+use Rattle.mk_caller.specs.Moves.{passes, writes, ends}
 use Rattle.mk_caller.proofs.calls.set_num.Goals as goal
 
 pub returns-in_default-clause-refused : goal.returns-in_default-clause-refused
@@ -9,10 +10,11 @@ returns-in_default-clause-refused c =
 
 pub returns-clause-called : goal.returns-clause-called
 returns-clause-called c =
-    let probed = go c.in_ok-u.ensures.begun probes refl c.in-Some.ensures.moves in
+    let probed = go c.in_ok-u.ensures.begun passes refl c.in-Some.ensures.moves in
     let written = go probed writes refl c.write.ensures.moves in
-    called (go_on written end refl refl c.mark_and_leave.ensures) refl
+    called (go_on written ends refl refl c.mark_and_leave.ensures) refl
 
 pub returns-clause-reached : goal.returns-clause-reached
 returns-clause-reached c =
-    reached c.requires.ready refl c.in_ok-u.ensures.begun refl c.in-Some.ensures.reached (goes_further (goes_on c.write.ensures.moves) c.mark_and_leave.ensures)
+    reached c.requires.ready refl c.in_ok-u.ensures.begun refl c.in-Some.ensures.reached
+    (sees_further (sees_more c.write.ensures.moves) c.mark_and_leave.ensures)

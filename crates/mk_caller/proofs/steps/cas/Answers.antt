@@ -1,5 +1,5 @@
 use Rattle.std.proofs.Common.{refl, ap}
-use Rattle.std.specs.Prelude.{Some, None}
+use Rattle.std.specs.Prelude.{Some}
 use Rattle.mk_core.specs.declared.events.Answer.TheVariants as answer
 use Rattle.mk_core.specs.declared.events.Step.TheVariants as step
 use Rattle.mk_core.specs.declared.seats.Stage.{Stage}
@@ -13,17 +13,24 @@ use Rattle.mk_caller.proofs.steps.cas.Goals as goal
 
 pub cas-exchanged-requires-clause-enabled : goal.cas-exchanged-requires-clause-enabled
 cas-exchanged-requires-clause-enabled c =
-    (may_reach c.args.pass.now c.requires.underway c.is_in_order.ensures.history stage.Cas c.requires.stage c.requires.access refl refl refl step.Cas refl refl refl).0
+    (may_reach c.args.pass.now c.requires.underway c.is_in_order.ensures.history stage.Cas c.requires.stage
+    c.requires.access refl refl refl step.Cas refl refl refl).0
 
 pub cas-exchanged-requires-clause-admitted : goal.cas-exchanged-requires-clause-admitted
 cas-exchanged-requires-clause-admitted c =
-    (may_reach c.args.pass.now c.requires.underway c.is_in_order.ensures.history stage.Cas c.requires.stage c.requires.access refl refl refl step.Cas refl refl refl).1
+    (may_reach c.args.pass.now c.requires.underway c.is_in_order.ensures.history stage.Cas c.requires.stage
+    c.requires.access refl refl refl step.Cas refl refl refl).1
 
 pub returns : goal.returns
 returns c =
     let f = c.cas-exchanged in
     let p = c.args.pass.now in
     record {
-      moves = moves p step.Cas (onward (call_of p) (Some (answer.Num (one_if f.result)))) f.new.self c.requires.underway c.is_in_order.ensures.own c.is_in_order.ensures.history c.is_in_order-2.ensures.history f.ensures.goes
-          (write_next p.table.config (call_of p) (answer.Num (one_if f.result)) (ap (λ (s : Stage). is_written s) c.requires.stage) (met p c.requires.underway c.is_in_order.ensures.history stage.Cas c.requires.stage c.requires.access refl refl refl));
+      moves = moves p step.Cas (onward (call_of p) (Some (answer.Num (one_if f.result)))) f.new.self
+          c.requires.underway c.is_in_order.ensures.own c.is_in_order.ensures.history c.is_in_order-2.ensures.history
+          f.ensures.goes
+          (write_next p.table.config (call_of p) (answer.Num (one_if f.result))
+          (ap (λ (s : Stage). is_written s) c.requires.stage)
+          (met p c.requires.underway c.is_in_order.ensures.history stage.Cas c.requires.stage c.requires.access
+          refl refl refl));
     }

@@ -1,5 +1,4 @@
-use Rattle.std.specs.Prelude.{Some, None}
-use Rattle.mk_core.specs.declared.events.Answer.TheVariants as answer
+use Rattle.std.specs.Prelude.{None}
 use Rattle.mk_core.specs.declared.events.Step.TheVariants as step
 use Rattle.mk_core.specs.Calls.{onward}
 use Rattle.mk_words.specs.States.{call_of}
@@ -11,6 +10,7 @@ returns c =
     let f = c.dirty in
     let p = c.args.pass.now in
     record {
-      moves = moves p step.Dirty (onward (call_of p) None) f.new.self c.requires.underway c.is_in_order.ensures.own c.is_in_order.ensures.history c.is_in_order-2.ensures.history f.ensures.goes
+      moves = moves p step.Dirty (onward (call_of p) None) f.new.self c.requires.underway c.is_in_order.ensures.own
+          c.is_in_order.ensures.history c.is_in_order-2.ensures.history f.ensures.goes
           (dirty_next p.table.config (call_of p) c.requires.stage);
     }

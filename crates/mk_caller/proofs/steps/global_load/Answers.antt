@@ -1,5 +1,3 @@
-use Rattle.std.specs.Prelude.{Some, None}
-use Rattle.mk_core.specs.declared.events.Answer.TheVariants as answer
 use Rattle.mk_core.specs.declared.events.Step.TheVariants as step
 use Rattle.mk_core.specs.Calls.{progress_getg}
 use Rattle.mk_words.specs.States.{call_of}
@@ -8,13 +6,15 @@ use Rattle.mk_caller.proofs.Stepping.{may_getg}
 use Rattle.mk_caller.proofs.steps.global_load.Goals as goal
 
 pub global_load-value-requires-clause-admitted : goal.global_load-value-requires-clause-admitted
-global_load-value-requires-clause-admitted c = may_getg c.args.pass.now c.requires.underway c.is_in_order.ensures.history c.requires.stage
+global_load-value-requires-clause-admitted c = may_getg c.args.pass.now c.requires.underway
+    c.is_in_order.ensures.history c.requires.stage
 
 pub returns : goal.returns
 returns c =
     let f = c.global_load-value in
     let p = c.args.pass.now in
     record {
-      moves = moves p step.Getg (progress_getg (call_of p) f.result) f.new.self c.requires.underway c.is_in_order.ensures.own c.is_in_order.ensures.history c.is_in_order-2.ensures.history f.ensures.goes
+      moves = moves p step.Getg (progress_getg (call_of p) f.result) f.new.self c.requires.underway
+          c.is_in_order.ensures.own c.is_in_order.ensures.history c.is_in_order-2.ensures.history f.ensures.goes
           (getg_next p.table.config (call_of p) f.result c.requires.stage);
     }

@@ -1,5 +1,5 @@
 use Rattle.std.proofs.Common.{refl, ap}
-use Rattle.std.specs.Prelude.{Some, None}
+use Rattle.std.specs.Prelude.{Some}
 use Rattle.mk_core.specs.declared.events.Answer.TheVariants as answer
 use Rattle.mk_core.specs.declared.events.Step.TheVariants as step
 use Rattle.mk_core.specs.declared.seats.Stage.{Stage}
@@ -13,17 +13,22 @@ use Rattle.mk_caller.proofs.steps.write.Goals as goal
 
 pub write-requires-clause-enabled : goal.write-requires-clause-enabled
 write-requires-clause-enabled c =
-    (may_reach c.args.pass.now c.requires.underway c.is_in_order.ensures.history stage.Write c.requires.stage c.requires.access refl refl refl step.Write refl refl refl).0
+    (may_reach c.args.pass.now c.requires.underway c.is_in_order.ensures.history stage.Write c.requires.stage
+    c.requires.access refl refl refl step.Write refl refl refl).0
 
 pub write-requires-clause-admitted : goal.write-requires-clause-admitted
 write-requires-clause-admitted c =
-    (may_reach c.args.pass.now c.requires.underway c.is_in_order.ensures.history stage.Write c.requires.stage c.requires.access refl refl refl step.Write refl refl refl).1
+    (may_reach c.args.pass.now c.requires.underway c.is_in_order.ensures.history stage.Write c.requires.stage
+    c.requires.access refl refl refl step.Write refl refl refl).1
 
 pub returns : goal.returns
 returns c =
     let f = c.write in
     let p = c.args.pass.now in
     record {
-      moves = moves p step.Write (onward (call_of p) (Some answer.Done)) f.new.self c.requires.underway c.is_in_order.ensures.own c.is_in_order.ensures.history c.is_in_order-2.ensures.history f.ensures.goes
-          (write_next p.table.config (call_of p) answer.Done (ap (λ (s : Stage). is_written s) c.requires.stage) (met p c.requires.underway c.is_in_order.ensures.history stage.Write c.requires.stage c.requires.access refl refl refl));
+      moves = moves p step.Write (onward (call_of p) (Some answer.Done)) f.new.self c.requires.underway
+          c.is_in_order.ensures.own c.is_in_order.ensures.history c.is_in_order-2.ensures.history f.ensures.goes
+          (write_next p.table.config (call_of p) answer.Done (ap (λ (s : Stage). is_written s) c.requires.stage)
+          (met p c.requires.underway c.is_in_order.ensures.history stage.Write c.requires.stage c.requires.access
+          refl refl refl));
     }

@@ -1,0 +1,134 @@
+-- Two calls of one caller, one behind the other, and the calls of others between the events that decide them.
+use Rattle.std.proofs.Common.{◌≡◌, Bool, true, List, [], ◌∷◌, ◌++◌, length, refl, sym, ◌∙◌, ap, append_assoc, append-nil, length-append, arith, cond}
+use Rattle.std.specs.Prelude.{filter}
+use Rattle.std.proofs.lemmas.List.Elements.{filter-append}
+use Rattle.mk_never.specs.declared.operations.Op.{Op}
+use Rattle.mk_never.specs.NeverHeap.{after_op, after_calls}
+use Rattle.mk_core.specs.declared.config.Config.{Config}
+use Rattle.mk_core.specs.declared.events.Answer.{Answer}
+use Rattle.mk_core.specs.declared.events.Event.{Event}
+use Rattle.mk_core.specs.Decided.{Decided, asked, flagged}
+use Rattle.mk_core.specs.History.{first_world, left, calls, calls_from, call_decided, never_behind}
+use Rattle.mk_core.proofs.Histories.{calls_more}
+use Rattle.mk_core.proofs.HistoryParts.{calls_in_parts, never_in_parts}
+use Rattle.mk_words.specs.States.{PassState}
+use Rattle.mk_caller.specs.States.{number_of}
+use Rattle.mk_caller.specs.Called.{Called}
+
+-- those of the calls whose operations pass a test
+abbrev pub picked : (Op → Bool) → List Decided → List Decided
+picked test xs = filter (λ (x : Decided). test x.op) xs
+
+pick_append : (test : Op → Bool) (xs ys : List Decided) → picked test (xs ++ ys) ≡ picked test xs ++ picked test ys
+pick_append test xs ys = filter-append (λ (x : Decided). test x.op) xs ys
+
+-- nothing is left where the counts say so
+none_left : {A : Type 0} (a z x y : List A) (e : A) → (a ++ z) ++ (e ∷ []) ++ x ++ y ≡ a ++ e ∷ [] → x ≡ []
+none_left a z [] y e h = refl
+none_left a z (b ∷ x) y e h =
+    let lengths = ap length h in
+    absurd (grind (arith, length-append, lengths))
+
+one_call : (c : Config) (es : List Event) (e : Event) → calls_from c (left c es) (e ∷ []) ≡ call_decided c
+    (left c es).now e
+unfolding calls_from
+one_call c es e = append-nil (call_decided c (left c es).now e)
+
+module _ {p0 p1 p2 : PassState} {o1 o2 : Op} {a1 a2 : Answer} (first : Called p0 o1 a1 p1)
+    (second : Called p1 o2 a2 p2) where
+  abbrev c : Config
+  c = p0.table.config
+
+  -- the history before the first one is decided, and with that
+  abbrev pub before : List Event
+  before = p0.seen ++ first.decided.before
+
+  abbrev pub decided : List Event
+  decided = before ++ first.decided.event ∷ []
+
+  -- and what comes up to the second one's deciding event
+  abbrev pub others : List Event
+  others = first.decided.behind ++ second.decided.before
+
+  abbrev entry : Decided
+  entry = record { caller = number_of p0; op = flagged o1 a1; answer = a1 }
+
+  pub same_config : p1.table.config ≡ c
+  same_config = ap (λ (x : PassState). x.table.config) first.is
+
+  pub same_number : number_of p1 ≡ number_of p0
+  same_number = ap (λ (x : PassState). number_of x) first.is
+
+  pub place : p1.seen ++ second.decided.before ≡ decided ++ others
+  place =
+      ap (λ (x : PassState). x.seen ++ second.decided.before) first.is
+      ∙ ap (λ (l : List Event). (p0.seen ++ l) ++ second.decided.before) first.decided.is
+      ∙ ap (λ (l : List Event). l ++ second.decided.before)
+      (sym (append_assoc p0.seen first.decided.before (first.decided.event ∷ first.decided.behind))
+      ∙ sym (append_assoc before (first.decided.event ∷ []) first.decided.behind))
+      ∙ append_assoc decided first.decided.behind second.decided.before
+
+  calls_there : calls c decided ≡ calls c before ++ entry ∷ []
+  calls_there =
+      calls_more c (first_world c) before first.decided.event
+      ∙ ap (λ (l : List Decided). calls c before ++ l) first.decided.decides
+
+  pub never_there : never_behind c decided ≡ after_op (never_behind c before) (number_of p0) (flagged o1 a1)
+  never_there =
+      never_in_parts c before (first.decided.event ∷ [])
+      ∙ ap (λ (l : List Decided). after_calls (never_behind c before) (asked l))
+      (one_call c before first.decided.event ∙ first.decided.decides)
+
+  -- the calls in between
+  abbrev pub between : List Decided
+  between = calls_from c (left c decided) others
+
+  pub never_later : never_behind c (decided ++ others) ≡ after_calls (never_behind c decided) (asked between)
+  never_later = never_in_parts c decided others
+
+  module _ (test : Op → Bool) (es more : List Event) (on : es ≡ p2.seen ++ more)
+      (passes : test (flagged o1 a1) ≡ true) where
+    tail : List Event
+    tail = (second.decided.event ∷ second.decided.behind) ++ more
+
+    whole : es ≡ (decided ++ others) ++ tail
+    unfolding tail
+    whole =
+        on
+        ∙ ap (λ (x : PassState). x.seen ++ more) second.is
+        ∙ ap (λ (l : List Event). (p1.seen ++ l) ++ more) second.decided.is
+        ∙ ap (λ (l : List Event). l ++ more)
+        (sym (append_assoc p1.seen second.decided.before (second.decided.event ∷ second.decided.behind)))
+        ∙ append_assoc (p1.seen ++ second.decided.before) (second.decided.event ∷ second.decided.behind) more
+        ∙ ap (λ (l : List Event). l ++ ((second.decided.event ∷ second.decided.behind) ++ more)) place
+
+    abbrev z : List Decided
+    z = calls_from c (left c p0.seen) first.decided.before
+
+    abbrev y : List Decided
+    y = calls_from c (left c (decided ++ others)) tail
+
+    own_passes : picked test (entry ∷ []) ≡ entry ∷ []
+    own_passes = ap (λ (b : Bool). cond b (entry ∷ []) []) passes
+
+    parts : picked test (calls c es)
+        ≡ (picked test (calls c p0.seen) ++ picked test z) ++ (entry ∷ []) ++ picked test between ++ picked test y
+    parts =
+        ap (λ (l : List Event). picked test (calls c l)) whole
+        ∙ ap (λ (l : List Decided). picked test l) (calls_in_parts c (decided ++ others) tail)
+        ∙ pick_append test (calls c (decided ++ others)) y
+        ∙ ap (λ (l : List Decided). picked test l ++ picked test y) (calls_in_parts c decided others)
+        ∙ ap (λ (l : List Decided). l ++ picked test y) (pick_append test (calls c decided) between)
+        ∙ ap (λ (l : List Decided). picked test l ++ picked test between ++ picked test y) calls_there
+        ∙ ap (λ (l : List Decided). l ++ picked test between ++ picked test y)
+        (pick_append test (calls c before) (entry ∷ []))
+        ∙ ap (λ (l : List Decided). l ++ picked test (entry ∷ []) ++ picked test between ++ picked test y)
+        (ap (λ (l : List Decided). picked test l) (calls_in_parts c p0.seen first.decided.before)
+        ∙ pick_append test (calls c p0.seen) z)
+        ∙ ap (λ (l : List Decided). (picked test (calls c p0.seen) ++ picked test z) ++ l ++ picked test between ++
+        picked test y) own_passes
+
+    -- Where the first call is the only one that passes the test since it began, none in between does.
+    pub none_between : picked test (calls c es) ≡ picked test (calls c p0.seen) ++ entry ∷ [] → picked test between ≡ []
+    none_between only = none_left (picked test (calls c p0.seen)) (picked test z) (picked test between)
+        (picked test y) entry (sym parts ∙ only)

@@ -1,0 +1,200 @@
+-- What is loaded behind a store.
+use Rattle.std.proofs.Common.{◌≡◌, ℕ, ◌+◌, ◌<◌, Bool, true, false, List, [], ◌∷◌, ◌++◌, refl, sym, ◌∙◌, ap, subst, append_assoc, append-nil, cond}
+use Rattle.std.specs.Prelude.{if◌then◌else◌}
+use Rattle.mk_never.specs.declared.operations.Op.{Op}
+use Rattle.mk_never.specs.declared.operations.Op.TheVariants as op
+use Rattle.mk_never.specs.declared.operations.Reply.{Reply}
+use Rattle.mk_never.specs.declared.operations.Reply.TheVariants as reply
+use Rattle.mk_never.specs.declared.values.Target.{Target}
+use Rattle.mk_never.specs.declared.values.Target.TheVariants.{Nothing, Unmapped, WordOf}
+use Rattle.mk_never.specs.declared.values.Value.{Value}
+use Rattle.mk_never.specs.declared.values.Value.TheVariants.{Null, Num, Ptr}
+use Rattle.mk_never.specs.NeverHeap.{NeverState, register_at, target_of, is_unmapped, allocation_at, word_at, number_of as number_in, reply_at, reply_of, after_op, after_calls}
+use Rattle.mk_never.specs.Admitted.{AreAdmitted, Meets, IsNumber}
+use Rattle.mk_never.specs.Laws.{NoneStoresTo, StoresTo, KeepsRegisters}
+use Rattle.mk_never.proofs.Stores.{load_gives_stored, store_is_inside}
+use Rattle.mk_core.specs.declared.config.Config.{Config}
+use Rattle.mk_core.specs.declared.events.Answer.{Answer}
+use Rattle.mk_core.specs.declared.events.Answer.TheVariants as answer
+use Rattle.mk_core.specs.declared.events.Event.{Event}
+use Rattle.mk_core.specs.Decided.{Decided, asked}
+use Rattle.mk_core.specs.History.{left, never_behind, bases_of, IsHistory}
+use Rattle.mk_core.specs.Image.{answer_of}
+use Rattle.mk_core.proofs.HistoryParts.{earlier_part_is_history}
+use Rattle.mk_frames.proofs.LastEvents.{comes_last, stands}
+use Rattle.mk_frames.proofs.AdmittedStill.{meets_register}
+use Rattle.mk_frames.proofs.OtherCalls.{never_continues}
+use Rattle.mk_words.specs.States.{PassState}
+use Rattle.mk_caller.specs.States.{number_of, never_of, value_of, Admits}
+use Rattle.mk_caller.specs.Called.{Called}
+use Rattle.mk_caller.proofs.After.{still_caller, calls_leave_other_registers}
+use Rattle.mk_caller_clients.specs.Setters.{is_store, IsOnlyStore}
+use Rattle.mk_caller_clients.proofs.Between.{picked, before, between, same_config, same_number, place, never_there, never_later, none_between}
+
+-- Calls that don't store store to no word.
+stores_nothing : (n : NeverState) (k : ℕ) (o : Op) (number at : ℕ) → is_store o ≡ false → StoresTo n k o number at → ⊥
+stores_nothing n k (op.SetNum q i x) number at h s = cc
+stores_nothing n k (op.SetPtr q i p) number at h s = cc
+stores_nothing n k (op.CasPtr q i p r) number at h s = cc
+stores_nothing n k _ number at h s = s
+
+unpicked : (test : Op → Bool) (x : Decided) (xs : List Decided) → picked test (x ∷ xs) ≡ []
+    → (test x.op ≡ false) × (picked test xs ≡ [])
+unpicked test x xs h = by (test x.op) refl h
+  where
+    by : (b : Bool) → test x.op ≡ b → cond b (x ∷ picked test xs) (picked test xs) ≡ []
+        → (test x.op ≡ false) × (picked test xs ≡ [])
+    by true e h = cc
+    by false e h = (e, h)
+
+none_store : (n : NeverState) (xs : List Decided) (number at : ℕ) → picked is_store xs ≡ []
+    → NoneStoresTo n (asked xs) number at
+none_store n [] number at h = tt
+none_store n (x ∷ xs) number at h =
+    let u = unpicked is_store x xs h in
+    (λ s. stores_nothing n x.caller x.op number at u.0 s, none_store (after_op n x.caller x.op) xs number at u.1)
+
+-- the word that an access gets to, from its answer
+record Word (n : NeverState) (v : Value) (i : ℕ) : Type 0 where
+  pub number : ℕ
+  pub at : ℕ
+  pub is : target_of n v i ≡ WordOf number at
+
+done_gets : (bases : List ℕ) (n : NeverState) (v : Value) (i : ℕ) (t : Target) → target_of n v i ≡ t
+    → answer.Done ≡ answer_of bases (reply_at t (λ a w. reply.Done))
+    → Word n v i
+done_gets bases n v i (WordOf a w) is e = record { number = a; at = w; is = is }
+done_gets bases n v i Nothing is e = cc
+done_gets bases n v i Unmapped is e = cc
+
+number_gets : (bases : List ℕ) (n : NeverState) (v : Value) (i r : ℕ) (f : ℕ → ℕ → ℕ) (t : Target) → target_of n v i ≡ t
+    → answer.Num r ≡ answer_of bases (reply_at t (λ a w. reply.Num (f a w))) → Word n v i
+number_gets bases n v i r f (WordOf a w) is e = record { number = a; at = w; is = is }
+number_gets bases n v i r f Nothing is e = cc
+number_gets bases n v i r f Unmapped is e = cc
+
+pointer_word : (n : NeverState) (a t o i : ℕ) → Word n (Ptr a t o) i → target_of n (Ptr a t o) i ≡ WordOf a (o + i)
+pointer_word n a t o i x = by (is_unmapped (allocation_at n a)) refl x.is
+  where
+    by : (b : Bool) → is_unmapped (allocation_at n a) ≡ b
+        → (if b then Unmapped else WordOf a (o + i)) ≡ WordOf x.number x.at
+        → (if b then Unmapped else WordOf a (o + i)) ≡ WordOf a (o + i)
+    by false is e = refl
+    by true is e = cc
+
+-- It is the same word behind other calls.
+same_word : (n m : NeverState) (v : Value) (i : ℕ) (x : Word n v i) → Word m v i
+    → target_of m v i ≡ WordOf x.number x.at
+same_word n m Null i x y = let e = x.is in cc
+same_word n m (Num u) i x y = let e = x.is in cc
+same_word n m (Ptr a t o) i x y = pointer_word m a t o i y ∙ sym (pointer_word n a t o i x) ∙ x.is
+
+-- The deciding call of a history is admitted at its place.
+admitted_there : {p q : PassState} {o : Op} {a : Answer} → (c : Called p o a q) → IsHistory q.table.config q.seen
+    → AreAdmitted p.table.config.globals (never_behind p.table.config (p.seen ++ c.decided.before))
+    (asked (Rattle.mk_core.specs.Decided.entry_of (number_of p) o (Rattle.std.specs.Prelude.Some a)))
+admitted_there {p} {q} {o} {a} c h =
+    let es : List Event = p.seen ++ c.decided.before in
+    let whole : q.seen ≡ (es ++ c.decided.event ∷ []) ++ c.decided.behind =
+    ap (λ (x : PassState). x.seen) c.is ∙ ap (λ (l : List Event). p.seen ++ l) c.decided.is
+    ∙ sym (append_assoc p.seen c.decided.before (c.decided.event ∷ c.decided.behind))
+    ∙ sym (append_assoc es (c.decided.event ∷ []) c.decided.behind) in
+    let all : IsHistory p.table.config q.seen = subst (λ (k : Config). IsHistory k q.seen)
+    (ap (λ (x : PassState). x.table.config) c.is) h in
+    let last = comes_last p.table.config es c.decided.event
+    (earlier_part_is_history p.table.config (es ++ c.decided.event ∷ []) c.decided.behind
+    (subst (λ (l : List Event). IsHistory p.table.config l) whole all)) in
+    subst (λ (l : List Decided). AreAdmitted p.table.config.globals (never_behind p.table.config es) (asked l))
+    c.decided.decides last.admitted
+
+module _ {p0 p1 p2 : PassState} (x i n loaded : ℕ) (lt : x < 8) (h : IsHistory p1.table.config p1.seen)
+    (set : Called p0 (op.SetNum x i n) answer.Done p1) (get : Called p1 (op.GetNum x i) (answer.Num loaded) p2) where
+  abbrev c : Config
+  c = p0.table.config
+
+  abbrev k : ℕ
+  k = number_of p0
+
+  abbrev n1 : NeverState
+  n1 = never_behind c (before set get)
+
+  abbrev n2 : NeverState
+  n2 = after_calls (after_op n1 k (op.SetNum x i n)) (asked (between set get))
+
+  there : never_behind p1.table.config (p1.seen ++ get.decided.before) ≡ n2
+  there =
+      ap (λ (k : Config). never_behind k (p1.seen ++ get.decided.before)) (same_config set get)
+      ∙ ap (λ (l : List Event). never_behind c l) (place set get)
+      ∙ never_later set get
+      ∙ ap (λ (m : NeverState). after_calls m (asked (between set get))) (never_there set get)
+
+  -- the register, at both places
+  register : register_at n2 k x ≡ register_at n1 k x
+  register =
+      ap (λ (m : NeverState). register_at m k x) (sym there)
+      ∙ ap (λ j. register_at (never_behind p1.table.config (p1.seen ++ get.decided.before)) j x)
+      (sym (same_number set get))
+      ∙ get.decided.known x lt
+      ∙ calls_leave_other_registers p0 (op.SetNum x i n) answer.Done p1 x set lt (λ e. cc)
+      ∙ sym (set.decided.known x lt)
+
+  stored_to : Word n1 (register_at n1 k x) i
+  stored_to = done_gets _ n1 (register_at n1 k x) i (target_of n1 (register_at n1 k x) i) refl set.decided.reply
+
+  answered : answer.Num loaded ≡ answer_of (bases_of (left p1.table.config
+      (p1.seen ++ get.decided.before ++ get.decided.event ∷ [])).allocations) (reply_of n2 k (op.GetNum x i))
+  answered =
+      get.decided.reply
+      ∙ ap (λ (m : NeverState). answer_of (bases_of (left p1.table.config
+      (p1.seen ++ get.decided.before ++ get.decided.event ∷ [])).allocations)
+      (reply_of m (number_of p1) (op.GetNum x i))) there
+      ∙ ap (λ j. answer_of (bases_of (left p1.table.config
+      (p1.seen ++ get.decided.before ++ get.decided.event ∷ [])).allocations) (reply_of n2 j (op.GetNum x i)))
+      (same_number set get)
+
+  loaded_from : Word n2 (register_at n2 k x) i
+  loaded_from = number_gets _ n2 (register_at n2 k x) i loaded (λ a w. number_in (word_at n2 a w))
+      (target_of n2 (register_at n2 k x) i) refl answered
+
+  reaches : target_of n2 (register_at n2 k x) i ≡ WordOf stored_to.number stored_to.at
+  reaches =
+      subst (λ (v : Value). target_of n2 v i ≡ WordOf stored_to.number stored_to.at) (sym register)
+      (same_word n1 n2 (register_at n1 k x) i stored_to (subst (λ (v : Value). Word n2 v i) register loaded_from))
+
+  pub load_gives : IsOnlyStore p0 x i n p2 → loaded ≡ n
+  load_gives only =
+      let none = none_between set get is_store p2.seen [] (sym (append-nil p2.seen)) refl only in
+      let ad = (admitted_there set h).0 in
+      let inside = store_is_inside n1 k (op.SetNum x i n) stored_to.number stored_to.at ad.access stored_to.is in
+      let gives = load_gives_stored n1 k (op.SetNum x i n) (asked (between set get)) stored_to.number stored_to.at
+      inside stored_to.is
+      (none_store (after_op n1 k (op.SetNum x i n)) (between set get) stored_to.number stored_to.at none) in
+      let is : reply_of n2 k (op.GetNum x i) ≡ reply.Num n = gives.a_number k x i reaches in
+      numbers (answered ∙ ap (λ (r : Reply). answer_of
+      (bases_of (left p1.table.config (p1.seen ++ get.decided.before ++ get.decided.event ∷ [])).allocations) r)
+      is)
+    where
+      numbers : answer.Num loaded ≡ answer.Num n → loaded ≡ n
+      numbers e = cc
+
+-- What was admitted for the store is for the load.
+pub may_load : {p q : PassState} (x i n : ℕ) → Admits p (op.SetNum x i n) → IsHistory q.table.config q.seen
+    → Called p (op.SetNum x i n) answer.Done q → Admits q (op.GetNum x i)
+may_load {p} {q} x i n ad h c =
+    let whole : IsHistory p.table.config (p.seen ++ c.more) = subst
+    (λ (r : PassState). IsHistory r.table.config r.seen) c.is h in
+    let keeps : KeepsRegisters (number_of p) (never_of p) (never_behind p.table.config (p.seen ++ c.more)) =
+    λ r lt. sym (ap (λ (y : PassState). value_of y r) c.is)
+    ∙ calls_leave_other_registers p (op.SetNum x i n) answer.Done q r c lt (λ e. cc) in
+    let typed = (stands p.table.config p.seen (earlier_part_is_history p.table.config p.seen c.more
+    whole)).all.mirrors.typed in
+    let meets : Meets (never_behind p.table.config (p.seen ++ c.more))
+    (register_at (never_behind p.table.config (p.seen ++ c.more)) (number_of p) x) i IsNumber =
+    meets_register p.table.config.globals (never_of p) (never_behind p.table.config (p.seen ++ c.more)) (number_of p)
+    (never_continues p.table.config p.seen c.more) keeps typed x i IsNumber ad.in_range ad.access in
+    record {
+      of_a_caller = still_caller c ad.of_a_caller;
+      in_range = ad.in_range;
+      access = subst (λ (y : PassState). Meets (never_of y) (value_of y x) i IsNumber) (sym c.is) meets;
+      store = tt;
+    }
