@@ -1,3 +1,4 @@
 pub mod Enabling
 pub mod Admitting
 pub mod TurnFacts
+pub mod MarkerFacts

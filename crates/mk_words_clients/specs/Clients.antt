@@ -1,16 +1,18 @@
 -- What the clients ask of a pass and of a turn, and keep.
-use Rattle.std.specs.Prelude.{◌≡◌, ℕ, ◌<◌, true, false, None, List, ◌++◌}
+use Rattle.std.specs.Prelude.{◌≡◌, ℕ, ◌<◌, true, false, Option, Some, None, List, ◌++◌}
 use Rattle.mk_never.specs.declared.operations.Op.{Op}
 use Rattle.mk_never.specs.Admitted.{IsAdmitted}
 use Rattle.mk_core.specs.declared.events.Event.{Event}
 use Rattle.mk_core.specs.Accesses.{caller_number}
 use Rattle.mk_core.specs.History.{IsHistory, never_behind}
-use Rattle.mk_core.specs.declared.events.Seat.TheVariants.{Caller, Host}
+use Rattle.mk_core.specs.declared.events.Seat.TheVariants.{Caller, Marker, Host}
 use Rattle.mk_core.specs.declared.events.Step.TheVariants as step
 use Rattle.mk_core.specs.Calls.{at_rest}
 use Rattle.mk_core.specs.Words.{phase_of}
 use Rattle.mk_core.specs.Ranges.{has_phase}
-use Rattle.mk_core.specs.Moments.{none_is_held}
+use Rattle.mk_core.specs.Moments.{none_is_held, outside}
+use Rattle.mk_core.specs.StopConditions.{is_attending}
+use Rattle.mk_words.specs.Markers.{marker_in}
 use Rattle.mk_core.specs.Order.{host_has_turn}
 use Rattle.mk_core.specs.TurnConditions.{words_held}
 use Rattle.mk_words.specs.States.{PassState, now_of, call_of}
@@ -41,3 +43,22 @@ abbrev pub StaysAdmitted : PassState → Op → Type 0
 StaysAdmitted p o =
     (more : List Event) → IsHistory p.table.config (p.seen ++ more)
     → IsAdmitted p.table.config.globals (never_behind p.table.config (p.seen ++ more)) (caller_number p.seat) o
+
+-- a marker's pass, while the marker is outside
+pub record IsOutside (p : PassState) : Type 0 where
+  pub number : ℕ
+  pub seat : p.seat ≡ Marker number
+  pub few : number < 8
+  pub out : marker_in p ≡ outside
+
+-- a marker's pass, while it attends with no open hand
+pub record IsAttending (p : PassState) : Type 0 where
+  pub number : ℕ
+  pub seat : p.seat ≡ Marker number
+  pub few : number < 8
+  pub attends : is_attending (marker_in p).presence ≡ true
+  pub hand : (marker_in p).hand ≡ None
+
+-- The marker scans this cell, and is at this word of it.
+abbrev pub IsAt : PassState → ℕ → ℕ → ℕ → ℕ → Type 0
+IsAt p page k next end = (marker_in p).scan ≡ Some (record { page = page; index = k; next = next; end = end })

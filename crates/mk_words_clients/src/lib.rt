@@ -2,5 +2,6 @@
 #![tactic(auto)]
 
 mod calls;
+mod markers;
 mod threads;
 mod turns;
