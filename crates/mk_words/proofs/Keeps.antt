@@ -1,5 +1,5 @@
 -- Each move of a pass keeps the rule.
-use Rattle.std.proofs.Common.{◌≡◌, ◌≢◌, ◌⊎◌, ℕ, zero, suc, true, List, [], ◌∷◌, ◌++◌, length, set, refl, sym, ◌∙◌, ap, subst, inl, inr, ⊎_elim, append_assoc, append-nil}
+use Rattle.std.proofs.Common.{◌≡◌, ◌≢◌, ◌⊎◌, ℕ, ◌<◌, zero, suc, true, false, List, [], ◌∷◌, ◌++◌, length, set, refl, sym, ◌∙◌, ap, subst, inl, inr, ⊎_elim, append_assoc, append-nil}
 use Rattle.std.specs.Prelude.{slice_index, slice_set}
 use Rattle.std.proofs.lemmas.List.{set-get_or}
 use mathlib.Core.Option.{some, some-injective, some-ne-none}
@@ -8,6 +8,7 @@ use Rattle.atomic_table.specs.Table.{State, Step as TableStep, keeps, Allows, Sp
 use Rattle.atomic_table.proofs.Lists.{at_set, set_else}
 use Rattle.mk_core.specs.declared.config.Config.{Config}
 use Rattle.mk_core.specs.declared.events.Seat.{Seat}
+use Rattle.mk_core.specs.declared.events.Seat.TheVariants.{Caller, Host}
 use Rattle.mk_core.specs.declared.events.Event.{Event}
 use Rattle.mk_core.specs.declared.accesses.Access.{Access}
 use Rattle.mk_core.specs.declared.accesses.TableWord.{TableWord}
@@ -18,18 +19,19 @@ use Rattle.mk_core.specs.Accesses.{reached, access}
 use Rattle.mk_core.specs.Cycles.{is_give}
 use Rattle.mk_core.specs.Counts.{TalliesAreTidy, IsTidy}
 use Rattle.mk_core.specs.History.{World, first_world, left_from, left, AreEnabledFrom, AreEnabled, calls_from, IsHistory}
-use Rattle.mk_core.specs.Growing.{AreOfOthers}
+use Rattle.mk_core.specs.Growing.{AreOfOthers, is_same_seat}
 use Rattle.mk_core.proofs.Conditions.{enabled_meets}
-use Rattle.mk_core.proofs.Histories.{left_more, enabled_parts}
+use Rattle.mk_core.proofs.Histories.{left_more, enabled_parts, last_enabled}
 use Rattle.mk_core.proofs.Lengths.{histories_keep_lengths}
 use Rattle.mk_core.proofs.RegionLemmas.{words_stand, accesses_change}
 use Rattle.mk_words.specs.declared.rule.Part.{Part}
 use Rattle.mk_words.specs.declared.rule.View.{View}
-use Rattle.mk_words.specs.Seats.{Has, HasAll, without_seat, all_seats}
+use Rattle.mk_words.specs.Seats.{CallersAreBeforeOver, Has, HasAll, HasCallers, all_seats, has_over, is_caller, is_over, without_seat}
 use Rattle.mk_words.specs.Rule.{part, no_part, view, seats_of, Sees, Kept, Mine, adds, settles, first_view, nobody, beside, stays_with, goes_with, copy_of}
-use Rattle.mk_words.proofs.Seats.{has_left, has_right, has_either, others_append, others_none, others_one, others_own, others_fewer, others_nobody, only_one, without_less, without_it, not_both}
+use Rattle.mk_words.proofs.Seats.{has_left, has_right, has_either, others_append, others_none, others_one, others_own, others_fewer, others_nobody, only_one, without_keeps, without_less, without_it, not_both}
 use Rattle.mk_words.proofs.Tidy.{tidy_part, tidy_more, none_tidy}
 use Rattle.mk_words.proofs.LongerLists.{longer_lists}
+use Rattle.mk_words.proofs.Overs.{none_in_parts, none_over, overs_later, overs_with, set_there}
 
 abbrev pub Table : Type 0
 Table = State (Unit {0}) View
@@ -92,10 +94,11 @@ finds pages w x y ws of table yx is =
 -- The step of an event, whatever its kind.
 pub performs_at : (slots id : ℕ) (me : Mine) (e : Event) (st : TableStep (Unit {0})) → me.0.came ≡ no_part → Has me.0.own.seats e.seat
     → IsHistory me.0.config (me.0.own.seen ++ e ∷ []) → (is_give e.step ≡ true → TalliesAreTidy me.0.config me.0.own.seen)
+    → (is_over e.step ≡ true → HasCallers me.0.config me.0.own.seats)
     → Allows (Kept me.0.config) slots id me (index_of me.0.config.pages (reached me.0.config (left me.0.config me.0.own.seen).now e))
     (becomes (access me.0.config (left me.0.config me.0.own.seen).now e))
     (λ n m. adds e st me n m)
-performs_at slots id me e st alone has may give s k long at small =
+performs_at slots id me e st alone has may give home s k long at small =
     let v : View = me.0 in
     let c : Config = v.config in
     let mine = k.sees id v at in
@@ -107,6 +110,14 @@ performs_at slots id me e st alone has may give s k long at small =
     let words : s.words ≡ in_order (left c es).now.words = k.words ∙ ap (λ (l : List Event). in_order (left c l).now.words) mine.0.is in
     let w : View = record { config = c; own = part v.own.seats (es ++ e ∷ []); came = v.came } in
     let out : Has v.came.seats e.seat → ⊥ = λ h. (let n : Has [] e.seat = subst (λ (p : Part). Has p.seats e.seat) alone h in cc) in
+    let here : Has (seats_of v) e.seat = has_left v.own.seats v.came.seats e.seat has in
+    let overs = overs_later c (left c es).now s.views id v w es e at refl k.apart
+    (subst (λ (l : List Event). (i : ℕ) (d : View) → get_elem? s.views i ≡ some d → CallersAreBeforeOver c (seats_of d) l) mine.0.is k.before_over)
+    (last_enabled c (first_world c) es e go.history.enabled) here (λ h i lt. has_left v.own.seats v.came.seats (Caller i) (home h i lt)) in
+    let own_before : CallersAreBeforeOver c v.own.seats (es ++ e ∷ []) =
+    λ i lt h over. ⊎_elim (λ (t : Has v.own.seats Host). t)
+    (λ (t : Has v.came.seats Host). (let n : Has [] Host = subst (λ (p : Part). Has p.seats Host) alone t in cc))
+    (has_either v.own.seats v.came.seats Host (overs id w (set_there s.views id v w at) i lt (has_left v.own.seats v.came.seats (Caller i) h) over)) in
     let behind : (d : Part) → (Has d.seats e.seat → ⊥) → Sees k.events d → Sees (es ++ e ∷ []) d =
     λ d none sees. subst (λ (l : List Event). Sees (l ++ e ∷ []) d) mine.0.is (later k.events d e none sees) in (
       w,
@@ -128,6 +139,7 @@ performs_at slots id me e st alone has may give s k long at small =
             (behind d.own (λ h. none (has_left d.own.seats d.came.seats e.seat h)) old.0, behind d.came (λ h. none (has_right d.own.seats d.came.seats e.seat h)) old.1))
             (at_set s.views id j w d p);
         apart = apart_stays s.views id v w at (λ x h. h) k.apart;
+        before_over = overs;
       },
       (
         refl,
@@ -137,6 +149,7 @@ performs_at slots id me e st alone has may give s k long at small =
           is = refl;
           history = go.history;
           tidy = go.tidy (tidy_more c v.own.seen e (tidy_part c v.own.seen more tidy) give) tidy;
+          before_over = own_before;
           finds =
               finds c.pages (left c es).now.words (reached c (left c v.own.seen).now e) (reached c (left c es).now e) s.words of go.same.of_the_table go.same.word words;
         },
@@ -163,8 +176,11 @@ settles_at slots id me st s k long at small =
             (at_set s.views id j w d p);
         apart = apart_stays s.views id v w at
             (λ x h. ⊎_elim (λ (u : Has (seats_of v) x). u) (λ (u : Has [] x). cc) (has_either (seats_of v) [] x h)) k.apart;
+        before_over = overs_with v.config s.views id w k.events k.before_over
+            (λ i lt h over. has_left (seats_of v) [] Host
+            (k.before_over id v at i lt (⊎_elim (λ (u : Has (seats_of v) (Caller i)). u) (λ (u : Has [] (Caller i)). cc) (has_either (seats_of v) [] (Caller i) h)) over));
       },
-      (refl, record { is = refl; own = mine.0; came = mine.1; history = k.history; tidy = k.tidy }),
+      (refl, record { is = refl; own = mine.0; came = mine.1; history = k.history; tidy = k.tidy; before_over = k.before_over id v at }),
     )
 
 -- A cut: what stays and what goes have seen as much as the view, and have seats of it, none in common.
@@ -173,6 +189,8 @@ pub record Cut (v left right : View) : Type 0 where
   pub goes : (x : Seat) → Has (seats_of right) x → Has (seats_of v) x
   pub alone : (x : Seat) → Has (seats_of left) x → Has (seats_of right) x → ⊥
   pub sees : (es : List Event) → Both es v → Both es left × Both es right
+  pub before_over : (c : Config) (es : List Event) → IsHistory c es → Sees es v.own → CallersAreBeforeOver c (seats_of v) es
+      → CallersAreBeforeOver c (seats_of left) es × CallersAreBeforeOver c (seats_of right) es
 
 snoc_at : (l : List View) (a b : View) (j : ℕ) → get_elem? (l ++ a ∷ []) j ≡ some b → (get_elem? l j ≡ some b) ⊎ ((j ≡ length l) × (a ≡ b))
 snoc_at [] a b zero e = inr (refl, some-injective a b e)
@@ -192,6 +210,7 @@ splits c id v left_v right_v cut s k at =
     (λ (t : (j ≢ id) × (get_elem? s.views j ≡ some d)). t.0 (k.apart j id d v x t.1 at h (cut.goes x r)))
     (at_set s.views id j left_v d p) in
     let sees = cut.sees k.events (k.sees id v at) in
+    let overs = cut.before_over c k.events k.history (k.sees id v at).0 (k.before_over id v at) in
     record {
       events = k.events;
       history = k.history;
@@ -214,12 +233,17 @@ splits c id v left_v right_v cut s k at =
           (λ (b : (j ≡ length vs) × (right_v ≡ e)). a.0 ∙ sym b.0)
           (snoc_at vs right_v e j q))
           (snoc_at vs right_v d i p);
+      before_over = λ j d p. ⊎_elim
+          (λ (u : get_elem? vs j ≡ some d). overs_with c s.views id left_v k.events k.before_over overs.0 j d u)
+          (λ (u : (j ≡ length vs) × (right_v ≡ d)). subst (λ (z : View). CallersAreBeforeOver c (seats_of z) k.events) u.1 overs.1)
+          (snoc_at vs right_v d j p);
     }
 
 -- a seat is handed over, or none is
 
-pub hands_over : (x : Seat) (v : View) → v.came ≡ no_part → Has v.own.seats x → Cut v (stays_with x v) (goes_with x v)
-hands_over x v alone has =
+pub hands_over : (x : Seat) (v : View) → v.came ≡ no_part → Has v.own.seats x → Has v.own.seats Host → is_same_seat x Host ≡ false
+    → (is_caller x ≡ true → has_over v.own.seen ≡ false) → Cut v (stays_with x v) (goes_with x v)
+hands_over x v alone has host another early =
     let left_v : View = stays_with x v in
     let right_v : View = goes_with x v in
     let out : (y : Seat) → Has v.came.seats y → ⊥ = λ y h. (let n : Has [] y = subst (λ (p : Part). Has p.seats y) alone h in cc) in
@@ -238,6 +262,15 @@ hands_over x v alone has =
         (sees_fewer es v.own (without_seat x v.own.seats) (λ y h. without_less x v.own.seats y h) mine.0, mine.1),
         (sees_fewer es v.own (x ∷ []) (λ y h. subst (λ (z : Seat). Has v.own.seats z) (sym (only_one x y h)) has) mine.0, sees_none es),
       );
+      before_over = λ c es history sees before. (
+        λ i lt h over. has_left (without_seat x v.own.seats) v.came.seats Host (without_keeps x v.own.seats Host another host),
+        λ i lt h over.
+            let caller : is_caller x ≡ true = ap (λ (z : Seat). is_caller z) (sym (only (Caller i) h)) in
+            let parts : AreEnabled c (v.own.seen ++ sees.more) = subst (λ (l : List Event). AreEnabled c l) sees.is history.enabled in
+            let rest = none_over c (left c v.own.seen) v.own.seats sees.more host sees.of_others (enabled_parts c (first_world c) v.own.seen sees.more parts).1 in
+            let none : has_over es ≡ false = ap (λ (l : List Event). has_over l) sees.is ∙ none_in_parts v.own.seen sees.more (early caller) rest in
+            let both : true ≡ false = sym over ∙ none in cc,
+      );
     }
 
 pub remembers : (v : View) → Cut v v (copy_of v)
@@ -247,7 +280,15 @@ remembers v =
       goes = λ y h. cc;
       alone = λ y h r. cc;
       sees = λ es mine. (mine, (sees_fewer es v.own [] (λ y h. cc) mine.0, sees_none es));
+      before_over = λ c es history sees before. (before, λ i lt h over. cc);
     }
+
+-- where nothing came, its seats are its own
+own_only : (v : View) → v.came ≡ no_part → (x : Seat) → Has (seats_of v) x → Has v.own.seats x
+own_only v alone x h =
+    ⊎_elim (λ (t : Has v.own.seats x). t)
+    (λ (t : Has v.came.seats x). (let n : Has [] x = subst (λ (p : Part). Has p.seats x) alone t in cc))
+    (has_either v.own.seats v.came.seats x h)
 
 pub joins : (c : Config) (id : ℕ) (v : View) (other : ℕ) (w : View) → v.came ≡ no_part → w.came ≡ no_part → Joins (Kept c) id v other w (beside v w) nobody
 joins c id v other w v_alone w_alone s k at ne there_set =
@@ -296,6 +337,15 @@ joins c id v other w v_alone w_alone s k at ne there_set =
           (λ (r : (j ≡ id) × Has (seats_of w) x). l.0 ∙ sym r.0)
           b.1)
           a.1;
+      before_over = overs_with c vs other nobody k.events
+          (overs_with c s.views id both k.events k.before_over
+          (λ i lt h over. ⊎_elim
+          (λ (a : Has v.own.seats (Caller i)). has_left v.own.seats w.own.seats Host
+          (own_only v v_alone Host (k.before_over id v at i lt (has_left v.own.seats v.came.seats (Caller i) a) over)))
+          (λ (b : Has w.own.seats (Caller i)). has_right v.own.seats w.own.seats Host
+          (own_only w w_alone Host (k.before_over other w there i lt (has_left w.own.seats w.came.seats (Caller i) b) over)))
+          (has_either v.own.seats w.own.seats (Caller i) h)))
+          (λ i lt h over. cc);
     }
 
 -- at first
@@ -316,6 +366,7 @@ opens c s limits words_are views_are =
       words = words_are;
       sees = λ j d p. subst (Both []) (of_first j d p).1 (sees_all (all_seats c) [], sees_none []);
       apart = λ i j d e x p q hd he. (of_first i d p).0 ∙ sym (of_first j e q).0;
+      before_over = λ i d p k lt h over. cc;
     }
 
 -- At the end a pass that has all seats has seen the history whole.

@@ -1,6 +1,8 @@
 pub mod Seats
 pub mod Tidy
 pub mod LongerLists
+pub mod Overs
+pub mod OverPhases
 pub mod Keeps
 pub mod Undecided
 pub mod Owed

@@ -99,7 +99,7 @@ still_may p q k a own before behind j other on =
     let c : Config = p.table.config in
     let d = made p (step.Open k) q a.makes own behind in
     let e : Event = event_of p (step.Open j) in
-    let short = history_more p (step.Open j) before (record { enabled = on; admitted = λ h. cc; tidy = λ h. cc }) in
+    let short = history_more p (step.Open j) before (record { enabled = on; admitted = λ h. cc; tidy = λ h. cc; home = λ h. cc }) in
     let long = longer_lists c p.seen a.makes.others e short d.history d.others in
     let then_on = last_enabled c (first_world c) (p.seen ++ a.makes.others) e long.history.enabled in
     let m : Moment = (world_at a.makes).now in

@@ -1,11 +1,11 @@
 -- What the calls owe the table for a step, a split, a join and the end, and what they learn.
 use Rattle.std.proofs.Common.{◌≡◌, ℕ, ◌<◌, List, [], ◌∷◌, ◌++◌, refl, sym, ◌∙◌, ap, subst, arith}
-use Rattle.std.specs.Prelude.{slice_index, replicate, false}
+use Rattle.std.specs.Prelude.{slice_index, replicate, true, false}
 use Rattle.atomic_table.specs.Seated.{TableId}
 use Rattle.atomic_table.specs.Table.{Allows, Splits, Joins, Final, Seen, opening}
 use Rattle.mk_core.specs.declared.config.Config.{Config}
 use Rattle.mk_core.specs.declared.events.Seat.{Seat}
-use Rattle.mk_core.specs.declared.events.Seat.TheVariants.{Host}
+use Rattle.mk_core.specs.declared.events.Seat.TheVariants.{Caller, Host}
 use Rattle.mk_core.specs.declared.events.Step.{Step}
 use Rattle.mk_core.specs.declared.events.Event.{Event}
 use Rattle.mk_core.specs.declared.accesses.Access.{Access}
@@ -22,7 +22,7 @@ use Rattle.mk_core.proofs.LayoutLemmas.{indexes_within}
 use Rattle.mk_core.proofs.RegionLemmas.{first_are_zero}
 use Rattle.mk_protocol.proofs.Reaching.{events_reach_the_table}
 use Rattle.mk_words.specs.declared.rule.View.{View}
-use Rattle.mk_words.specs.Seats.{Has, HasAll}
+use Rattle.mk_words.specs.Seats.{CallersAreBeforeOver, Has, HasAll, has_over, is_caller}
 use Rattle.mk_words.specs.States.{WordsState, PassState, now_of, event_of}
 use Rattle.mk_words.specs.Rule.{Kept, Mine, told_by, no_step, adds, stores, settles, stays_with, goes_with, copy_of, beside, nobody, first_view}
 use Rattle.mk_words.specs.Passes.{state_of, IsInOrder}
@@ -30,7 +30,7 @@ use Rattle.mk_words.specs.Steps.{May, Tells, Finds}
 use Rattle.mk_words.proofs.Tidy.{none_tidy}
 use Rattle.mk_words.proofs.Undecided.{undecided_admitted}
 use Rattle.mk_words.proofs.Keeps.{performs_at, settles_at, splits, hands_over, remembers, joins, opens, closes, Ended}
-use Rattle.mk_words.proofs.Seats.{has_all, has_first, has_left, without_keeps}
+use Rattle.mk_words.proofs.Seats.{has_all, has_first, has_left, only_one, without_keeps, without_less}
 
 -- with the event the pass's list is a history
 pub history_more : (p : PassState) (s : Step) → IsHistory p.table.config p.seen → May p s → IsHistory p.table.config (p.seen ++ event_of p s ∷ [])
@@ -61,7 +61,7 @@ event_call config key tid words slots id me seat s i x a picked order config_is 
     let within : j < count_of_words c.pages = indexes_within c.pages y (word_of_table p s order.history may) in
     let as_many : words ≡ count_of_words c.pages = words_are ∙ ap (λ (d : Config). count_of_words d.pages) (sym config_is) in
     let same_key : key ≡ c = key_is ∙ sym config_is in
-    let all = performs_at slots id me (event_of p s) no_step order.settled order.own (history_more p s order.history may) may.tidy in
+    let all = performs_at slots id me (event_of p s) no_step order.settled order.own (history_more p s order.history may) may.tidy may.home in
     let at_access : Allows (Kept c) slots id me j (becomes a) (λ n m. adds (event_of p s) no_step me n m) =
     subst (λ (d : Access). Allows (Kept c) slots id me j (becomes d) (λ n m. adds (event_of p s) no_step me n m)) (sym a_is) all in
     let at_index : Allows (Kept c) slots id me i (becomes a) (λ n m. adds (event_of p s) no_step me n m) =
@@ -83,6 +83,7 @@ in_order_still me n seat e answer order on =
       own = subst (λ (w : View). Has w.own.seats seat) (sym add.is) order.own;
       history = subst (λ (w : View). IsHistory w.config w.own.seen) (sym add.is) add.history;
       tidy = subst (λ (w : View). IsTidy w.config w.own.seen) (sym add.is) add.tidy;
+      before_over = subst (λ (w : View). CallersAreBeforeOver w.config w.own.seats w.own.seen) (sym add.is) add.before_over;
     }
 
 pub record Learnt (tid : TableId) (me n : Mine) (seat : Seat) (s : Step) (a : Access) (answer : ℕ) : Type 0 where
@@ -110,13 +111,14 @@ pub some_words : (words pages : ℕ) → words ≡ count_of_words pages → 0 < 
 some_words words pages e = omega arith
 
 pub split_call : (config key : Config) (words id : ℕ) (me : Mine) (seat x picked : Seat) → IsInOrder me seat → me.0.config ≡ config → key ≡ config
-    → words ≡ count_of_words config.pages → picked ≡ x → Has me.0.own.seats x
+    → words ≡ count_of_words config.pages → picked ≡ x → Has me.0.own.seats x → Has me.0.own.seats Host → is_same_seat x Host ≡ false
+    → (is_caller x ≡ true → has_over me.0.own.seen ≡ false)
     → (0 < words) × Splits (Kept key) id me.0 (stays_with picked me.0) (goes_with picked me.0)
-split_call config key words id me seat x picked order config_is key_is words_are picked_is has = (
+split_call config key words id me seat x picked order config_is key_is words_are picked_is has host another early = (
   some_words words config.pages words_are,
   subst (λ (d : Config). Splits (Kept d) id me.0 (stays_with picked me.0) (goes_with picked me.0)) (sym key_is)
       (subst (λ (y : Seat). Splits (Kept config) id me.0 (stays_with y me.0) (goes_with y me.0)) (sym picked_is)
-      (splits config id me.0 (stays_with x me.0) (goes_with x me.0) (hands_over x me.0 order.settled has))),
+      (splits config id me.0 (stays_with x me.0) (goes_with x me.0) (hands_over x me.0 order.settled has host another early))),
 )
 
 pub copy_call : (config key : Config) (words id : ℕ) (me : Mine) → key ≡ config → words ≡ count_of_words config.pages
@@ -223,19 +225,23 @@ first_call c zeros limits are = opens c (opening {S = Unit {0}} zeros [] (first_
 pub first_in_order : (c : Config) (me : Mine) → IsWithinLimits c → me ≡ (first_view c, []) → IsInOrder me Host
 first_in_order c me limits is =
     subst (λ (m : Mine). IsInOrder m Host) (sym is)
-    (record { no_slot = refl; settled = refl; own = has_all c Host refl; history = none_is_history c limits; tidy = none_tidy c })
+    (record { no_slot = refl; settled = refl; own = has_all c Host refl; history = none_is_history c limits; tidy = none_tidy c; before_over = λ k lt h over. cc })
 
 -- behind a split
 
-pub kept_by_split : (me n : Mine) (seat x picked : Seat) → IsInOrder me seat → picked ≡ x → is_same_seat x seat ≡ false → n ≡ (stays_with picked me.0, me.1) → IsInOrder n seat
-kept_by_split me n seat x picked order picked_is other is =
+pub kept_by_split : (me n : Mine) (seat x picked : Seat) → IsInOrder me seat → picked ≡ x → is_same_seat x seat ≡ false → is_same_seat x Host ≡ false → n ≡ (stays_with picked me.0, me.1) → IsInOrder n seat
+kept_by_split me n seat x picked order picked_is other another is =
     subst (λ (m : Mine). IsInOrder m seat) (sym (is ∙ ap (λ (y : Seat). (stays_with y me.0, me.1)) picked_is))
-    (record { no_slot = order.no_slot; settled = order.settled; own = without_keeps x me.0.own.seats seat other order.own; history = order.history; tidy = order.tidy })
+    (record { no_slot = order.no_slot; settled = order.settled; own = without_keeps x me.0.own.seats seat other order.own; history = order.history; tidy = order.tidy;
+      before_over = λ k lt h over. without_keeps x me.0.own.seats Host another (order.before_over k lt (without_less x me.0.own.seats (Caller k) h) over) })
 
-pub made_by_split : (me n : Mine) (seat x picked : Seat) → IsInOrder me seat → picked ≡ x → n ≡ (goes_with picked me.0, []) → IsInOrder n x
-made_by_split me n seat x picked order picked_is is =
+pub made_by_split : (me n : Mine) (seat x picked : Seat) → IsInOrder me seat → picked ≡ x → (is_caller x ≡ true → has_over me.0.own.seen ≡ false) → n ≡ (goes_with picked me.0, []) → IsInOrder n x
+made_by_split me n seat x picked order picked_is early is =
     subst (λ (m : Mine). IsInOrder m x) (sym (is ∙ ap (λ (y : Seat). (goes_with y me.0, [])) picked_is))
-    (record { no_slot = refl; settled = refl; own = has_first x []; history = order.history; tidy = order.tidy })
+    (record { no_slot = refl; settled = refl; own = has_first x []; history = order.history; tidy = order.tidy;
+      before_over = λ k lt h over.
+          let caller : is_caller x ≡ true = ap (λ (z : Seat). is_caller z) (sym (only_one x (Caller k) h)) in
+          let both : true ≡ false = sym over ∙ early caller in cc })
 
 -- behind a join
 
@@ -259,6 +265,7 @@ joined_as tid me from n seat slots none answer order on =
         own = subst (λ (w : View). Has w.own.seats seat) (sym s.is) (has_left me.0.own.seats from.0.own.seats seat order.own);
         history = subst (λ (w : View). IsHistory w.config w.own.seen) (sym s.is) s.history;
         tidy = subst (λ (w : View). IsTidy w.config w.own.seen) (sym s.is) s.tidy;
+        before_over = subst (λ (w : View). CallersAreBeforeOver w.config w.own.seats w.own.seen) (sym s.is) s.before_over;
       };
     }
 

@@ -1,13 +1,16 @@
 -- What is known of every step that a pass made.
-use Rattle.std.specs.Prelude.{◌≡◌, ℕ, [], ◌∷◌, ◌++◌}
+use Rattle.std.specs.Prelude.{◌≡◌, ℕ, true, List, [], ◌∷◌, ◌++◌}
+use Rattle.mk_core.specs.declared.config.Config.{Config}
 use Rattle.mk_core.specs.declared.events.Seat.TheVariants.{Caller}
+use Rattle.mk_core.specs.declared.events.Event.{Event}
 use Rattle.mk_core.specs.declared.events.Step.{Step}
 use Rattle.mk_core.specs.Enabled.{MeetsAll}
 use Rattle.mk_core.specs.Effects.{progress}
 use Rattle.mk_core.specs.Frames.{IsLeft, IsLeftByAdmitted}
 use Rattle.mk_core.specs.Growing.{AreOfOthers}
-use Rattle.mk_core.specs.History.{world_behind, IsHistory}
-use Rattle.mk_words.specs.Seats.{Has}
+use Rattle.mk_core.specs.History.{left, world_behind, IsHistory}
+use Rattle.mk_core.specs.Words.{phase_of}
+use Rattle.mk_words.specs.Seats.{Has, has_over}
 use Rattle.mk_words.specs.States.{PassState, world_of, call_of, event_of}
 use Rattle.mk_words.specs.Steps.{Makes, moment_of, found_by, Goes}
 use Rattle.mk_words.specs.TurnSteps.{world_at}
@@ -30,3 +33,7 @@ abbrev pub CallsGoOn : Type 0
 CallsGoOn =
     (p q : PassState) (s : Step) (m : Makes p s q) (k : ℕ) → Has p.seats p.seat → IsHistory q.table.config q.seen → p.seat ≡ Caller k
     → Goes p s (progress p.table.config (moment_of m) (call_of p) (found_by m) s) q
+
+-- The phase says that all is over only behind an `over`. So a caller's pass, which isn't the host's, never finds it so.
+abbrev pub EndIsBehindOver : Type 0
+EndIsBehindOver = (c : Config) (es : List Event) → IsHistory c es → phase_of (left c es).now.words ≡ 5 → has_over es ≡ true

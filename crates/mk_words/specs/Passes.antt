@@ -6,7 +6,7 @@ use Rattle.mk_core.specs.declared.seats.Marker.{Marker}
 use Rattle.mk_core.specs.Moments.{marker_at}
 use Rattle.mk_core.specs.History.{left, IsHistory}
 use Rattle.mk_core.specs.Counts.{IsTidy}
-use Rattle.mk_words.specs.Seats.{Has}
+use Rattle.mk_words.specs.Seats.{CallersAreBeforeOver, Has}
 use Rattle.mk_words.specs.States.{PassState}
 use Rattle.mk_words.specs.Rule.{Mine, no_part}
 
@@ -23,6 +23,7 @@ pub record IsInOrder (me : Mine) (seat : Seat) : Type 0 where
   pub own : Has me.0.own.seats seat
   pub history : IsHistory me.0.config me.0.own.seen
   pub tidy : IsTidy me.0.config me.0.own.seen
+  pub before_over : CallersAreBeforeOver me.0.config me.0.own.seats me.0.own.seen
 
 -- The pass is in order, and has kept what its seat is at as a marker.
 pub record IsPass (me : Mine) (seat : Seat) (marker : Marker) : Type 0 where

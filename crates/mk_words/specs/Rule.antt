@@ -17,7 +17,7 @@ use Rattle.mk_core.specs.Counts.{IsTidy}
 use Rattle.mk_core.specs.Growing.{AreOfOthers, Grows}
 use Rattle.mk_words.specs.declared.rule.Part.{Part}
 use Rattle.mk_words.specs.declared.rule.View.{View}
-use Rattle.mk_words.specs.Seats.{Has, without_seat, all_seats}
+use Rattle.mk_words.specs.Seats.{Has, CallersAreBeforeOver, without_seat, all_seats}
 
 abbrev pub part : List Seat → List Event → Part
 part seats seen = record { seats = seats; seen = seen }
@@ -47,7 +47,7 @@ abbrev pub Sees : List Event → Part → Type 0
 Sees es p = Grows p.seats p.seen es
 
 -- There is one history, which is tidy and leaves the words. Each view has seen a beginning of it that has all events of
--- the view's seats, and no seat is in two views.
+-- the view's seats, no seat is in two views, and who has a caller's seat behind an `over` has the host's.
 pub record Kept (c : Config) (s : State (Unit {0}) View) : Type 0 where
   pub events : List Event
   pub history : IsHistory c events
@@ -56,6 +56,7 @@ pub record Kept (c : Config) (s : State (Unit {0}) View) : Type 0 where
   pub sees : (id : ℕ) (v : View) → get_elem? s.views id ≡ some v → Sees events v.own × Sees events v.came
   pub apart : (i j : ℕ) (v w : View) (x : Seat) → get_elem? s.views i ≡ some v → get_elem? s.views j ≡ some w
       → Has (seats_of v) x → Has (seats_of w) x → i ≡ j
+  pub before_over : (id : ℕ) (v : View) → get_elem? s.views id ≡ some v → CallersAreBeforeOver c (seats_of v) events
 
 abbrev pub Mine : Type 0
 Mine = Me (Unit {0}) View
@@ -72,6 +73,7 @@ pub record Adds (e : Event) (v : View) (n : ℕ) (w : View) : Type 0 where
   pub is : w ≡ record v { own = part v.own.seats (v.own.seen ++ others ++ e ∷ []) }
   pub history : IsHistory v.config (v.own.seen ++ others ++ e ∷ [])
   pub tidy : IsTidy v.config (v.own.seen ++ others ++ e ∷ [])
+  pub before_over : CallersAreBeforeOver v.config v.own.seats (v.own.seen ++ others ++ e ∷ [])
   pub finds : n ≡ found v.config (left v.config (v.own.seen ++ others)).now e
 
 -- what a step tells doesn't read the table's account of it
@@ -92,6 +94,7 @@ pub record Settles (v w : View) : Type 0 where
   pub came : Grows v.came.seats v.came.seen w.own.seen
   pub history : IsHistory v.config w.own.seen
   pub tidy : IsTidy v.config w.own.seen
+  pub before_over : CallersAreBeforeOver v.config (seats_of v) w.own.seen
 
 abbrev pub settles : TableStep (Unit {0}) → Mine → ℕ → Mine → Type 0
 settles st m found n = (n.1 ≡ m.1) × Settles m.0 n.0

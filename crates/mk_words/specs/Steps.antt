@@ -12,6 +12,7 @@ use Rattle.mk_core.specs.History.{left, IsEnabledBehind, IsAdmittedBehind}
 use Rattle.mk_core.specs.Cycles.{is_give}
 use Rattle.mk_core.specs.Counts.{TalliesAreTidy}
 use Rattle.mk_core.specs.Growing.{AreOfOthers}
+use Rattle.mk_words.specs.Seats.{HasCallers, is_over}
 use Rattle.mk_words.specs.States.{PassState, now_of, call_of, event_of}
 use Rattle.mk_words.specs.Rule.{told_by}
 
@@ -38,11 +39,13 @@ IsEnabledTo p s = IsEnabledBehind p.table.config p.seen (event_of p s)
 abbrev pub IsAdmittedTo : PassState → Step → Type 0
 IsAdmittedTo p s = IsAdmittedBehind p.table.config p.seen (event_of p s)
 
--- A pass may make a step that is enabled and, where the step may decide a call, admitted. A `give` leaves its list tidy.
+-- A pass may make a step that is enabled and, where the step may decide a call, admitted. A `give` leaves its list tidy, and at an `over` the
+-- pass has the seats of all callers.
 pub record May (p : PassState) (s : Step) : Type 0 where
   pub enabled : IsEnabledTo p s
   pub admitted : may_decide s ≡ true → IsAdmittedTo p s
   pub tidy : is_give s ≡ true → TalliesAreTidy p.table.config p.seen
+  pub home : is_over s ≡ true → HasCallers p.table.config p.seats
 
 -- The pass made the step, behind all that it had seen and events of others.
 pub record Makes (p : PassState) (s : Step) (q : PassState) : Type 0 where

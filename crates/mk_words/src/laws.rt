@@ -1,5 +1,5 @@
 //! Laws of the steps that passes make: facts alone, with no code.
-ghost use Rattle.mk_words.specs.Laws.{StepsStandBehindOthers, CallsGoOn};
+ghost use Rattle.mk_words.specs.Laws.{CallsGoOn, EndIsBehindOver, StepsStandBehindOthers};
 
 /// What a pass knows of its step: what others left it up to then, and what the step leaves.
 pub fn steps_stand_behind_others()
@@ -9,4 +9,9 @@ pub fn steps_stand_behind_others()
 /// How a caller's call goes on behind each of its steps.
 pub fn calls_go_on()
     ensures { CallsGoOn }
+{}
+
+/// The phase says that all is over only behind an `over`, which no caller's pass of its own has seen.
+pub fn the_end_is_behind_an_over()
+    ensures { EndIsBehindOver }
 {}

@@ -20,7 +20,7 @@ mod words;
 
 pub use call_steps::Held;
 pub use finals::Final;
-pub use laws::{calls_go_on, steps_stand_behind_others};
+pub use laws::{calls_go_on, steps_stand_behind_others, the_end_is_behind_an_over};
 pub use passes::Pass;
 pub use stop_steps::InCall;
 pub use stopped::Stopped;

@@ -3,7 +3,7 @@ ghost use Rattle.std.specs.Prelude.{◌≡◌, true, false};
 ghost use Rattle.mk_core.specs.Accesses.{caller_number, reached, access};
 ghost use Rattle.mk_core.specs.History.{IsHistory};
 ghost use Rattle.mk_core.specs.Counts.{IsTidy};
-ghost use Rattle.mk_words.specs.Seats.{Has};
+ghost use Rattle.mk_words.specs.Seats.{CallersAreBeforeOver, Has};
 ghost use Rattle.mk_words.specs.States.{now_of, event_of};
 ghost use Rattle.mk_core.specs.Order.{group_of};
 ghost use Rattle.mk_words.specs.Passes.{state_of, IsInOrder};
@@ -110,6 +110,7 @@ impl Pass {
     pub fn is_in_order(&self)
         ensures own { Has self.now.seats self.now.seat }
         ensures history { IsHistory self.now.table.config self.now.seen }
+        ensures before_over { CallersAreBeforeOver self.now.table.config self.now.seats self.now.seen }
         ensures tidy { IsTidy self.now.table.config self.now.seen }
     {
         let _seat = &self.seat;

@@ -7,7 +7,7 @@ ghost use Rattle.mk_core.specs.Moments.{others_are_held, none_is_held, is_number
 ghost use Rattle.mk_words.specs.Opening.{OthersMayOpen, Opens};
 ghost use Rattle.mk_words.specs.Steps.{IsEnabledTo, IsAdmittedTo, Finds, may_decide};
 ghost use Rattle.mk_words.specs.TurnSteps.{Acts};
-ghost use Rattle.mk_words.specs.Seats.{Has};
+ghost use Rattle.mk_words.specs.Seats.{CallersAreBeforeOver, Has};
 ghost use Rattle.mk_words.specs.States.{now_of, event_of};
 ghost use Rattle.mk_words.specs.Steps.{May, Tells};
 ghost use Rattle.mk_words.specs.TurnSteps.{IsTurn, gates_stay, may_take_cell};
@@ -58,6 +58,7 @@ impl Stopped {
         ensures turn { IsTurn self.now.pass self.now.op }
         ensures own { Has self.now.pass.seats self.now.pass.seat }
         ensures history { IsHistory self.now.pass.table.config self.now.pass.seen }
+        ensures before_over { CallersAreBeforeOver self.now.pass.table.config self.now.pass.seats self.now.pass.seen }
         ensures gates { others_are_held self.now.pass.table.config.callers (now_of self.now.pass).words self.now.pass.seat ≡ true }
     {
         let turn = &self.turn;

@@ -7,7 +7,7 @@ ghost use Rattle.mk_core.specs.Counts.{TalliesAreExact, TalliesAreTidy, IsTidy};
 ghost use Rattle.mk_core.specs.History.{IsHistory};
 ghost use Rattle.mk_core.specs.Moments.{holder_number};
 ghost use Rattle.mk_core.specs.Order.{seat_exists};
-ghost use Rattle.mk_words.specs.Seats.{Has};
+ghost use Rattle.mk_words.specs.Seats.{CallersAreBeforeOver, Has};
 ghost use Rattle.mk_words.specs.States.{now_of, call_of, event_of};
 ghost use Rattle.mk_words.specs.Steps.{IsEnabledTo, May, Makes, Finds, Tells};
 ghost use Rattle.mk_words.specs.TurnSteps.{IsTurn, IsFresh, turn_stays, may_take_cell, Acts};
@@ -118,6 +118,7 @@ impl Turn {
         ensures turn { IsTurn self.now.pass self.now.op }
         ensures own { Has self.now.pass.seats self.now.pass.seat }
         ensures history { IsHistory self.now.pass.table.config self.now.pass.seen }
+        ensures before_over { CallersAreBeforeOver self.now.pass.table.config self.now.pass.seats self.now.pass.seen }
         ensures tidy { IsTidy self.now.pass.table.config self.now.pass.seen }
     {
         self.pass.is_in_order();

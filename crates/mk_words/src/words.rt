@@ -129,6 +129,7 @@ impl Words {
         requires another { is_same_seat seat Host ≡ false }
         requires here { Has pass.old.seats seat }
         requires out { marker_at (now_of pass.old) seat ≡ outside }
+        requires before_over { is_caller seat ≡ true → has_over pass.old.seen ≡ false }
         ensures pass { pass.new ≡ record pass.old { seats = without_seat seat pass.old.seats } }
         ensures made { result ≡ record pass.old { seat = seat; seats = seat ∷ [] } }
     {

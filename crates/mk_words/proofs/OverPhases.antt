@@ -1,0 +1,35 @@
+-- The phase says that all is over only behind an `over`.
+use Rattle.std.proofs.Common.{◌≡◌, ◌≢◌, ℕ, ◌%◌, Bool, true, false, List, [], ◌∷◌, sym, ◌∙◌, arith}
+use Rattle.std.proofs.lemmas.Bool.{or_parts, true_from_ne_false}
+use Rattle.mk_core.specs.declared.config.Config.{Config}
+use Rattle.mk_core.specs.declared.events.Event.{Event}
+use Rattle.mk_core.specs.declared.events.Step.{Step}
+use Rattle.mk_core.specs.declared.events.Step.TheVariants as step
+use Rattle.mk_core.specs.History.{AreEnabledFrom, World, first_world, left_from, world_behind}
+use Rattle.mk_core.specs.Words.{phase_of}
+use Rattle.mk_readings.proofs.CyclePhases.{moves_phase, phase_behind}
+use Rattle.mk_words.specs.Laws.{EndIsBehindOver}
+use Rattle.mk_words.specs.Seats.{has_over, is_over}
+
+not_over : (x : Step) (p : ℕ) → is_over x ≡ false → p ≢ 5 → phase_behind x p ≢ 5
+not_over step.Begin p out ne = λ h. absurd (omega arith)
+not_over step.Want p out ne = λ h. absurd (omega arith)
+not_over step.Close p out ne = λ h. absurd (omega arith)
+not_over step.Release p out ne = λ h. absurd (omega arith)
+not_over step.End p out ne = λ h. absurd (omega arith)
+not_over step.Over p out ne = cc
+not_over _ p out ne = ne
+
+never_over : (c : Config) (w : World) (es : List Event) → AreEnabledFrom c w es → has_over es ≡ false → phase_of w.now.words ≢ 5
+    → phase_of (left_from c w es).now.words ≢ 5
+unfolding left_from
+never_over c w [] on none ne = ne
+never_over c w (e ∷ es) on none ne =
+    let outs = or_parts (is_over e.step) (has_over es) none in
+    let moves = moves_phase c w e es on in
+    never_over c (world_behind c w e) es moves.2 outs.1
+    (λ h. not_over e.step (phase_of w.now.words) outs.0 ne (sym moves.1 ∙ h))
+
+pub end_is_behind_over : EndIsBehindOver
+end_is_behind_over c es h five =
+    true_from_ne_false (has_over es) (λ none. never_over c (first_world c) es h.enabled none (λ e. absurd (omega arith)) five)
