@@ -27,6 +27,14 @@ use Rattle.mk_words.specs.Seats.{Has}
 use Rattle.mk_words.specs.States.{PassState, now_of, event_of}
 use Rattle.mk_words.specs.Steps.{IsEnabledTo}
 use Rattle.mk_words.specs.TurnSteps.{IsTurn, world_at, Acts}
+use Rattle.mk_core.specs.Counts.{ends, fulls}
+use Rattle.mk_core.specs.Effects.{answer_decided}
+use Rattle.mk_core.specs.Frames.{steady_of, CountsAreLeft}
+use Rattle.mk_core.specs.History.{left}
+use Rattle.mk_core.specs.Moments.{flight_of}
+use Rattle.mk_protocol.proofs.OthersCounts.{answers_full}
+use Rattle.mk_placement.proofs.TallySteps.{CountsNothing}
+use Rattle.mk_words.proofs.Tallies.{same_ends, same_fulls}
 use Rattle.mk_words.specs.Opening.{OthersMayOpen, OnlyOpen, Opens, AreOpened}
 use Rattle.mk_words.proofs.Owed.{history_more}
 use Rattle.mk_words.proofs.Made.{made}
@@ -70,7 +78,22 @@ only_append seats (e ∷ es) fs h k = (h.0, only_append seats es fs h.1 k)
 
 pub opens_none : (p : PassState) → Opens p p
 unfolding OnlyOpen
-opens_none p = record { more = []; is = ap (λ (es : List Event). record p { seen = es }) (sym (append-nil p.seen)); only = tt }
+opens_none p = record { more = []; is = ap (λ (es : List Event). record p { seen = es }) (sym (append-nil p.seen)); only = tt; steady = refl; holding = refl; call = refl; counts = record { ends = refl; fulls = refl } }
+
+-- An `open` counts nothing.
+
+open_answers : (c : Config) (m : Moment) (seat : Seat) (k : ℕ) → answers_full (answer_decided c m (record { seat = seat; step = step.Open k })) ≡ false
+open_answers c m (Caller i) k = refl
+open_answers c m (Marker i) k = refl
+open_answers c m Host k = refl
+
+open_counts_nothing : (c : Config) (w : World) (seat : Seat) (k : ℕ) → CountsNothing c w (record { seat = seat; step = step.Open k })
+open_counts_nothing c w seat k =
+    record {
+      alike = record { tallies = record { held = refl; fresh = refl; cycles = refl; released = refl; full = refl }; allocations = refl };
+      no_end = refl;
+      no_full = open_answers c w.now seat k;
+    }
 
 opens_more : (p q r : PassState) (k : ℕ) → Opens p q → Acts q (step.Open k) r → Opens p r
 opens_more p q r k o a =
@@ -78,7 +101,25 @@ opens_more p q r k o a =
     let seen_is : q.seen ≡ p.seen ++ o.more = ap (λ (x : PassState). x.seen) o.is in
     let last : Event = event_of q (step.Open k) in
     let more : List Event = o.more ++ (a.makes.others ++ last ∷ []) in
+    let c : Config = p.table.config in
+    let config_is : q.table.config ≡ c = ap (λ (x : PassState). x.table.config) o.is in
+    let there : World = world_at a.makes in
+    let opened = behind_open q.table.config there.now q.seat k in
+    let fs : List Event = q.seen ++ a.makes.others in
+    let nothing : CountsNothing c (left c fs) last = open_counts_nothing c (left c fs) q.seat k in
+    let counts : CountsAreLeft c q.seen fs = subst (λ (d : Config). CountsAreLeft d q.seen fs) config_is a.counts in
+    let seen_then : r.seen ≡ fs ++ last ∷ [] = ap (λ (x : PassState). x.seen) a.makes.is in
     record {
+      steady = ap (λ (w : World). steady_of w) a.world ∙ a.turn.steady ∙ o.steady;
+      holding =
+          ap (λ (w : World). w.now.seats.holding) a.world ∙ ap (λ (m : Moment). m.seats.holding) opened ∙ a.holding ∙ o.holding;
+      call =
+          ap (λ (s : Seat). flight_of (now_of r) s) (ap (λ (x : PassState). x.seat) a.makes.is)
+          ∙ ap (λ (w : World). flight_of w.now q.seat) a.world ∙ ap (λ (m : Moment). flight_of m q.seat) opened ∙ a.own.flight ∙ o.call;
+      counts = record {
+        ends = ap ends seen_then ∙ sym (same_ends c fs last nothing) ∙ counts.ends ∙ o.counts.ends;
+        fulls = ap (λ (es : List Event). fulls c es) seen_then ∙ sym (same_fulls c fs last nothing) ∙ counts.fulls ∙ o.counts.fulls;
+      };
       more = more;
       is =
           a.makes.is

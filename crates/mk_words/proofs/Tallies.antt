@@ -48,14 +48,14 @@ module _ (c : Config) (es : List Event) (e : Event) (nothing : CountsNothing c (
   same_allocations : (left c es).allocations ≡ (left c (es ++ e ∷ [])).allocations
   same_allocations = sym (ap (λ (w : World). w.allocations) more ∙ nothing.alike.allocations)
 
-  same_ends : ends es ≡ ends (es ++ e ∷ [])
+  pub same_ends : ends es ≡ ends (es ++ e ∷ [])
   same_ends =
       let last : cond {A = ℕ} (is_end e.step) 1 0 ≡ 0 = ap (λ b. cond {A = ℕ} b 1 0) nothing.no_end in
       let pushed : ends (es ++ e ∷ []) ≡ ends es + cond {A = ℕ} (is_end e.step) 1 0 =
       sum_by_push (λ (x : Event). cond {A = ℕ} (is_end x.step) 1 0) es e in
       omega arith
 
-  same_fulls : fulls c es ≡ fulls c (es ++ e ∷ [])
+  pub same_fulls : fulls c es ≡ fulls c (es ++ e ∷ [])
   same_fulls =
       let ds : List Decided = call_decided c (left c es).now e in
       let m : Moment = (left c es).now in

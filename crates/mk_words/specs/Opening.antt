@@ -6,7 +6,8 @@ use Rattle.mk_core.specs.declared.events.Step.TheVariants as step
 use Rattle.mk_core.specs.declared.events.Event.{Event}
 use Rattle.mk_core.specs.Moments.{is_number_of, is_held}
 use Rattle.mk_core.specs.Growing.{is_one_of}
-use Rattle.mk_words.specs.States.{PassState, now_of}
+use Rattle.mk_core.specs.Frames.{steady_of, CountsAreLeft}
+use Rattle.mk_words.specs.States.{PassState, world_of, now_of, call_of}
 use Rattle.mk_words.specs.Steps.{IsEnabledTo}
 
 -- The gates of all callers from this one on may be opened, but for the holder's.
@@ -23,11 +24,15 @@ unfoldable pub OnlyOpen : List Seat → List Event → Type 0
 OnlyOpen seats [] = ⊤
 OnlyOpen seats (e ∷ es) = ((is_one_of seats e.seat ≡ false) ⊎ (is_open e.step ≡ true)) × OnlyOpen seats es
 
--- The pass has seen events of others, and has opened gates.
+-- The pass has seen events of others, and has opened gates. All that is steady in a turn is as it was.
 pub record Opens (p q : PassState) : Type 0 where
   pub more : List Event
   pub is : q ≡ record p { seen = p.seen ++ more }
   pub only : OnlyOpen p.seats more
+  pub steady : steady_of (world_of q) ≡ steady_of (world_of p)
+  pub holding : (now_of q).seats.holding ≡ (now_of p).seats.holding
+  pub call : call_of q ≡ call_of p
+  pub counts : CountsAreLeft p.table.config p.seen q.seen
 
 -- The gates of the callers below this one aren't held, but for the holder's.
 abbrev pub AreOpened : PassState → ℕ → Type 0

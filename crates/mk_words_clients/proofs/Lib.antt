@@ -2,3 +2,4 @@ pub mod Enabling
 pub mod Admitting
 pub mod TurnFacts
 pub mod MarkerFacts
+pub mod CallFacts

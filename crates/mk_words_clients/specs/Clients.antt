@@ -1,5 +1,5 @@
 -- What the clients ask of a pass and of a turn, and keep.
-use Rattle.std.specs.Prelude.{◌≡◌, ℕ, ◌<◌, true, false, Option, Some, None, List, ◌++◌}
+use Rattle.std.specs.Prelude.{◌≡◌, ℕ, ◌<◌, ◌≤◌, ◌+◌, ◌*◌, true, false, Option, Some, None, List, ◌++◌}
 use Rattle.mk_never.specs.declared.operations.Op.{Op}
 use Rattle.mk_never.specs.Admitted.{IsAdmitted}
 use Rattle.mk_core.specs.declared.events.Event.{Event}
@@ -15,6 +15,9 @@ use Rattle.mk_core.specs.StopConditions.{is_attending}
 use Rattle.mk_words.specs.Markers.{marker_in}
 use Rattle.mk_core.specs.Order.{host_has_turn}
 use Rattle.mk_core.specs.TurnConditions.{words_held}
+use Rattle.mk_geom.specs.Addresses.{heap_word_at}
+use Rattle.mk_core.specs.declared.seats.Flight.{Flight}
+use Rattle.mk_words.specs.CallSteps.{register_of}
 use Rattle.mk_words.specs.States.{PassState, now_of, call_of}
 
 -- a caller's pass, with no call in flight
@@ -62,3 +65,16 @@ pub record IsAttending (p : PassState) : Type 0 where
 -- The marker scans this cell, and is at this word of it.
 abbrev pub IsAt : PassState → ℕ → ℕ → ℕ → ℕ → Type 0
 IsAt p page k next end = (marker_in p).scan ≡ Some (record { page = page; index = k; next = next; end = end })
+
+-- A caller is in a call of the operation, which is here, and stays admitted.
+pub record IsIn (p : PassState) (o : Op) (f : Flight) : Type 0 where
+  pub number : ℕ
+  pub seat : p.seat ≡ Caller number
+  pub within : number < p.table.config.callers
+  pub call : call_of p ≡ f
+  pub admitted : StaysAdmitted p o
+
+-- The caller's register has a heap address, and the word i words on is one of the heap.
+pub record PointsWell (p : PassState) (q i : ℕ) : Type 0 where
+  pub least : 65536 ≤ register_of p q
+  pub word : heap_word_at (register_of p q) + i < 64 * p.table.config.pages

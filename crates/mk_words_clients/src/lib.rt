@@ -1,6 +1,7 @@
 //! Small clients of the shared words: each shows the conditions of its calls from what earlier calls ensure.
 #![tactic(auto)]
 
+mod accesses;
 mod calls;
 mod markers;
 mod threads;
