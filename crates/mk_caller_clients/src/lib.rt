@@ -1,6 +1,8 @@
 //! Small programs over the calls of a caller: what the contracts suffice for.
 #![tactic(auto)]
 
+mod threads;
+
 ghost use Rattle.std.specs.Prelude.{◌≡◌, ◌≢◌, ◌<◌, IfOk, true, []};
 ghost use Rattle.mk_never.specs.declared.operations.Op.TheVariants as op;
 ghost use Rattle.mk_core.specs.declared.events.Seat.TheVariants.{Caller as OfCaller, Host};
@@ -11,6 +13,7 @@ ghost use Rattle.mk_caller_clients.specs.Setters.{IsOnlySetter, IsOnlyStore};
 use mk_caller::{Caller, Refusal};
 use mk_core::Seat;
 use mk_words::{Held, Pass, Words};
+pub use threads::clear_at_once;
 
 /// A pointer that is moved to another register is the same there.
 pub fn moves_through_registers(caller: &mut Caller, d: u8, q: u8) -> Result<bool, Held>
