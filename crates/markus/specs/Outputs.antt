@@ -13,6 +13,7 @@ use Rattle.mk_check.specs.Typing.{TypingFault, first_typing_fault}
 use Rattle.mk_check.specs.Declarations.{config_of}
 use Rattle.mk_check.specs.Output.{output as output_behind}
 use Rattle.mk_core.specs.History.{AreEnabled}
+use Rattle.mk_theorems.specs.Promises.{KeepsAllPromises}
 use Rattle.mk_replay.specs.declared.schedule.Entry.{Entry}
 use Rattle.mk_replay.specs.declared.replaying.ReplayStop.{ReplayStop}
 use Rattle.mk_replay.specs.declared.replaying.ReplayStop.TheVariants as replay
@@ -83,13 +84,14 @@ pub record IsOutputOnProgram (command : Command) (input output : List ℕ) : Typ
   pub accepted : status_of_program command program ≡ Ok
   pub output_is : IsOutputOf command program output
 
--- what `replay` writes on a schedule whose history is enabled: the texts of the scripts so far
+-- what `replay` writes on a schedule whose history is enabled, and keeps all promises: the texts of the scripts so far
 pub record IsOutputOnSchedule (input output : List ℕ) : Type 0 where
   pub program : List Item
   pub schedule : List Entry
   pub is_text : replay_of input ≡ Accepted (program, schedule)
   pub accepted : status_of_schedule program schedule ≡ Ok
   pub enabled : AreEnabled (config_of program 8) (history_of program schedule)
+  pub promises : KeepsAllPromises (config_of program 8) (history_of program schedule)
   pub output_is : output ≡ output_behind program (config_of program 8) (history_of program schedule)
 
 -- what a command writes on an input that it accepts

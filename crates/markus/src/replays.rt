@@ -5,6 +5,7 @@ ghost use Rattle.mk_core.specs.History.{AreEnabled};
 ghost use Rattle.mk_check.specs.Declarations.{config_of};
 ghost use Rattle.mk_check.specs.Output.{output};
 ghost use Rattle.mk_replay.specs.Replays.{history_of};
+ghost use Rattle.mk_theorems.specs.Promises.{KeepsAllPromises};
 ghost use Rattle.markus.specs.Outputs.{IsOutputOnSchedule, status_on, status_of_schedule};
 ghost use Rattle.markus.specs.Statuses.{IsBeforeWriting};
 
@@ -34,6 +35,7 @@ pub fn replayed(alloc: Global, text: &[u8]) -> Result<Vec<u8>, Status>
 fn run(alloc: Global, program: Program, schedule: &Schedule) -> Result<Vec<u8>, Status>
     ensures printed { IfOk result (λ bytes. bytes.items ≡ output program (config_of program 8) (history_of program schedule.now)) }
     ensures enabled { OnOk result (AreEnabled (config_of program 8) (history_of program schedule.now)) }
+    ensures promises { OnOk result (KeepsAllPromises (config_of program 8) (history_of program schedule.now)) }
     ensures accepted { OnOk result (status_of_schedule program schedule.now ≡ Status.Ok) }
     ensures refused { IfErr result (λ status. (status ≡ Status.NoMemory) ⊎ (status ≡ status_of_schedule program schedule.now)) }
     ensures before_writing { IfErr result (λ status. IsBeforeWriting status) }

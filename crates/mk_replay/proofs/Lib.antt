@@ -1,6 +1,8 @@
 pub mod ServedMore
 pub mod RunLaws
 pub mod UnderWay
+pub mod AskedCalls
+pub mod AdmittedSchedules
 mod EntriesRead
 pub mod FormsInTurn
 mod Parts

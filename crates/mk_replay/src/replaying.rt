@@ -3,8 +3,9 @@ ghost use Rattle.std.specs.Prelude.{◌≡◌, ◌≢◌, ℕ, [], length, None,
 ghost use Rattle.mk_script.specs.Scopes.{script_names};
 ghost use Rattle.mk_replay.specs.declared.replaying.ReplayStop.TheVariants as ReplayStop;
 ghost use Rattle.mk_core.specs.Order.{seat_exists};
-ghost use Rattle.mk_core.specs.History.{AreEnabled};
+ghost use Rattle.mk_core.specs.History.{AreEnabled, CallsAreAdmitted};
 ghost use Rattle.mk_check.specs.Declarations.{config_of};
+ghost use Rattle.mk_theorems.specs.Promises.{KeepsAllPromises};
 ghost use Rattle.mk_replay.specs.Replays.{event_of, failing_entry, op_for, history_of, refusal_of, AreTextsOf};
 ghost use Rattle.mk_replay.specs.Players.{EachHasRoom, TakeEvent, IsRunOf, ArePlayersOf, TakesEntry, IsNotEnabled};
 
@@ -161,7 +162,8 @@ impl Run {
 }
 
 /// Runs a schedule's events in order, each caller's with its script's next operation, on a heap for the
-/// program's scripts with eight markers. The texts are those so far when the schedule ends.
+/// program's scripts with eight markers. The texts are those so far when the schedule ends, and its history
+/// keeps all promises.
 pub fn replay(
     alloc: Global,
     program: &Checked,
@@ -169,9 +171,13 @@ pub fn replay(
 ) -> Result<Vec<Text>, ReplayStop>
     ensures enabled { OnOk result (refusal_of program.now schedule.now ≡ None) }
     ensures history { OnOk result (AreEnabled (config_of program.now 8) (history_of program.now schedule.now)) }
+    ensures admitted { OnOk result (CallsAreAdmitted (config_of program.now 8) (history_of program.now schedule.now)) }
+    ensures promises { OnOk result (KeepsAllPromises (config_of program.now 8) (history_of program.now schedule.now)) }
     ensures texts { IfOk result (λ texts. AreTextsOf program.now (history_of program.now schedule.now) texts.items) }
     ensures not_enabled { IfErr result (λ stop. stop ≢ ReplayStop.NoMemory → refusal_of program.now schedule.now ≡ Some stop) }
 {
+    // The program is well typed, so its scripts ask for nothing that isn't admitted.
+    let _well_typed = program.program();
     let mut run = Run::start(alloc, program)?;
     for entry in schedule.entries() {
         run.step(alloc, *entry)?;

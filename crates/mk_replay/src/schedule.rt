@@ -5,7 +5,7 @@ use mk_core::{Seat, Tally, Word};
 use std::marker::Model;
 
 /// A kind of step, with the numbers of its event. What a caller's `Enter` and `Take` carry its script says.
-#[derive(Clone, Copy, Debug, PartialEq, Eq)]
+#[derive(Clone, Copy)]
 pub enum Form {
     Enter,
     Leave,
@@ -50,7 +50,7 @@ pub enum Form {
 }
 
 /// An event of a schedule: its line in the input, and its place in that line, both from 1.
-#[derive(Clone, Copy, Debug, PartialEq, Eq)]
+#[derive(Clone, Copy)]
 pub struct Entry {
     pub seat: Seat,
     pub form: Form,

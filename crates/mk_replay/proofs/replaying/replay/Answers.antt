@@ -1,8 +1,10 @@
 use Rattle.std.proofs.Common.{◌≡◌, ◌≢◌, ◌<◌, rules}
 use Rattle.std.specs.Prelude.{Some}
 use Rattle.mk_replay.specs.declared.replaying.ReplayStop.TheVariants.{NoMemory}
+use Rattle.mk_check.specs.Laws.{IsChecked}
 use Rattle.mk_replay.specs.Replays.{refusal_of, history_of}
 use Rattle.mk_replay.proofs.UnderWay.{room_of, next_under_way, refused_here, over}
+use Rattle.mk_replay.proofs.AdmittedSchedules.{schedule_is_history, schedule_keeps_all_promises}
 use Rattle.mk_replay.proofs.replaying.replay.Goals as goal
 
 pub step-requires : goal.step-requires
@@ -40,3 +42,21 @@ returns-clause-texts c =
     c.in_ok-texts.ensures c.args.program.now (history_of c.args.program.now c.args.schedule.now)
     (over c.args.program.now c.args.schedule.now c.entries-entry-items.result.now c.loop-entry.entry-index c.loop-entry.run
     c.entries-entry-items.ensures c.loop-entry-test.false c.loop-entry.invariant).is_run
+
+-- The scripts of a checked program ask for nothing that isn't admitted.
+
+pub returns-clause-admitted : goal.returns-clause-admitted
+returns-clause-admitted c =
+    let known = c.program-_well_typed.ensures in
+    let checked : IsChecked c.args.program.now = record { well_typed = known.well_typed; of_some_text = known.of_some_text } in
+    (schedule_is_history c.args.program.now c.args.schedule.now checked
+    (over c.args.program.now c.args.schedule.now c.entries-entry-items.result.now c.loop-entry.entry-index c.loop-entry.run
+    c.entries-entry-items.ensures c.loop-entry-test.false c.loop-entry.invariant).enabled).admitted
+
+pub returns-clause-promises : goal.returns-clause-promises
+returns-clause-promises c =
+    let known = c.program-_well_typed.ensures in
+    let checked : IsChecked c.args.program.now = record { well_typed = known.well_typed; of_some_text = known.of_some_text } in
+    schedule_keeps_all_promises c.args.program.now c.args.schedule.now checked
+    (over c.args.program.now c.args.schedule.now c.entries-entry-items.result.now c.loop-entry.entry-index c.loop-entry.run
+    c.entries-entry-items.ensures c.loop-entry-test.false c.loop-entry.invariant).enabled

@@ -1,0 +1,299 @@
+-- The history that a schedule makes of a checked program asks for nothing that isn't admitted, so it is a history of the
+-- program's heap, and keeps all promises.
+use Rattle.std.proofs.Common.{◌≡◌, ◌≢◌, ℕ, eq-eqb, ◌+◌, ◌<◌, ◌≤◌, Bool, true, false, List, [], ◌∷◌, ◌++◌, length, take, map, get_or, set, replicate, refl, sym, ◌∙◌, ap, subst, append-nil, append_assoc, arith, inl, inr}
+use Rattle.std.specs.Prelude.{Option, Some, None, if◌then◌else◌, ◌==◌, ◌&&◌, filter, All}
+use Rattle.std.proofs.lemmas.Bool.{cases_eq, ltb-true}
+use Rattle.std.proofs.lemmas.Bool.Decides.{nat_tests}
+use Rattle.std.proofs.lemmas.List.{map-append, length-append, get_or-replicate, get_or-set_same, get_or-set_other}
+use Rattle.std.proofs.lemmas.List.Elements.{filter-append, All-nil, All-push}
+use Rattle.std.proofs.lemmas.List.Sums.{sum_by_push}
+use Rattle.mk_never.specs.declared.operations.Op.{Op}
+use Rattle.mk_never.specs.declared.operations.Op.TheVariants as op
+use Rattle.mk_script.specs.declared.items.Item.{Item}
+use Rattle.mk_script.specs.Scopes.{script_names}
+use Rattle.mk_script.proofs.PassedLines.{is_whole}
+use Rattle.mk_core.specs.declared.config.Config.{Config}
+use Rattle.mk_core.specs.declared.events.Answer.{Answer}
+use Rattle.mk_core.specs.declared.events.Event.{Event}
+use Rattle.mk_core.specs.declared.events.Seat.{Seat}
+use Rattle.mk_core.specs.declared.events.Seat.TheVariants.{Caller, Marker, Host}
+use Rattle.mk_core.specs.declared.events.Step.{Step}
+use Rattle.mk_core.specs.declared.events.Step.TheVariants as step
+use Rattle.mk_core.specs.declared.seats.Flight.{Flight}
+use Rattle.mk_core.specs.declared.seats.Stage.{Stage}
+use Rattle.mk_core.specs.declared.seats.Stage.TheVariants as stage
+use Rattle.mk_core.specs.Accesses.{caller_number, found}
+use Rattle.mk_core.specs.Calls.{at_rest}
+use Rattle.mk_core.specs.Decided.{Decided, asked, entry_of}
+use Rattle.mk_core.specs.Effects.{progress, flights_behind, answer_decided}
+use Rattle.mk_core.specs.Enabled.{IsEnabled}
+use Rattle.mk_core.specs.Growing.{is_same_seat}
+use Rattle.mk_core.specs.History.{World, first_world, left_from, left, AreEnabled, call_decided, calls_from, calls, IsHistory}
+use Rattle.mk_core.specs.Moments.{Moment, flight_of}
+use Rattle.mk_core.specs.Order.{comes_next, is_in_order}
+use Rattle.mk_core.proofs.Conditions.{enabled_meets}
+use Rattle.mk_core.proofs.Histories.{left_more, enabled_parts, last_enabled, calls_more}
+use Rattle.mk_check.specs.Declarations.{config_of}
+use Rattle.mk_check.specs.Feeding.{next_op}
+use Rattle.mk_check.specs.Laws.{IsChecked, IsScript}
+use Rattle.mk_check.specs.Output.{ends_call, ends_call_of, ended_calls, answers_among, answers_given}
+use Rattle.mk_check.proofs.AdmittedScripts.{first_are_noted, scripts_are_admitted}
+use Rattle.mk_check.proofs.ConfigLemmas.{config_within}
+use Rattle.mk_check.proofs.GivenAnswers.{as_list, counted, serves}
+use Rattle.mk_theorems.specs.Promises.{KeepsAllPromises}
+use Rattle.mk_theorems.proofs.Promises.{histories_keep_all_promises}
+use Rattle.mk_replay.specs.declared.schedule.Entry.{Entry}
+use Rattle.mk_replay.specs.declared.schedule.Form.{Form}
+use Rattle.mk_replay.specs.declared.schedule.Form.TheVariants as form
+use Rattle.mk_replay.specs.Replays.{op_for, step_of, event_of, history_from, history_of}
+use Rattle.mk_replay.proofs.AskedCalls.{Asks, BeginsAsAsked, Waits, same_asks, own_step, others_step, waits}
+
+-- What one event more makes of a caller's answers, and of the count of its calls that ended.
+
+among_more : (k : ℕ) (xs ys : List Decided) → answers_among k (xs ++ ys) ≡ answers_among k xs ++ answers_among k ys
+among_more k xs ys =
+    ap (λ (zs : List Decided). map (λ (x : Decided). x.answer) zs) (filter-append (λ (x : Decided). x.caller == k) xs ys)
+    ∙ map-append (λ (x : Decided). x.answer) (filter (λ (x : Decided). x.caller == k) xs) (filter (λ (x : Decided). x.caller == k) ys)
+
+is_same : (j : ℕ) → (j == j) ≡ true
+is_same j = eq-eqb j j refl
+
+is_other : (j k : ℕ) → j ≢ k → (j == k) ≡ false
+is_other j k other = grind (arith, nat_tests)
+
+own_among : (k : ℕ) (xs : List Decided) (o : Op) (a : Option Answer)
+    → answers_among k (xs ++ entry_of k o a) ≡ answers_among k xs ++ as_list a
+own_among k xs o a = among_more k xs (entry_of k o a) ∙ ap (λ (ys : List Answer). answers_among k xs ++ ys) (here a)
+  where
+    here : (b : Option Answer) → answers_among k (entry_of k o b) ≡ as_list b
+    here (Some b) = rw (is_same k) refl
+    here None = refl
+
+others_among : (k j : ℕ) (xs : List Decided) (o : Op) (a : Option Answer) → j ≢ k
+    → answers_among k (xs ++ entry_of j o a) ≡ answers_among k xs
+others_among k j xs o a other =
+    among_more k xs (entry_of j o a)
+    ∙ (ap (λ (ys : List Answer). answers_among k xs ++ ys) (there a) ∙ append-nil (answers_among k xs))
+  where
+    there : (b : Option Answer) → answers_among k (entry_of j o b) ≡ []
+    there (Some b) = rw (is_other j k other) refl
+    there None = refl
+
+ended_more : (es : List Event) (e : Event) (k : ℕ) → ended_calls k (es ++ e ∷ []) ≡ counted (ended_calls k es) (ends_call_of k e)
+ended_more es e k = sum_by_push (λ (x : Event). if ends_call_of k x then 1 else 0) es e ∙ counts (ends_call_of k e)
+  where
+    counts : (b : Bool) → ended_calls k es + (if b then 1 else 0) ≡ counted (ended_calls k es) b
+    counts true = refl
+    counts false = omega arith
+
+asked_more : (xs ys : List Decided) → asked (xs ++ ys) ≡ asked xs ++ asked ys
+asked_more xs ys = map-append _ xs ys
+
+-- A caller's event is its script's: where it begins a call, it carries what the script asks for next.
+
+no_new_enters : (s : Stage) (f : Op) (d ty : ℕ) (full : Bool) → comes_next s f (step.Enter (op.New d ty full)) ≡ true → ⊥
+no_new_enters stage.Turn (op.New d' ty' full') d ty full h = cc
+no_new_enters stage.Turn f d ty full h = cc
+no_new_enters s f d ty full h = cc
+
+begins_so : (program : List Item) (k : ℕ) (given : List Answer) (x : Form) (o : Option Op) (s : Stage) (f : Op)
+    → next_op program k given ≡ o → comes_next s f (step_of x o) ≡ true → BeginsAsAsked program k given (step_of x o)
+begins_so program k given form.Enter (Some y) s f next order = next
+begins_so program k given form.Enter None s f next order = absurd (no_new_enters s f 0 0 false order)
+begins_so program k given form.Take (Some y) s f next order = next
+begins_so program k given form.Take None s f next order = tt
+begins_so program k given x o s f next order = tt
+
+-- what caller k has called behind a history, as its script asks for it
+abbrev pub AsksBehind : List Item → List Event → ℕ → Type 0
+AsksBehind program es k =
+    Asks program k (flight_of (left (config_of program 8) es).now (Caller k)) (ended_calls k es)
+    (answers_among k (calls (config_of program 8) es)) (asked (calls (config_of program 8) es))
+
+-- The calls of a history are those that the scripts ask for.
+pub record AreAsked (program : List Item) (es : List Event) : Type 0 where
+  pub callers : All (λ call. IsScript program call.caller) (asked (calls (config_of program 8) es))
+  pub each : (k : ℕ) → IsScript program k → AsksBehind program es k
+
+-- Where a step decides that isn't its call's last one, no answer waited.
+once_decided : (n i : ℕ) (before behind : List Answer) (a : Option Answer) (b : Answer) → Waits n before → Waits i behind
+    → i ≡ n → behind ≡ before ++ as_list a → a ≡ Some b → length before ≡ n
+once_decided n i before behind (Some a) b was is same more e =
+    let size = ap length more ∙ length-append before (a ∷ []) in
+    let least = was.0 in
+    let most = is.1 in
+    omega arith
+once_decided n i before behind None b was is same more e = cc
+
+module _ (program : List Item) (es : List Event) where
+  abbrev c : Config
+  c = config_of program 8
+
+  abbrev m : Moment
+  m = (left (config_of program 8) es).now
+
+  asked_behind : (e : Event) → asked (calls c (es ++ e ∷ [])) ≡ asked (calls c es) ++ asked (call_decided c m e)
+  asked_behind e = ap (λ (xs : List Decided). asked xs) (calls_more c (first_world c) es e) ∙ asked_more (calls c es) (call_decided c m e)
+
+  flight_behind : (e : Event) (k : ℕ)
+      → flight_of (left c (es ++ e ∷ [])).now (Caller k) ≡ get_or (flights_behind c m e.seat (found c m e) e.step) k at_rest
+  flight_behind e k = ap (λ (w : World). flight_of w.now (Caller k)) (left_more c (first_world c) es e)
+
+  own_more : (j : ℕ) (s : Step) → AreEnabled c (es ++ record { seat = Caller j; step = s } ∷ [])
+      → BeginsAsAsked program j (answers_given c es j) s
+      → AsksBehind program es j → AsksBehind program (es ++ record { seat = Caller j; step = s } ∷ []) j
+  own_more j s enabled begins h =
+      let e : Event = record { seat = Caller j; step = s } in
+      let f = flight_of m (Caller j) in
+      let p = progress c m f (found c m e) s in
+      let n = ended_calls j es in
+      let all = answers_among j (calls c es) in
+      let meets = enabled_meets c m e (last_enabled c (first_world c) es e enabled) in
+      let before = (enabled_parts c (first_world c) es (e ∷ []) enabled).0 in
+      let inside : j < length m.seats.flights = subst (λ (i : ℕ). j < i) (sym (serves c es j before).long) (ltb-true j c.callers meets.seat) in
+      let ended : ended_calls j (es ++ e ∷ []) ≡ counted n (ends_call s) =
+      ended_more es e j ∙ ap (λ (b : Bool). counted n (b && ends_call s)) (is_same j) in
+      let answered : answers_among j (calls c (es ++ e ∷ [])) ≡ all ++ as_list p.answer =
+      ap (answers_among j) (calls_more c (first_world c) es e) ∙ own_among j (calls c es) f.op p.answer in
+      let once = λ (goes : ends_call s ≡ false) (b : Answer) (is : p.answer ≡ Some b).
+      once_decided n _ all _ p.answer b (waits c es j before) (waits c (es ++ e ∷ []) j enabled) (ended ∙ ap (counted n) goes) answered is in
+      same_asks program j p.flight _ (counted n (ends_call s)) _ (all ++ as_list p.answer) _
+      (asked (calls c es) ++ asked (entry_of j f.op p.answer)) _
+      (flight_behind e j ∙ get_or-set_same m.seats.flights j p.flight at_rest inside) ended answered (asked_behind e)
+      (own_step program j f n all (asked (calls c es)) h c m (found c m e) s meets.order begins once)
+
+  others_more : (j k : ℕ) (s : Step) → j ≢ k
+      → AsksBehind program es k → AsksBehind program (es ++ record { seat = Caller j; step = s } ∷ []) k
+  others_more j k s other h =
+      let e : Event = record { seat = Caller j; step = s } in
+      let f = flight_of m (Caller j) in
+      let n = ended_calls k es in
+      let all = answers_among k (calls c es) in
+      let a = answer_decided c m e in
+      same_asks program k (flight_of m (Caller k)) _ n _ all _ (asked (calls c es) ++ asked (entry_of j f.op a)) _
+      (flight_behind e k ∙ get_or-set_other m.seats.flights j k _ at_rest (λ same. other (sym same)))
+      (ended_more es e k ∙ ap (λ (b : Bool). counted n (b && ends_call s)) (is_other k j (λ same. other (sym same))))
+      (ap (answers_among k) (calls_more c (first_world c) es e) ∙ others_among k j (calls c es) f.op a other)
+      (asked_behind e) (others_step program k (flight_of m (Caller k)) n all (asked (calls c es)) h j f.op a other)
+
+  -- an event of a seat that has no call
+  silent_more : (e : Event) (k : ℕ) → flights_behind c m e.seat (found c m e) e.step ≡ m.seats.flights
+      → call_decided c m e ≡ [] → is_same_seat (Caller k) e.seat ≡ false
+      → AsksBehind program es k → AsksBehind program (es ++ e ∷ []) k
+  silent_more e k still none other h =
+      let n = ended_calls k es in
+      let all = answers_among k (calls c es) in
+      let same : calls c (es ++ e ∷ []) ≡ calls c es =
+      calls_more c (first_world c) es e ∙ (ap (λ (xs : List Decided). calls c es ++ xs) none ∙ append-nil (calls c es)) in
+      same_asks program k (flight_of m (Caller k)) _ n _ all _ (asked (calls c es)) _
+      (flight_behind e k ∙ ap (λ (fs : List Flight). get_or fs k at_rest) still)
+      (ended_more es e k ∙ ap (λ (b : Bool). counted n (b && ends_call e.step)) other)
+      (ap (answers_among k) same) (ap (λ (xs : List Decided). asked xs) same) h
+
+  push_caller : (j : ℕ) (o : Op) (a : Option Answer) → IsScript program j → All (λ call. IsScript program call.caller) (asked (calls c es))
+      → All (λ call. IsScript program call.caller) (asked (calls c es) ++ asked (entry_of j o a))
+  push_caller j o (Some a) is h = All-push (λ call. IsScript program call.caller) (asked (calls c es)) _ h is
+  push_caller j o None is h = subst (All (λ call. IsScript program call.caller)) (sym (append-nil (asked (calls c es)))) h
+
+  callers_more : (e : Event) → call_decided c m e ≡ [] → All (λ call. IsScript program call.caller) (asked (calls c es))
+      → All (λ call. IsScript program call.caller) (asked (calls c (es ++ e ∷ [])))
+  callers_more e none h =
+      subst (All (λ call. IsScript program call.caller))
+      (sym (asked_behind e ∙ (ap (λ (xs : List Decided). asked (calls c es) ++ asked xs) none ∙ append-nil (asked (calls c es))))) h
+
+  one_more : (seat : Seat) (s : Step) → AreEnabled c (es ++ record { seat = seat; step = s } ∷ [])
+      → ((k : ℕ) → seat ≡ Caller k → BeginsAsAsked program k (answers_given c es k) s)
+      → AreAsked program es → AreAsked program (es ++ record { seat = seat; step = s } ∷ [])
+  one_more (Caller j) s enabled begins h =
+      let e : Event = record { seat = Caller j; step = s } in
+      let meets = enabled_meets c m e (last_enabled c (first_world c) es e enabled) in
+      record {
+        callers = subst (All (λ call. IsScript program call.caller)) (sym (asked_behind e))
+            (push_caller j (flight_of m (Caller j)).op (answer_decided c m e) (ltb-true j c.callers meets.seat) h.callers);
+        each = λ k is. elim (cases_eq j k) [
+          | inl same ↦ subst (λ (i : ℕ). AsksBehind program (es ++ e ∷ []) i) same
+              (own_more j s enabled (begins j refl) (subst (λ (i : ℕ). AsksBehind program es i) (sym same) (h.each k is)))
+          | inr other ↦ others_more j k s other (h.each k is)
+        ];
+      }
+  one_more (Marker j) s enabled begins h =
+      let e : Event = record { seat = Marker j; step = s } in
+      record { callers = callers_more e refl h.callers; each = λ k is. silent_more e k refl refl refl (h.each k is) }
+  one_more Host s enabled begins h =
+      let e : Event = record { seat = Host; step = s } in
+      record { callers = callers_more e refl h.callers; each = λ k is. silent_more e k refl refl refl (h.each k is) }
+
+  entry_more : (x : Entry) → AreEnabled c (es ++ event_of program es x ∷ [])
+      → AreAsked program es → AreAsked program (es ++ event_of program es x ∷ [])
+  entry_more x enabled h =
+      let s = step_of x.form (op_for program es x.seat) in
+      let e : Event = record { seat = x.seat; step = s } in
+      let meets = enabled_meets c m e (last_enabled c (first_world c) es e enabled) in
+      one_more x.seat s enabled (by_seat x.seat meets.order) h
+    where
+      by_seat : (seat : Seat) → is_in_order c m seat (step_of x.form (op_for program es seat)) ≡ true
+          → (k : ℕ) → seat ≡ Caller k → BeginsAsAsked program k (answers_given c es k) (step_of x.form (op_for program es seat))
+      by_seat (Caller j) order k is =
+          let same : j ≡ k = cc in
+          subst (λ (i : ℕ). BeginsAsAsked program i (answers_given c es i) (step_of x.form (next_op program j (answers_given c es j)))) same
+          (begins_so program j (answers_given c es j) x.form _ (flight_of m (Caller j)).stage (flight_of m (Caller j)).op refl order)
+      by_seat (Marker j) order k is = cc
+      by_seat Host order k is = cc
+
+-- Along a schedule.
+
+record GoesOn (program : List Item) (es : List Event) (xs : List Entry) : Type 0 where
+  more : List Event
+  are : history_from program es xs ≡ es ++ more
+
+goes_on : (program : List Item) (es : List Event) (xs : List Entry) → GoesOn program es xs
+unfolding history_from
+goes_on program es [] = record { more = []; are = sym (append-nil es) }
+goes_on program es (x ∷ xs) =
+    let e = event_of program es x in
+    let later = goes_on program (es ++ e ∷ []) xs in
+    record { more = e ∷ later.more; are = later.are ∙ append_assoc es (e ∷ []) later.more }
+
+asked_along : (program : List Item) (es : List Event) (xs : List Entry) → AreEnabled (config_of program 8) (history_from program es xs)
+    → AreAsked program es → AreAsked program (history_from program es xs)
+unfolding history_from
+asked_along program es [] enabled h = h
+asked_along program es (x ∷ xs) enabled h =
+    let c = config_of program 8 in
+    let next = es ++ event_of program es x ∷ [] in
+    let later = goes_on program next xs in
+    let front = (enabled_parts c (first_world c) next later.more (subst (λ (all : List Event). AreEnabled c all) later.are enabled)).0 in
+    asked_along program next xs enabled (entry_more program es x front h)
+
+none_asked : (program : List Item) → AreAsked program []
+unfolding left_from calls_from
+none_asked program = record {
+  callers = All-nil (λ call. IsScript program call.caller);
+  each = λ k is. record {
+    noted = first_are_noted program k;
+    next = λ _ busy. absurd (busy (ap (λ (f : Flight). f.stage) (get_or-replicate (length (script_names program)) k at_rest at_rest is)));
+  };
+}
+
+-- The history of a checked program's schedule, where its events are enabled, is one of the program's heap.
+pub schedule_is_history : (program : List Item) (schedule : List Entry) → IsChecked program
+    → AreEnabled (config_of program 8) (history_of program schedule) → IsHistory (config_of program 8) (history_of program schedule)
+schedule_is_history program schedule checked enabled =
+    let c = config_of program 8 in
+    let es = history_of program schedule in
+    let h = asked_along program [] schedule enabled (none_asked program) in
+    record {
+      within_limits = config_within program 8 (is_whole program checked.of_some_text) checked.well_typed (omega arith);
+      enabled = enabled;
+      admitted =
+          scripts_are_admitted program (length (script_names program)) (asked (calls c es)) checked (omega arith)
+          (record {
+            callers = h.callers;
+            ops = λ k is. record { answers = answers_among k (calls c es); are_noted = (h.each k is).noted };
+          });
+    }
+
+pub schedule_keeps_all_promises : (program : List Item) (schedule : List Entry) → IsChecked program
+    → AreEnabled (config_of program 8) (history_of program schedule) → KeepsAllPromises (config_of program 8) (history_of program schedule)
+schedule_keeps_all_promises program schedule checked enabled =
+    histories_keep_all_promises (config_of program 8) (history_of program schedule) (schedule_is_history program schedule checked enabled)

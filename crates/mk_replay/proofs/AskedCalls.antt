@@ -1,0 +1,174 @@
+-- A caller's calls are those that its script notes, and its call in flight is what the script asks for next.
+use Rattle.std.proofs.Common.{◌≡◌, ◌≢◌, ℕ, ◌+◌, ◌≤◌, Bool, true, false, List, [], ◌∷◌, ◌++◌, length, take, refl, sym, ◌∙◌, ap, subst, append-nil, arith}
+use Rattle.std.specs.Prelude.{⊤, Option, Some, None, if◌then◌else◌, ◌==◌}
+use Rattle.std.proofs.lemmas.List.{length-append, take_all}
+use Rattle.mk_never.specs.declared.operations.Op.{Op}
+use Rattle.mk_never.specs.declared.operations.Op.TheVariants as op
+use Rattle.mk_never.specs.NeverHeap.{Call}
+use Rattle.mk_geom.specs.declared.addresses.Cell.{Cell}
+use Rattle.mk_script.specs.declared.items.Item.{Item}
+use Rattle.mk_core.specs.declared.config.Config.{Config}
+use Rattle.mk_core.specs.declared.events.Answer.{Answer}
+use Rattle.mk_core.specs.declared.events.Event.{Event}
+use Rattle.mk_core.specs.declared.events.Seat.TheVariants.{Caller}
+use Rattle.mk_core.specs.declared.events.Step.{Step}
+use Rattle.mk_core.specs.declared.events.Step.TheVariants as step
+use Rattle.mk_core.specs.declared.seats.Stage.{Stage}
+use Rattle.mk_core.specs.declared.seats.Stage.TheVariants as stage
+use Rattle.mk_core.specs.declared.seats.Flight.{Flight}
+use Rattle.mk_core.specs.declared.seats.Progress.{Progress}
+use Rattle.mk_core.specs.Calls.{at_rest, begun, still, progress_q, progress_p, progress_reg, progress_read}
+use Rattle.mk_core.specs.Decided.{asked, entry_of}
+use Rattle.mk_core.specs.Effects.{progress, progress_freed}
+use Rattle.mk_core.specs.History.{left, AreEnabled, calls}
+use Rattle.mk_core.specs.Moments.{Moment, flight_of}
+use Rattle.mk_core.specs.Order.{comes_next}
+use Rattle.mk_core.specs.TurnConditions.{cell_freed}
+use Rattle.mk_check.specs.Feeding.{next_op}
+use Rattle.mk_check.specs.Laws.{AreNotedBy}
+use Rattle.mk_check.specs.Output.{ends_call, ended_calls, answers_among}
+use Rattle.mk_check.proofs.AdmittedScripts.{answers_are_noted, others_are_ignored}
+use Rattle.mk_check.proofs.GivenAnswers.{as_list, counted, Serves, serves}
+
+-- the first step of a call
+abbrev pub begins_call : Step → Bool
+begins_call (step.Enter o) = true
+begins_call (step.Take (Some o)) = true
+begins_call _ = false
+
+-- A call keeps its operation up to its last step.
+
+either_op : (b : Bool) (x y : Progress) (o : Op) → x.flight.op ≡ o → y.flight.op ≡ o → (if b then x else y).flight.op ≡ o
+either_op true x y o a b = a
+either_op false x y o a b = b
+
+q_op : (f : Flight) (o : Op) (n : ℕ) → (progress_q f o n).flight.op ≡ f.op
+q_op f (op.Move d q) n = refl
+q_op f (op.Same p q) n = refl
+q_op f _ n = either_op (n == 0) _ _ f.op refl refl
+
+p_op : (f : Flight) (o : Op) (n : ℕ) → (progress_p f o n).flight.op ≡ f.op
+p_op f (op.IsNull p) n = refl
+p_op f (op.Free p) n = either_op (n == 0) _ _ f.op refl refl
+p_op f _ n = refl
+
+reg_op : (f : Flight) (s : Stage) (n : ℕ) → (progress_reg f s n).flight.op ≡ f.op
+reg_op f stage.LoadQ n = q_op f f.op n
+reg_op f stage.LoadP n = p_op f f.op n
+reg_op f _ n = refl
+
+read_op : (f : Flight) (o : Op) (n : ℕ) → (progress_read f o n).flight.op ≡ f.op
+read_op f (op.GetPtr d q i) n = refl
+read_op f _ n = refl
+
+freed_op : (f : Flight) (x : Option Cell) → (progress_freed f x).flight.op ≡ f.op
+freed_op f (Some cell) = refl
+freed_op f None = refl
+
+op_stays : (c : Config) (m : Moment) (f : Flight) (n : ℕ) (x : Step) → begins_call x ≡ false → ends_call x ≡ false
+    → (progress c m f n x).flight.op ≡ f.op
+op_stays c m f n (step.Enter o) b e = cc
+op_stays c m f n (step.Take (Some o)) b e = cc
+op_stays c m f n step.Leave b e = cc
+op_stays c m f n step.Give b e = cc
+op_stays c m f n step.Reg b e = reg_op f f.stage n
+op_stays c m f n step.Probe b e = either_op _ _ _ f.op refl refl
+op_stays c m f n step.Read b e = read_op f f.op n
+op_stays c m f n (step.Look x) b e = either_op _ _ _ f.op refl refl
+op_stays c m f n (step.Quar p v) b e = freed_op f (cell_freed c.pages m.words f p v)
+op_stays c m f n _ b e = refl
+
+-- only a call's first step comes next at rest
+not_at_rest : (s : Stage) (o : Op) (x : Step) → begins_call x ≡ false → comes_next s o x ≡ true → s ≢ stage.Idle
+not_at_rest stage.Idle o (step.Enter y) b h = cc
+not_at_rest stage.Idle o (step.Take (Some y)) b h = cc
+not_at_rest stage.Idle o _ b h = cc
+not_at_rest _ o x b h = λ e. cc
+
+-- Where n calls of a caller have ended, n of its answers are decided, or one more.
+
+abbrev flight : Stage → Op → ℕ → ℕ → ℕ → ℕ → Flight
+flight s o q p r l = record { stage = s; op = o; q = q; p = p; r = r; loaded = l }
+
+abbrev pub Waits : ℕ → List Answer → Type 0
+Waits n answers = (n ≤ length answers) × (length answers ≤ n + 1)
+
+at_stage : (s : Stage) (o : Op) (q p r l n : ℕ) (answers : List Answer) → Serves 1 (flight s o q p r l ∷ []) 0 n answers → Waits n answers
+at_stage stage.Idle o q p r l n answers h = let d = h.decided in (omega arith, omega arith)
+at_stage _ o q p r l n answers h = let d = h.decided in (omega arith, omega arith)
+
+pub waits : (c : Config) (es : List Event) (k : ℕ) → AreEnabled c es → Waits (ended_calls k es) (answers_among k (calls c es))
+waits c es k enabled =
+    let f = flight_of (left c es).now (Caller k) in
+    let h = serves c es k enabled in
+    at_stage f.stage f.op f.q f.p f.r f.loaded (ended_calls k es) (answers_among k (calls c es))
+    (record { long = refl; stage = h.stage; decided = h.decided })
+
+-- The caller's calls are those that script k notes, fed with the answers; n of them have ended. Where its call in flight
+-- isn't decided, it is what the script asks for next.
+pub record Asks (program : List Item) (k : ℕ) (f : Flight) (n : ℕ) (answers : List Answer) (calls : List Call) : Type 0 where
+  pub noted : AreNotedBy program k answers calls
+  pub next : length answers ≡ n → f.stage ≢ stage.Idle → next_op program k answers ≡ Some f.op
+
+pub same_asks : (program : List Item) (k : ℕ) (f g : Flight) (n i : ℕ) (answers given : List Answer) (calls made : List Call)
+    → g ≡ f → i ≡ n → given ≡ answers → made ≡ calls → Asks program k f n answers calls → Asks program k g i given made
+same_asks program k f g n i answers given calls made a b d e h = rw (a, b, d, e) h
+
+-- What script k asks for next, where this is the step that begins a call.
+abbrev pub BeginsAsAsked : List Item → ℕ → List Answer → Step → Type 0
+BeginsAsAsked program k given (step.Enter o) = next_op program k given ≡ Some o
+BeginsAsAsked program k given (step.Take (Some o)) = next_op program k given ≡ Some o
+BeginsAsAsked program k given _ = ⊤
+
+module _ (program : List Item) (k : ℕ) (f : Flight) (n : ℕ) (answers : List Answer) (calls : List Call)
+    (h : Asks program k f n answers calls) where
+  -- behind a step that decides nothing
+  quiet : (new : Flight) (i : ℕ) → (length answers ≡ i → new.stage ≢ stage.Idle → next_op program k answers ≡ Some new.op)
+      → Asks program k new i (answers ++ []) (calls ++ [])
+  quiet new i next =
+      same_asks program k new new i i answers (answers ++ []) calls (calls ++ []) refl refl (append-nil answers) (append-nil calls)
+      (record { noted = h.noted; next = next })
+
+  -- behind one that isn't its call's first or last one
+  decides : (new : Flight) (a : Option Answer) → new.op ≡ f.op → f.stage ≢ stage.Idle → ((b : Answer) → a ≡ Some b → length answers ≡ n)
+      → Asks program k new n (answers ++ as_list a) (calls ++ asked (entry_of k f.op a))
+  decides new (Some a) same busy once = record {
+    noted = answers_are_noted program k answers calls h.noted f.op a (h.next (once a refl) busy);
+    next = λ e. (let few = once a refl in let more = length-append answers (a ∷ []) in absurd (omega arith));
+  }
+  decides new None same busy once = quiet new n (λ few _. h.next few busy ∙ ap (λ (o : Op). Some o) (sym same))
+
+  -- what one of the caller's own steps leaves
+  abbrev pub OwnAsks : ℕ → Progress → Type 0
+  OwnAsks i p = Asks program k p.flight i (answers ++ as_list p.answer) (calls ++ asked (entry_of k f.op p.answer))
+
+  begins : (o : Op) → next_op program k (take n answers) ≡ Some o → (free : Bool)
+      → OwnAsks n (if free then record { flight = begun o; answer = None } else still f)
+  begins o next true =
+      let all = λ (few : length answers ≡ n). take_all n answers (omega (arith, few)) in
+      quiet (begun o) n (λ few _. subst (λ (xs : List Answer). next_op program k xs ≡ Some o) (all few) next)
+  begins o next false = quiet f n h.next
+
+  ends : OwnAsks (n + 1) (record { flight = at_rest; answer = None })
+  ends = quiet at_rest (n + 1) (λ _ busy. absurd (busy refl))
+
+  goes : (c : Config) (m : Moment) (found : ℕ) (x : Step) → begins_call x ≡ false → ends_call x ≡ false → comes_next f.stage f.op x ≡ true
+      → ((b : Answer) → (progress c m f found x).answer ≡ Some b → length answers ≡ n) → OwnAsks n (progress c m f found x)
+  goes c m found x b e order once =
+      let p = progress c m f found x in
+      decides p.flight p.answer (op_stays c m f found x b e) (not_at_rest f.stage f.op x b order) once
+
+  pub own_step : (c : Config) (m : Moment) (found : ℕ) (x : Step)
+      → comes_next f.stage f.op x ≡ true → BeginsAsAsked program k (take n answers) x
+      → (ends_call x ≡ false → (b : Answer) → (progress c m f found x).answer ≡ Some b → length answers ≡ n)
+      → OwnAsks (counted n (ends_call x)) (progress c m f found x)
+  own_step c m found (step.Enter o) order begun once = begins o begun (found == 0)
+  own_step c m found (step.Take (Some o)) order begun once = begins o begun (found == 0)
+  own_step c m found step.Leave order begun once = ends
+  own_step c m found step.Give order begun once = ends
+  own_step c m found x order begun once = goes c m found x refl refl order (once refl)
+
+  -- another's call, if one is decided
+  pub others_step : (j : ℕ) (o : Op) (a : Option Answer) → j ≢ k → Asks program k f n answers (calls ++ asked (entry_of j o a))
+  others_step j o (Some a) other = record { noted = others_are_ignored program k answers calls h.noted _ other; next = h.next }
+  others_step j o None other = same_asks program k f f n n answers answers calls (calls ++ []) refl refl refl (append-nil calls) h
