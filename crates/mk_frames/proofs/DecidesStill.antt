@@ -1,0 +1,213 @@
+-- The call that an event decides behind a list, it decides behind what others did since, and it is admitted there.
+use Rattle.std.proofs.Common.{Bool, List, [], ap, inl, inr, refl, subst, sym, true, ℕ, ◌++◌, ◌<◌, ◌∙◌, ◌∷◌, ◌≡◌}
+use Rattle.std.specs.Prelude.{None, Some, if◌then◌else◌, is_some, not, ◌&&◌, ◌==◌}
+use Rattle.std.proofs.lemmas.Bool.{cases_Bool, ltb-true}
+use Rattle.mk_never.specs.Admitted.{AreAdmitted}
+use Rattle.mk_never.specs.NeverHeap.{Call}
+use Rattle.mk_geom.specs.Headers.{header_of}
+use Rattle.mk_core.specs.declared.accesses.TableWord.{TableWord}
+use Rattle.mk_core.specs.declared.config.Config.{Config}
+use Rattle.mk_core.specs.declared.events.Answer.TheVariants as answer
+use Rattle.mk_core.specs.declared.events.Event.{Event}
+use Rattle.mk_core.specs.declared.events.Seat.{Seat}
+use Rattle.mk_core.specs.declared.events.Seat.TheVariants.{Caller, Host, Marker}
+use Rattle.mk_core.specs.declared.events.Step.{Step}
+use Rattle.mk_core.specs.declared.events.Step.TheVariants as step
+use Rattle.mk_core.specs.declared.events.Word.{Word}
+use Rattle.mk_core.specs.declared.seats.Flight.{Flight}
+use Rattle.mk_core.specs.declared.seats.Stage.TheVariants as stage
+use Rattle.mk_core.specs.Accesses.{found, reached, register_met}
+use Rattle.mk_core.specs.Calls.{onward, page_met, q_of, refused}
+use Rattle.mk_core.specs.Cells.{header_in, is_unmapped_header}
+use Rattle.mk_core.specs.Decided.{asked, entry_of}
+use Rattle.mk_core.specs.Effects.{answer_decided, progress, sees_double}
+use Rattle.mk_core.specs.Enabled.{IsEnabled}
+use Rattle.mk_core.specs.Frames.{IsInCall, IsLeft, Steady}
+use Rattle.mk_core.specs.Growing.{AreOfOthers}
+use Rattle.mk_core.specs.History.{IsHistory, World, call_decided, left, never_behind}
+use Rattle.mk_core.specs.Moments.{flight_of}
+use Rattle.mk_core.specs.NewPlaces.{target}
+use Rattle.mk_core.specs.Readings.{Holds}
+use Rattle.mk_core.specs.TurnConditions.{cell_freed, frees}
+use Rattle.mk_core.specs.Words.{Words, word_in}
+use Rattle.mk_core.proofs.Conditions.{enabled_meets}
+use Rattle.mk_protocol.proofs.Actors.{Meets, is_holders}
+use Rattle.mk_protocol.proofs.NextSteps.{at_its_stage}
+use Rattle.mk_protocol.proofs.Operands.{operands_of, register_small}
+use Rattle.mk_protocol.proofs.OrderlyLists.{actor_of, not_astray}
+use Rattle.mk_protocol.proofs.Reaching.{others_leave_accesses}
+use Rattle.mk_protocol.proofs.Stages.{calls_stand, is_call_stage}
+use Rattle.mk_protocol.proofs.Standings.{InCall, in_call_told, is_standing_in_call, standing}
+use Rattle.mk_images.proofs.CallSorts.{admitted_call, call_outside}
+use Rattle.mk_frames.proofs.AdmittedStill.{call_on}
+use Rattle.mk_frames.proofs.AskedStill.{asked_the_same}
+use Rattle.mk_frames.proofs.EnabledStill.{before, left_to}
+use Rattle.mk_frames.proofs.Holders.{acts_as_holder, holds_is}
+use Rattle.mk_frames.proofs.LastEvents.{Stands, stands}
+use Rattle.mk_frames.proofs.OtherCalls.{never_continues, registers_are_left}
+use Rattle.mk_frames.proofs.ProbesStill.{probe_still}
+
+-- The word that a `probe` finds is a header of a page that the call meets.
+abbrev probed : Words → Flight → Bool
+probed x f = is_unmapped_header (header_in x (page_met f))
+
+-- one event of a caller, in words that say which event it is
+abbrev of_caller : ℕ → Step → Event
+of_caller k x = record { seat = Caller k; step = x }
+
+module _ (c : Config) (es more : List Event) (k : ℕ) (x : Step) (h : IsHistory c (es ++ more))
+    (others : AreOfOthers (Caller k ∷ []) more)
+    (on : IsEnabled c (left c es).now (record { seat = Caller k; step = x }))
+    (admitted : AreAdmitted c.globals (never_behind c es)
+    (asked (call_decided c (left c es).now (record { seat = Caller k; step = x })))) where
+  abbrev w : World
+  w = left c es
+
+  abbrev v : World
+  v = left c (es ++ more)
+
+  abbrev f : Flight
+  f = flight_of w.now (Caller k)
+
+  here : Stands c es
+  here = stands c es (before c es more (of_caller k x) h others)
+
+  there : Stands c (es ++ more)
+  there = stands c (es ++ more) h
+
+  kept : IsLeft c (Caller k) es (es ++ more)
+  kept = left_to c es more (of_caller k x) h others
+
+  meets : Meets c w.now (Caller k) x
+  meets = enabled_meets c w.now (of_caller k x) on
+
+  lt : k < c.callers
+  lt = ltb-true k c.callers meets.seat
+
+  holding : is_holders x ≡ true → Holds c w.now (Caller k)
+  holding is = holds_is c w.now (Caller k) here.known.now.orderly (acts_as_holder c w.now (Caller k) x
+      (actor_of c w.now (Caller k) x here.known.now.orderly meets) is)
+
+  same_word : reached c v.now (of_caller k x) ≡ reached c w.now (of_caller k x)
+  same_word = (others_leave_accesses c es more (of_caller k x) h.within_limits h.enabled others on).word
+
+  -- An own register shows what it did.
+  finds_register : x ≡ step.Reg → found c v.now (of_caller k x) ≡ found c w.now (of_caller k x)
+  finds_register is =
+      ap (λ (y : TableWord). word_in v.now.words y) same_word
+      ∙ subst (λ (s : Step). word_in v.now.words (reached c w.now (of_caller k s))
+      ≡ word_in w.now.words (reached c w.now (of_caller k s))) (sym is)
+      (kept.own.registers k (register_met f f.stage) refl
+      (register_small f f.stage (operands_of c f.op (here.known.now.operands k))))
+
+  -- A page shows the call whether it is unmapped, as it did.
+
+  at_probe : x ≡ step.Probe → f.stage ≡ stage.Probe
+  at_probe is =
+      at_its_stage f.stage f.op step.Probe refl (subst (λ (s : Step). Meets c w.now (Caller k) s) is meets).order
+
+  in_call : x ≡ step.Probe → standing f ≡ InCall
+  in_call is = calls_stand f.stage f.op (ap is_call_stage (at_probe is))
+      (not_astray c w.now here.known.now.orderly k lt)
+
+  is_in : x ≡ step.Probe → IsInCall w.now (Caller k)
+  is_in is = sym (in_call_told f.stage f.op (not_astray c w.now here.known.now.orderly k lt))
+      ∙ ap is_standing_in_call (in_call is)
+
+  pub probes_the_same : x ≡ step.Probe → probed v.now.words f ≡ probed w.now.words f
+  probes_the_same is = elim (cases_Bool (probed w.now.words f)) [
+    | inr mapped ↦ (kept.in_call k refl (is_in is)).mapped (page_met f) mapped ∙ sym mapped
+    | inl unmapped ↦
+        let out = call_outside f.op f.stage (ap is_call_stage (at_probe is))
+        (not_astray c w.now here.known.now.orderly k lt) in
+        let decides : AreAdmitted c.globals (never_behind c es) (asked (entry_of k f.op (Some answer.Fault))) =
+        subst (λ (b : Bool). AreAdmitted c.globals (never_behind c es)
+        (asked (entry_of k f.op (if b then refused f answer.Fault else onward f None).answer))) unmapped
+        (subst (λ (s : Step). AreAdmitted c.globals (never_behind c es) (asked (call_decided c w.now (of_caller k s))))
+        is admitted) in
+        let register =
+        registers_are_left c es more k h others (q_of f.op) (operands_of c f.op (here.known.now.operands k)).q in
+        probe_still c w v (never_behind c es) (never_behind c (es ++ more)) here.known there.known here.all there.all k
+        lt kept.own.flight (at_probe is)
+        (never_continues c es more) register (admitted_call c.globals (never_behind c es) k f.op answer.Fault out
+        decides) unmapped ∙ sym unmapped
+  ]
+
+  finds_header : x ≡ step.Probe → is_unmapped_header (header_of (found c v.now (of_caller k x)))
+      ≡ is_unmapped_header (header_of (found c w.now (of_caller k x)))
+  finds_header is =
+      ap (λ (y : TableWord). is_unmapped_header (header_of (word_in v.now.words y))) same_word
+      ∙ subst (λ (s : Step).
+      is_unmapped_header (header_of (word_in v.now.words (reached c w.now (of_caller k s))))
+      ≡ is_unmapped_header (header_of (word_in w.now.words (reached c w.now (of_caller k s)))))
+      (sym is) (probes_the_same is)
+
+  -- The turn's holder sees the same freed bits and target.
+
+  sees_freed : (y : Word) → x ≡ step.Look y
+      → sees_double v.now.words (target c.pages v.now.words f) y ≡ sees_double w.now.words
+      (target c.pages w.now.words f) y
+  sees_freed y is =
+      ap (λ (s : Steady). sees_double (record w.now.words { pages = s.pages; freed = s.freed })
+      (target c.pages (record w.now.words { pages = s.pages; freed = s.freed }) f) y)
+      (kept.turn (holding (ap is_holders is))).0.steady
+
+  frees_the_same : (p n : ℕ) → x ≡ step.Quar p n
+      → cell_freed c.pages v.now.words f p n ≡ cell_freed c.pages w.now.words f p n
+  frees_the_same p n is =
+      ap (λ (s : Steady).
+      if not (s.phase == 4)
+      && frees (record w.now.words { pages = s.pages; freed = s.freed; snapshot = s.snapshot })
+      (target c.pages (record w.now.words { pages = s.pages; freed = s.freed; snapshot = s.snapshot }) f) p n
+      then target c.pages (record w.now.words { pages = s.pages; freed = s.freed; snapshot = s.snapshot }) f
+      else None)
+      (kept.turn (holding (ap is_holders is))).0.steady
+
+  pub caller_asks_the_same : asked (call_decided c v.now (of_caller k x)) ≡ asked (call_decided c w.now (of_caller k x))
+  caller_asks_the_same =
+      ap (λ (g : Flight). asked (entry_of k g.op (progress c v.now g (found c v.now (of_caller k x)) x).answer))
+      kept.own.flight
+      ∙ asked_the_same c w.now v.now k f (found c w.now (of_caller k x)) (found c v.now (of_caller k x)) x
+      (record { reg = finds_register; probe = finds_header; look = sees_freed; quar = frees_the_same })
+
+  pub caller_is_admitted : AreAdmitted c.globals (never_behind c (es ++ more))
+      (asked (call_decided c v.now (of_caller k x)))
+  caller_is_admitted =
+      subst (λ (ys : List Call). AreAdmitted c.globals (never_behind c (es ++ more)) ys) (sym caller_asks_the_same)
+      (call_on c.globals (never_behind c es) (never_behind c (es ++ more)) k (never_continues c es more)
+      (registers_are_left c es more k h others) here.all.mirrors.typed
+      f.op (answer_decided c w.now (of_caller k x)) admitted)
+
+  -- whether a `probe` decides
+  pub caller_decides_the_same : x ≡ step.Probe
+      → is_some (answer_decided c v.now (of_caller k x)) ≡ is_some (answer_decided c w.now (of_caller k x))
+  caller_decides_the_same is =
+      subst (λ (s : Step). is_some (answer_decided c v.now (of_caller k s))
+      ≡ is_some (answer_decided c w.now (of_caller k s))) (sym is)
+      (ap (λ (g : Flight). is_some (if probed v.now.words g then refused g answer.Fault else onward g
+      None).answer) kept.own.flight
+      ∙ ap (λ (b : Bool). is_some (if b then refused f answer.Fault else onward f None).answer) (probes_the_same is))
+
+pub still_admitted : (c : Config) (es more : List Event) (seat : Seat) (x : Step) → IsHistory c (es ++ more)
+    → AreOfOthers (seat ∷ []) more
+    → IsEnabled c (left c es).now (record { seat = seat; step = x })
+    → AreAdmitted c.globals (never_behind c es)
+    (asked (call_decided c (left c es).now (record { seat = seat; step = x })))
+    → AreAdmitted c.globals (never_behind c (es ++ more))
+    (asked (call_decided c (left c (es ++ more)).now (record { seat = seat; step = x })))
+still_admitted c es more (Caller k) x h others on admitted = caller_is_admitted c es more k x h others on admitted
+still_admitted c es more (Marker k) x h others on admitted = tt
+still_admitted c es more Host x h others on admitted = tt
+
+pub still_decides : (c : Config) (es more : List Event) (seat : Seat) (x : Step) → IsHistory c (es ++ more)
+    → AreOfOthers (seat ∷ []) more
+    → IsEnabled c (left c es).now (record { seat = seat; step = x })
+    → AreAdmitted c.globals (never_behind c es)
+    (asked (call_decided c (left c es).now (record { seat = seat; step = x })))
+    → x ≡ step.Probe
+    → is_some (answer_decided c (left c (es ++ more)).now (record { seat = seat; step = x }))
+    ≡ is_some (answer_decided c (left c es).now (record { seat = seat; step = x }))
+still_decides c es more (Caller k) x h others on admitted is =
+    caller_decides_the_same c es more k x h others on admitted is
+still_decides c es more (Marker k) x h others on admitted is = refl
+still_decides c es more Host x h others on admitted is = refl
