@@ -1,7 +1,7 @@
 -- What the steps of the turn's holder leave.
 use Rattle.std.proofs.Common.{◌≡◌, ◌≢◌, ℕ, zero, suc, ◌+◌, ◌<◌, ◌≤◌, Bool, true, false, List, [], ◌∷◌, ◌++◌, length, Option, refl, sym, ◌∙◌, ap, subst, arith}
-use Rattle.std.specs.Prelude.{slice_index, ◌==◌, Some, None, if◌then◌else◌, not, ◌&&◌}
-use Rattle.std.proofs.lemmas.Bool.{and_from, ltb-true, eq-eqb, ne_eqb, eqb-true, not-true}
+use Rattle.std.specs.Prelude.{slice_index, slice_set, nat_lt, ◌||◌, ◌==◌, Some, None, if◌then◌else◌, not, ◌&&◌}
+use Rattle.std.proofs.lemmas.Bool.{and_from, and_parts, ltb-true, eq-eqb, ne_eqb, eqb-true, eqb-false, not-true}
 use Rattle.std.proofs.lemmas.List.{get_or-set_same}
 use Rattle.mk_never.specs.declared.operations.Op.{Op}
 use Rattle.mk_never.specs.declared.operations.Op.TheVariants as op
@@ -21,12 +21,14 @@ use Rattle.mk_core.specs.Words.{Words}
 use Rattle.mk_core.specs.Calls.{at_rest, begun, progress_q, progress_p, progress_reg, progress_read}
 use Rattle.mk_core.specs.Order.{seat_exists, is_in_order}
 use Rattle.mk_core.specs.Accesses.{found, register_met, reg_access, caller_number}
-use Rattle.mk_core.specs.Moments.{Moment, flight_of, holder_number, nothing_done, none_is_held, is_held}
+use Rattle.mk_core.specs.Moments.{Moment, flight_of, holder_number, nothing_done, none_is_held, is_held, is_number_of, others_are_held}
 use Rattle.mk_core.specs.Effects.{progress, progress_freed, begins_where_free, moment_behind}
 use Rattle.mk_core.specs.TurnConditions.{cell_freed}
 use Rattle.mk_core.specs.Order.{comes_next_to_host, host_has_turn, is_open_to, group_of}
 use Rattle.mk_core.specs.Readings.{Holds}
 use Rattle.mk_core.specs.History.{World, left, IsHistory}
+use Rattle.mk_core.specs.Frames.{HoldsAll, Written}
+use Rattle.mk_core.proofs.Lengths.{histories_keep_lengths}
 use Rattle.mk_protocol.specs.Protocol.{Protocol}
 use Rattle.mk_protocol.proofs.NextSteps.{at_take, at_no_take}
 use Rattle.mk_protocol.proofs.SameWords.{Behind, reg_keeps, tally_keeps}
@@ -34,7 +36,7 @@ use Rattle.mk_protocol.proofs.Protocols.{lists_keep_the_protocol}
 use Rattle.mk_words.specs.Seats.{Has}
 use Rattle.mk_words.specs.States.{PassState, now_of, call_of, world_of, event_of}
 use Rattle.mk_words.specs.Steps.{Makes, moment_of, found_by, Finds, Tells}
-use Rattle.mk_words.specs.TurnSteps.{op_for, IsTurn, begun_for, IsFresh, turn_stays, Acts}
+use Rattle.mk_words.specs.TurnSteps.{op_for, IsTurn, begun_for, IsFresh, turn_stays, gates_stay, world_at, Acts}
 use Rattle.mk_words.proofs.Made.{Made, made}
 use Rattle.mk_words.proofs.CallSteps.{begins}
 
@@ -68,6 +70,17 @@ turn_word_stays c m seat step.Reg h =
     (reg_keeps m.words (caller_number seat) (register_met (flight_of m seat) (flight_of m seat).stage) (reg_access (flight_of m seat) (flight_of m seat).stage)).turn
 turn_word_stays c m seat (step.Tally n v) h = (tally_keeps m.words n v).turn
 turn_word_stays c m seat _ h = refl
+
+-- No gate is changed but by `enter`, `leave`, `hold` and `open`.
+gates_are_kept : (c : Config) (m : Moment) (seat : Seat) (s : Step) → gates_stay s ≡ true → (Behind c m seat s).words.gates ≡ m.words.gates
+gates_are_kept c m seat (step.Enter o) h = cc
+gates_are_kept c m seat step.Leave h = cc
+gates_are_kept c m seat (step.Hold j) h = cc
+gates_are_kept c m seat (step.Open j) h = cc
+gates_are_kept c m seat step.Reg h =
+    (reg_keeps m.words (caller_number seat) (register_met (flight_of m seat) (flight_of m seat).stage) (reg_access (flight_of m seat) (flight_of m seat).stage)).gates
+gates_are_kept c m seat (step.Tally n v) h = (tally_keeps m.words n v).gates
+gates_are_kept c m seat _ h = refl
 
 -- A call keeps its operation up to its end.
 
@@ -159,6 +172,48 @@ module _ (p : PassState) (s : Step) (q : PassState) (m : Makes p s q) (own : Has
         holds = subst (λ (r : PassState). Holds r.table.config (world_of q).now r.seat) (sym m.is) holds;
         op = t.op ∙ same ∙ ap (λ (t : Seat). op_for t (flight_of (world_of q).now t)) (sym d.seat);
       }
+
+-- the gates, while they stay
+pub gates_left : (p : PassState) (s : Step) (q : PassState) → Acts p s q → gates_stay s ≡ true
+    → HoldsAll p.table.config (now_of p) p.seat → (world_of q).now.words.gates ≡ (now_of p).words.gates
+gates_left p s q a stays all =
+    ap (λ (w : World). w.now.words.gates) a.world ∙ gates_are_kept p.table.config (world_at a.makes).now p.seat s stays ∙ ap (λ (y : Written). y.gates) (a.stop all)
+
+pub still_stopped : (p : PassState) (s : Step) (q : PassState) → Acts p s q → gates_stay s ≡ true → Holds p.table.config (now_of p) p.seat
+    → others_are_held p.table.config.callers (now_of p).words p.seat ≡ true → others_are_held q.table.config.callers (now_of q).words q.seat ≡ true
+still_stopped p s q a stays holds all =
+    ap (λ (r : PassState). others_are_held r.table.config.callers (now_of q).words r.seat) a.makes.is
+    ∙ ap (λ (gs : List ℕ). all_below p.table.config.callers (λ j. is_number_of p.seat j || (slice_index gs j == 2))) (gates_left p s q a stays (holds, all))
+    ∙ all
+
+pub turn_stays_too : (s : Step) → gates_stay s ≡ true → turn_stays s ≡ true
+turn_stays_too (step.Hold j) h = cc
+turn_stays_too (step.Open j) h = cc
+turn_stays_too s h = h
+
+-- `hold` finds the gate open, or its caller in a call
+pub hold_finds : (p : PassState) (j n : ℕ) (q : PassState) → Tells p (step.Hold j) n q → Has p.seats p.seat → IsHistory q.table.config q.seen → n ≢ 0 → n ≡ 1
+hold_finds p j n q t own history some =
+    let d = made p (step.Hold j) q t.makes own history in
+    let lt : j < p.table.config.callers = ltb-true j p.table.config.callers (and_parts (nat_lt j p.table.config.callers) (not (is_number_of p.seat j)) d.meets.range).0 in
+    let least = d.protocol.gate j lt in
+    let two : slice_index (moment_of t.makes).words.gates j ≢ 2 = eqb-false (slice_index (moment_of t.makes).words.gates j) 2 (not-true (slice_index (moment_of t.makes).words.gates j == 2) d.meets.gates) in
+    let is : n ≡ slice_index (moment_of t.makes).words.gates j = t.tells in
+    omega arith
+
+pub hold_holds : (p : PassState) (j n : ℕ) (q : PassState) → Tells p (step.Hold j) n q → Has p.seats p.seat → IsHistory q.table.config q.seen → n ≡ 0
+    → is_held (now_of q).words j ≡ true
+hold_holds p j n q t own history none =
+    let d = made p (step.Hold j) q t.makes own history in
+    let c : Config = p.table.config in
+    let lt : j < c.callers = ltb-true j c.callers (and_parts (nat_lt j c.callers) (not (is_number_of p.seat j)) d.meets.range).0 in
+    let long = (histories_keep_lengths c (p.seen ++ t.makes.others)).gates in
+    let few = d.known.small in
+    let gs : List ℕ = (moment_of t.makes).words.gates in
+    ap (λ (w : World). is_held w.now.words j) d.world
+    ∙ eq-eqb (slice_index (slice_set gs j (if slice_index gs j == 0 then 2 else slice_index gs j)) j) 2
+    (get_or-set_same gs j (if slice_index gs j == 0 then 2 else slice_index gs j) 0 (omega arith)
+    ∙ ap (λ (b : Bool). if b then 2 else slice_index gs j) (eq-eqb (slice_index gs j) 0 (sym t.tells ∙ none)))
 
 -- `take`
 

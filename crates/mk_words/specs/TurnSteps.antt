@@ -8,11 +8,11 @@ use Rattle.mk_core.specs.declared.events.Step.TheVariants as step
 use Rattle.mk_core.specs.declared.seats.Flight.{Flight}
 use Rattle.mk_core.specs.declared.seats.Holding.{Holding}
 use Rattle.mk_core.specs.Calls.{at_rest, begun}
-use Rattle.mk_core.specs.Moments.{nothing_done, none_is_held}
+use Rattle.mk_core.specs.Moments.{nothing_done, none_is_held, others_are_held}
 use Rattle.mk_core.specs.Readings.{Holds}
 use Rattle.mk_core.specs.History.{World, world_behind, left}
 use Rattle.mk_core.specs.Frames.{OwnIsLeft, HoldsAll, TurnIsLeft, CountsAreLeft, written_of}
-use Rattle.mk_words.specs.States.{PassState, world_of, now_of, call_of, event_of}
+use Rattle.mk_words.specs.States.{PassState, TurnState, world_of, now_of, call_of, event_of}
 use Rattle.mk_words.specs.Steps.{Makes}
 
 -- the operation for which a seat has the turn, whose call is this; the host has none
@@ -57,3 +57,14 @@ pub record Acts (p : PassState) (s : Step) (q : PassState) : Type 0 where
   pub counts : CountsAreLeft p.table.config p.seen (p.seen ++ makes.others)
   pub stop : HoldsAll p.table.config (now_of p) p.seat → written_of (world_at makes) ≡ written_of (world_of p)
   pub world : world_of q ≡ world_behind p.table.config (world_at makes) (event_of p s)
+
+-- No gate is changed but by these.
+abbrev pub gates_stay : Step → Bool
+gates_stay (step.Hold j) = false
+gates_stay (step.Open j) = false
+gates_stay s = turn_stays s
+
+-- The seat holds the turn, and all gates but its own.
+pub record IsStopped (t : TurnState) : Type 0 where
+  pub turn : IsTurn t.pass t.op
+  pub gates : others_are_held t.pass.table.config.callers (now_of t.pass).words t.pass.seat ≡ true

@@ -6,11 +6,16 @@ mod indexes;
 mod passes;
 mod performing;
 mod rule;
+mod stop_steps;
+mod stopped;
 mod telling;
+mod turn_steps;
 mod turns;
 mod words;
 
 pub use call_steps::Held;
 pub use passes::Pass;
+pub use stop_steps::InCall;
+pub use stopped::Stopped;
 pub use turns::{Busy, Turn};
 pub use words::Words;

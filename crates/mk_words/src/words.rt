@@ -15,6 +15,7 @@ use std::alloc::Global;
 use std::marker::{Brand, Model};
 
 /// The words of a heap, which threads share. Who has a pass may access them.
+#[derive(Drop)]
 pub struct Words {
     pub(crate) table: Table<(), View, Config, OneHistory, Global>,
     pub(crate) config: Config,

@@ -1,3 +1,8 @@
+use Rattle.std.proofs.Common.{subst}
+use Rattle.atomic_table.specs.Table.{Allows}
+use Rattle.mk_core.specs.declared.accesses.Access.{Access}
+use Rattle.mk_core.specs.Words.{becomes}
+use Rattle.mk_words.specs.Rule.{Kept, no_step, adds}
 use Rattle.mk_words.proofs.Owed.{allows_store}
 use Rattle.mk_words.proofs.performing.access_as.Goals as goal
 
@@ -5,4 +10,5 @@ pub store-requires : goal.store-requires
 store-requires g c =
     let t = c.args.table.now in
     let k = c.args.token.now in
-    (c.requires.table, c.requires.within, allows_store t.key t.table_id.slots k.id k.me c.args.index g.J.Making.event c.in-Store.value ?)
+    let allowed = subst (λ (a : Access). Allows (Kept t.key) t.table_id.slots k.id k.me c.args.index (becomes a) (λ n m. adds g.J.Making.event no_step k.me n m)) c.in-Store.is c.requires.allowed in
+    (c.requires.table, c.requires.within, allows_store t.key t.table_id.slots k.id k.me c.args.index g.J.Making.event c.in-Store.value allowed)

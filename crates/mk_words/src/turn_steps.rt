@@ -1,0 +1,129 @@
+//! The steps of the turn's holder.
+ghost use Rattle.std.specs.Prelude.{◌≡◌, true};
+ghost use Rattle.mk_core.specs.declared.events.Step.TheVariants as step;
+ghost use Rattle.mk_core.specs.Accesses.{tally_word};
+ghost use Rattle.mk_words.specs.Steps.{IsEnabledTo, IsAdmittedTo, Finds, may_decide};
+ghost use Rattle.mk_words.specs.TurnSteps.{Acts};
+
+use crate::turns::Turn;
+use crate::words::Words;
+use mk_core::{Access, Step, TableWord, Tally, Word};
+
+/// The word of a tally.
+#[inline(always)]
+pub(crate) fn tally_word(tally: Tally) -> Word
+    ensures { result ≡ tally_word tally }
+{
+    match tally {
+        Tally::Held => Word::Held,
+        Tally::Fresh => Word::Fresh,
+        Tally::Cycles => Word::Cycles,
+        Tally::Released => Word::Released,
+        Tally::Full => Word::Full,
+    }
+}
+
+impl Turn {
+    /// Looks at a word. Behind an undecided Free's look at its target's quarantine word the call may be decided.
+    pub fn look(&mut self, words: &Words, x: Word) -> u64
+        requires one_table { self.old.pass.table ≡ words.now }
+        requires enabled { IsEnabledTo self.old.pass (step.Look x) }
+        requires admitted { may_decide (step.Look x) ≡ true → IsAdmittedTo self.old.pass (step.Look x) }
+        ensures op { self.new.op ≡ self.old.op }
+        ensures acts { Acts self.old.pass (step.Look x) self.new.pass }
+        ensures finds { Finds self.old.pass (step.Look x) result self.new.pass }
+    {
+        self.perform(words, Step::Look(x), TableWord::Named(x), Access::Load)
+    }
+
+    /// Stores a page's header.
+    pub fn head(&mut self, words: &Words, page: u64, v: u64)
+        requires one_table { self.old.pass.table ≡ words.now }
+        requires enabled { IsEnabledTo self.old.pass (step.Head page v) }
+        ensures op { self.new.op ≡ self.old.op }
+        ensures acts { Acts self.old.pass (step.Head page v) self.new.pass }
+    {
+        self.perform(words, Step::Head { page, value: v }, TableWord::Named(Word::Head(page)), Access::Store(v));
+    }
+
+    /// Stores a page's quarantine word.
+    pub fn quar(&mut self, words: &Words, page: u64, v: u64)
+        requires one_table { self.old.pass.table ≡ words.now }
+        requires enabled { IsEnabledTo self.old.pass (step.Quar page v) }
+        requires admitted { IsAdmittedTo self.old.pass (step.Quar page v) }
+        ensures op { self.new.op ≡ self.old.op }
+        ensures acts { Acts self.old.pass (step.Quar page v) self.new.pass }
+    {
+        self.perform(words, Step::Quar { page, value: v }, TableWord::Named(Word::Quar(page)), Access::Store(v));
+    }
+
+    /// Clears a page's marks.
+    pub fn clear(&mut self, words: &Words, page: u64)
+        requires one_table { self.old.pass.table ≡ words.now }
+        requires enabled { IsEnabledTo self.old.pass (step.Clear page) }
+        ensures op { self.new.op ≡ self.old.op }
+        ensures acts { Acts self.old.pass (step.Clear page) self.new.pass }
+    {
+        self.perform(words, Step::Clear(page), TableWord::Named(Word::Mark(page)), Access::Store(0));
+    }
+
+    /// Marks cells of a page.
+    pub fn mark(&mut self, words: &Words, page: u64, v: u64)
+        requires one_table { self.old.pass.table ≡ words.now }
+        requires enabled { IsEnabledTo self.old.pass (step.Mark page v) }
+        ensures op { self.new.op ≡ self.old.op }
+        ensures acts { Acts self.old.pass (step.Mark page v) self.new.pass }
+    {
+        self.perform(words, Step::Mark { page, value: v }, TableWord::Named(Word::Mark(page)), Access::Or(v));
+    }
+
+    /// Wipes a heap word.
+    pub fn wipe(&mut self, words: &Words, word: u64)
+        requires one_table { self.old.pass.table ≡ words.now }
+        requires enabled { IsEnabledTo self.old.pass (step.Wipe word) }
+        ensures op { self.new.op ≡ self.old.op }
+        ensures acts { Acts self.old.pass (step.Wipe word) self.new.pass }
+    {
+        self.perform(words, Step::Wipe(word), TableWord::Named(Word::Heap(word)), Access::Store(0));
+    }
+
+    /// Ends the cycle.
+    pub fn end(&mut self, words: &Words)
+        requires one_table { self.old.pass.table ≡ words.now }
+        requires enabled { IsEnabledTo self.old.pass step.End }
+        ensures op { self.new.op ≡ self.old.op }
+        ensures acts { Acts self.old.pass step.End self.new.pass }
+    {
+        self.perform(words, Step::End, TableWord::Named(Word::Phase), Access::Sub(4));
+    }
+
+    /// Clears a page's dirty word.
+    pub fn undirty(&mut self, words: &Words, page: u64)
+        requires one_table { self.old.pass.table ≡ words.now }
+        requires enabled { IsEnabledTo self.old.pass (step.Undirty page) }
+        ensures op { self.new.op ≡ self.old.op }
+        ensures acts { Acts self.old.pass (step.Undirty page) self.new.pass }
+    {
+        self.perform(words, Step::Undirty(page), TableWord::Named(Word::Dirty(page)), Access::Store(0));
+    }
+
+    /// Clears a page's black word.
+    pub fn unblack(&mut self, words: &Words, page: u64)
+        requires one_table { self.old.pass.table ≡ words.now }
+        requires enabled { IsEnabledTo self.old.pass (step.Unblack page) }
+        ensures op { self.new.op ≡ self.old.op }
+        ensures acts { Acts self.old.pass (step.Unblack page) self.new.pass }
+    {
+        self.perform(words, Step::Unblack(page), TableWord::Named(Word::Black(page)), Access::Store(0));
+    }
+
+    /// Stores a tally.
+    pub fn tally(&mut self, words: &Words, n: Tally, v: u64)
+        requires one_table { self.old.pass.table ≡ words.now }
+        requires enabled { IsEnabledTo self.old.pass (step.Tally n v) }
+        ensures op { self.new.op ≡ self.old.op }
+        ensures acts { Acts self.old.pass (step.Tally n v) self.new.pass }
+    {
+        self.perform(words, Step::Tally { tally: n, value: v }, TableWord::Named(tally_word(n)), Access::Store(v));
+    }
+}
