@@ -7,3 +7,4 @@ pub mod Owed
 pub mod Made
 pub mod CallSteps
 pub mod TurnSteps
+pub mod Closing

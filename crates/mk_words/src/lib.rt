@@ -2,6 +2,7 @@
 #![tactic(auto)]
 
 mod call_steps;
+mod finals;
 mod indexes;
 mod passes;
 mod performing;
@@ -14,6 +15,7 @@ mod turns;
 mod words;
 
 pub use call_steps::Held;
+pub use finals::Final;
 pub use passes::Pass;
 pub use stop_steps::InCall;
 pub use stopped::Stopped;

@@ -4,10 +4,13 @@ ghost use Rattle.mk_core.specs.declared.events.Seat.TheVariants.{Host};
 ghost use Rattle.mk_core.specs.Config.{IsWithinLimits};
 ghost use Rattle.mk_core.specs.Growing.{Grows, is_same_seat};
 ghost use Rattle.mk_words.specs.Seats.{Has, HasAll, all_seats, without_seat};
+ghost use Rattle.mk_words.specs.States.{now_of};
+ghost use Rattle.mk_words.specs.Finals.{history_of, config_of, HasTallies};
 
 use crate::passes::Pass;
 use crate::rule::{OneHistory, View};
-use crate::telling::{HandOver, Handing, Settle, Together};
+use crate::finals::{Final, freed_bits};
+use crate::telling::{HandOver, Handing, Remember, Settle, Together};
 use atomic_table::Table;
 use mk_core::{Config, Seat};
 use mk_never::{NoMemory, TypeTable};
@@ -31,7 +34,7 @@ impl Model for Words {
 
     ghost view = { λ w. record { id = w.table.shared.table_id; config = w.config } };
 
-    ghost invariant = { λ w. record { key : w.table.shared.key ≡ w.config; words : w.table.shared.table_id.words ≡ count_of_words w.config.pages; limits : IsWithinLimits w.config } };
+    ghost invariant = { λ w. record { key : w.table.shared.key ≡ w.config; words : w.table.shared.table_id.words ≡ count_of_words w.config.pages; slots : w.table.shared.table_id.slots ≡ 0; limits : IsWithinLimits w.config } };
 }
 
 /// So many zeros.
@@ -144,5 +147,39 @@ impl Words {
         let shared = &words.table.shared;
         shared.join_seat::<Together>(own, token);
         shared.load::<Settle>(own, 0);
+    }
+
+    /// Whether the turn looks free. It is no event, and promises nothing of the answer: who waits for the turn asks
+    /// it between two tries.
+    pub fn is_turn_free(&self, pass: &mut Pass) -> bool
+        ensures { pass.new ≡ pass.old }
+    {
+        self.table.shared.peek(16) == 0
+    }
+
+    /// Ends the table. The pass has all seats, so what it has seen is the whole history.
+    pub fn close(words: Words, pass: Pass) -> Final
+        requires one_table { pass.table ≡ words }
+        requires home { HasAll words.config pass.seats }
+        ensures history { history_of result ≡ pass.seen }
+        ensures config { config_of result ≡ words.config }
+        ensures tallies { HasTallies (now_of pass).words words.config.pages result }
+    {
+        let Words { table, config } = words;
+        let Pass { mut token, seat: _ } = pass;
+        let memory = table.shared.split_seat::<Remember>(&mut token);
+        let closed = table.close_with(token);
+        let quarantined = freed_bits(&closed, config.pages);
+        let last = Final {
+            held: closed.word(32),
+            fresh: closed.word(33),
+            quarantined,
+            cycles: closed.word(34),
+            released: closed.word(35),
+            full: closed.word(36),
+            memory,
+        };
+        closed.free();
+        last
     }
 }
