@@ -1,0 +1,80 @@
+-- Gray cells, which are marked and not black, and what steps in the stop keep to.
+use Rattle.std.specs.Prelude.{◌≡◌, ◌≢◌, ◌⊎◌, ℕ, ◌+◌, ◌<◌, ◌≤◌, Bool, true, false, List, ⊤, slice_index, slice_set, bit_or, bit_and, ◌^◌}
+use Rattle.mk_geom.specs.declared.addresses.Cell.{Cell}
+use Rattle.mk_core.specs.declared.config.Config.{Config}
+use Rattle.mk_core.specs.declared.events.Step.{Step}
+use Rattle.mk_core.specs.declared.events.Step.TheVariants as step
+use Rattle.mk_core.specs.declared.events.Word.TheVariants as word
+use Rattle.mk_core.specs.declared.seats.Hand.{Hand}
+use Rattle.mk_core.specs.Bits.{has_bit, without}
+use Rattle.mk_core.specs.Bounded.{is_some_and}
+use Rattle.mk_core.specs.Words.{Words}
+use Rattle.mk_core.specs.Cells.{header_in, head_page, cells_under, cell_bits, first_word, cell_words, is_marked, points_well}
+use Rattle.mk_core.specs.Cycles.{is_unmarked}
+use Rattle.mk_core.specs.Frames.{OnlyGrow}
+use Rattle.mk_core.specs.Moments.{Moment}
+use Rattle.mk_core.specs.StopConditions.{marks_by_hand}
+
+abbrev pub is_black : Words → Cell → Bool
+is_black w cell = has_bit (slice_index w.blacks cell.page) cell.index
+
+-- a marked cell that isn't black
+pub record IsGray (pages : ℕ) (w : Words) (cell : Cell) : Type 0 where
+  pub page : cell.page < pages
+  pub index : cell.index < cells_under (header_in w cell.page)
+  pub marked : is_marked w cell ≡ true
+  pub not_black : is_black w cell ≡ false
+
+-- a word of one
+pub record IsGrayWord (pages : ℕ) (w : Words) (n : ℕ) : Type 0 where
+  pub cell : Cell
+  pub gray : IsGray pages w cell
+  pub least : first_word w cell ≤ n
+  pub below : n < first_word w cell + cell_words w cell
+
+-- The dirty word of the page isn't 0, or that of a page of the run headed there.
+pub record HasDirtyPart (w : Words) (page : ℕ) : Type 0 where
+  pub part : ℕ
+  pub dirty : slice_index w.dirty part ≢ 0
+  pub of : (part ≡ page) ⊎ (head_page w part ≡ page)
+
+-- A mark by the hand, whose value stood in a root or in a cell that was marked: no sweeping mark.
+pub record MarksReached (c : Config) (m : Moment) (page value : ℕ) : Type 0 where
+  pub by_hand : marks_by_hand c.pages m.words m.seats.holding.hand page value ≡ true
+  pub reached : is_some_and (λ (hand : Hand). is_unmarked hand.source) m.seats.holding.hand ≡ false
+
+-- Only words of gray cells are looked at, only what was reached is marked, and only what is dirty is looked at again.
+abbrev pub TracesReached : Config → Moment → Step → Type 0
+TracesReached c m (step.Look (word.Heap n)) = IsGrayWord c.pages m.words n
+TracesReached c m (step.Mark p v) = MarksReached c m p v
+TracesReached c m (step.Unblack p) = HasDirtyPart m.words p
+TracesReached c m _ = ⊤
+
+-- Marks, and no others, are added.
+pub record MarksMore (w v : Words) : Type 0 where
+  pub is : v ≡ record w { marks = v.marks }
+  pub grow : OnlyGrow w.marks v.marks
+
+-- Marks and black bits, and no others, are added.
+pub record ColoursMore (w v : Words) : Type 0 where
+  pub is : v ≡ record w { marks = v.marks; blacks = v.blacks }
+  pub marks : OnlyGrow w.marks v.marks
+  pub blacks : OnlyGrow w.blacks v.blacks
+
+-- Marks are added, and one cell is blackened.
+pub record BlackensOne (w : Words) (cell : Cell) (v : Words) : Type 0 where
+  pub is : v ≡ record w { marks = v.marks; blacks = slice_set w.blacks cell.page (bit_or (slice_index w.blacks cell.page) (2 ^ cell.index)) }
+  pub grow : OnlyGrow w.marks v.marks
+
+-- Each marked cell of the page is black.
+abbrev pub HasNoGray : Words → ℕ → Type 0
+HasNoGray w p = without (bit_and (slice_index w.marks p) (cell_bits w p)) (slice_index w.blacks p) ≡ 0
+
+-- Each register and each global points well.
+pub record RootsPointWell (pages : ℕ) (w : Words) : Type 0 where
+  pub registers : (i : ℕ) → points_well pages w (slice_index w.registers i) ≡ true
+  pub globals : (g : ℕ) → points_well pages w (slice_index w.globals g) ≡ true
+
+-- No page is dirty.
+abbrev pub NoneIsDirty : Words → Type 0
+NoneIsDirty w = (p : ℕ) → slice_index w.dirty p ≡ 0

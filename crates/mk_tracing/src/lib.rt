@@ -1,0 +1,7 @@
+//! What every engine does in the stop: wants the close and waits for the markers, marks from the roots, blackens every
+//! marked cell, and looks again at what is dirty.
+#![tactic(auto)]
+
+mod waiting;
+
+pub use waiting::want_and_wait;
