@@ -1,5 +1,5 @@
 -- Gray cells, which are marked and not black, and what steps in the stop keep to.
-use Rattle.std.specs.Prelude.{◌≡◌, ◌≢◌, ◌⊎◌, ℕ, ◌+◌, ◌<◌, ◌≤◌, Bool, true, false, List, ⊤, slice_index, slice_set, bit_or, bit_and, ◌^◌}
+use Rattle.std.specs.Prelude.{◌≡◌, ◌≢◌, ◌⊎◌, ℕ, ◌+◌, ◌<◌, ◌≤◌, Bool, true, false, List, ⊤, slice_index, slice_set, bit_or, bit_and, ◌^◌, Some}
 use Rattle.mk_geom.specs.declared.addresses.Cell.{Cell}
 use Rattle.mk_core.specs.declared.config.Config.{Config}
 use Rattle.mk_core.specs.declared.events.Step.{Step}
@@ -9,11 +9,14 @@ use Rattle.mk_core.specs.declared.seats.Hand.{Hand}
 use Rattle.mk_core.specs.Bits.{has_bit, without}
 use Rattle.mk_core.specs.Bounded.{is_some_and}
 use Rattle.mk_core.specs.Words.{Words}
-use Rattle.mk_core.specs.Cells.{header_in, head_page, cells_under, cell_bits, first_word, cell_words, is_marked, points_well}
+use Rattle.mk_core.specs.Cells.{header_in, head_page, cells_under, cell_bits, first_word, cell_words, is_marked, pointed_cell, points_well}
 use Rattle.mk_core.specs.Cycles.{is_unmarked}
 use Rattle.mk_core.specs.Frames.{OnlyGrow}
 use Rattle.mk_core.specs.Moments.{Moment}
 use Rattle.mk_core.specs.StopConditions.{marks_by_hand}
+use Rattle.mk_words.specs.States.{PassState, TurnState}
+use Rattle.mk_tracing.specs.Stops.{IsWanted, hand_of, still_words}
+use Rattle.mk_tracing.specs.Tracing.{Traces, is_marking}
 
 abbrev pub is_black : Words → Cell → Bool
 is_black w cell = has_bit (slice_index w.blacks cell.page) cell.index
@@ -49,6 +52,26 @@ TracesReached c m (step.Look (word.Heap n)) = IsGrayWord c.pages m.words n
 TracesReached c m (step.Mark p v) = MarksReached c m p v
 TracesReached c m (step.Unblack p) = HasDirtyPart m.words p
 TracesReached c m _ = ⊤
+
+-- The stop goes on, its holder marks by these rules, and all else is as it was.
+pub record MarksOn (t u : TurnState) : Type 0 where
+  pub table : u.pass.table ≡ t.pass.table
+  pub op : u.op ≡ t.op
+  pub wanted : IsWanted u.pass
+  pub traces : Traces is_marking TracesReached t.pass u.pass
+
+-- The hand is this value, which stood in a root or in a marked cell.
+pub record IsInHand (p : PassState) (u : ℕ) : Type 0 where
+  pub hand : Hand
+  pub is : hand_of p ≡ Some hand
+  pub value : hand.value ≡ u
+  pub reached : is_unmarked hand.source ≡ false
+
+-- The hand points into the cell.
+pub record IsReached (p : PassState) (cell : Cell) : Type 0 where
+  pub value : ℕ
+  pub in_hand : IsInHand p value
+  pub points : pointed_cell p.table.config.pages (still_words p).pages value ≡ Some cell
 
 -- Marks, and no others, are added.
 pub record MarksMore (w v : Words) : Type 0 where

@@ -2,6 +2,8 @@
 use Rattle.std.specs.Prelude.{◌≡◌, ℕ, Bool, true, false, Option}
 use Rattle.mk_core.specs.declared.events.Seat.{Seat}
 use Rattle.mk_core.specs.declared.events.Seat.TheVariants.{Caller}
+use Rattle.mk_core.specs.declared.events.Word.{Word}
+use Rattle.mk_core.specs.declared.events.Word.TheVariants as word
 use Rattle.mk_core.specs.declared.seats.Flight.{Flight}
 use Rattle.mk_core.specs.declared.seats.Hand.{Hand}
 use Rattle.mk_core.specs.declared.seats.Stage.{Stage}
@@ -32,6 +34,20 @@ pub record IsWanted (p : PassState) : Type 0 where
   pub ready : IsReady p
   pub phase : phase_of (now_of p).words ≡ 2
   pub none : NoneAttends (now_of p)
+
+-- a word at which a look gives no hand and decides nothing
+abbrev pub is_plain : Word → Bool
+is_plain (word.Head p) = true
+is_plain (word.Mark p) = true
+is_plain (word.Black p) = true
+is_plain (word.Dirty p) = true
+is_plain _ = false
+
+-- a register, or a global
+abbrev pub is_root : Word → Bool
+is_root (word.Reg j r) = true
+is_root (word.Global g) = true
+is_root _ = false
 
 -- The words, but for the phase: markers that come and find it wanted are counted there, and nothing else changes.
 abbrev pub still_words : PassState → Words

@@ -2,6 +2,8 @@
 //! marked cell, and looks again at what is dirty.
 #![tactic(auto)]
 
+mod cells;
+mod stepping;
 mod waiting;
 
 pub use waiting::want_and_wait;
