@@ -234,7 +234,7 @@ cas_goes f n found expected is old =
 pub begins : (f : Flight) (o : Op) (n found : ℕ) → n ≡ found → n ≡ 0 → begins_where_free f o found ≡ record { flight = begun o; answer = None }
 begins f o n found is free = ap (λ (b : Bool). if b then record { flight = begun o; answer = None } else still f) (eq-eqb found 0 (sym is ∙ free))
 
-waits : (f : Flight) (o : Op) (n found : ℕ) → n ≡ found → n ≢ 0 → begins_where_free f o found ≡ still f
+pub waits : (f : Flight) (o : Op) (n found : ℕ) → n ≡ found → n ≢ 0 → begins_where_free f o found ≡ still f
 waits f o n found is held = ap (λ (b : Bool). if b then record { flight = begun o; answer = None } else still f) (ne_eqb found 0 (λ z. held (is ∙ z)))
 
 module _ (p : PassState) (o : Op) (n : ℕ) (q : PassState) (t : Tells p (step.Enter o) n q) (own : Has p.seats p.seat) (history : IsHistory q.table.config q.seen) where

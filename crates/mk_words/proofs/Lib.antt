@@ -8,3 +8,6 @@ pub mod Made
 pub mod CallSteps
 pub mod TurnSteps
 pub mod Closing
+pub mod Markers
+pub mod Opening
+pub mod Tallies

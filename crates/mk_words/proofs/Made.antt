@@ -21,6 +21,8 @@ use Rattle.mk_protocol.proofs.Reaching.{events_reach_the_table}
 use Rattle.mk_words.specs.Seats.{Has}
 use Rattle.mk_words.specs.States.{PassState, world_of, event_of}
 use Rattle.mk_words.specs.Steps.{Makes}
+use Rattle.mk_words.specs.Laws.{StepsStandBehindOthers}
+use Rattle.mk_frames.proofs.Frames.{admitted_others_leave}
 use Rattle.mk_words.proofs.Seats.{others_own}
 
 -- The events of others leave the seat its own; the event met its conditions behind them, and the new list leaves what it leaves there.
@@ -57,4 +59,16 @@ made p s q m own history =
       of_table = events_reach_the_table c es e before.within_limits before.enabled on;
       world = ap (λ (r : PassState). world_of r) m.is ∙ left_more c (first_world c) es e;
       seat = ap (λ (r : PassState). r.seat) m.is;
+    }
+
+pub stands_behind_others : StepsStandBehindOthers
+stands_behind_others p q s m own history =
+    let d = made p s q m own history in
+    record {
+      others = d.others;
+      history = d.history;
+      left = d.frame;
+      admitted = admitted_others_leave p.table.config p.seen m.others p.seat d.history d.others;
+      meets = d.meets;
+      world = d.world;
     }

@@ -6,3 +6,6 @@ pub mod Steps
 pub mod CallSteps
 pub mod TurnSteps
 pub mod Finals
+pub mod Markers
+pub mod Opening
+pub mod Laws

@@ -3,10 +3,14 @@
 
 mod call_steps;
 mod finals;
+mod granting;
 mod indexes;
+mod laws;
+mod marker_steps;
 mod passes;
 mod performing;
 mod rule;
+mod scans;
 mod stop_steps;
 mod stopped;
 mod telling;
@@ -16,6 +20,7 @@ mod words;
 
 pub use call_steps::Held;
 pub use finals::Final;
+pub use laws::{calls_go_on, steps_stand_behind_others};
 pub use passes::Pass;
 pub use stop_steps::InCall;
 pub use stopped::Stopped;

@@ -1,0 +1,2 @@
+pub mod Enabling
+pub mod Admitting
