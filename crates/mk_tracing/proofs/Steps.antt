@@ -269,7 +269,6 @@ still_ready p q s m same ready =
     let flights : (now_of q).seats.flights ≡ (now_of p).seats.flights = ap (λ (x : Untouched). x.flights) same in
     let seat : q.seat ≡ p.seat = ap (λ (x : PassState). x.seat) m.is in
     record {
-      own = subst (λ (x : PassState). Has x.seats x.seat) (sym m.is) ready.own;
       loaded =
           ap (λ (t : Seat). is_loaded t (flight_of (now_of q) t)) seat ∙ same_call p.seat flights ∙ ready.loaded;
     }

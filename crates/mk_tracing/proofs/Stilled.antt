@@ -26,6 +26,7 @@ use Rattle.mk_core.specs.Moments.{Moment, outside, is_phase}
 use Rattle.mk_core.specs.Readings.{Holds, NoneAttends}
 use Rattle.mk_core.specs.StopConditions.{is_attending}
 use Rattle.mk_core.specs.Words.{Words, phase_of, named_word}
+use Rattle.mk_words.specs.Seats.{Has}
 use Rattle.mk_words.specs.States.{PassState, now_of, call_of, world_of, event_of}
 use Rattle.mk_words.specs.Steps.{Makes, Finds}
 use Rattle.mk_words.specs.TurnSteps.{Acts, world_at}
@@ -129,9 +130,9 @@ module _ (p q : PassState) (s : Step) (a : Acts p s q) (wanted : IsWanted p) (al
             ∙ markers_stay p.table.config (world_at a.makes).now p.seat (found p.table.config (world_at a.makes).now (event_of p s)) s (now_of p) all.0)) there.0;
       }
 
-  pub stopped_traces : (rule : Config → Moment → Step → Type 0) → is_marking s ≡ true → rule p.table.config (world_at a.makes).now s → Traces is_marking rule p q
-  stopped_traces rule kind ruled =
-      (traces_step is_marking rule (λ (x : Step). false) p q s a.makes 0 wanted.ready.own kind ruled untouched (step_counts p q s a (quiet_of s stopped)) refl).traces
+  pub stopped_traces : Has p.seats p.seat → (rule : Config → Moment → Step → Type 0) → is_marking s ≡ true → rule p.table.config (world_at a.makes).now s → Traces is_marking rule p q
+  stopped_traces own rule kind ruled =
+      (traces_step is_marking rule (λ (x : Step). false) p q s a.makes 0 own kind ruled untouched (step_counts p q s a (quiet_of s stopped)) refl).traces
 
 -- what each step leaves
 
@@ -163,14 +164,14 @@ module _ (p q : PassState) (wanted : IsWanted p) (all : HoldsAll p.table.config 
   pub undirty_words : (pg : ℕ) → Acts p (step.Undirty pg) q → still_words q ≡ without_dirty pg (still_words p)
   undirty_words pg a = ap (λ (w : World). but_phase w.now.words) a.world ∙ ap (without_dirty pg) (words_there p q (step.Undirty pg) a wanted all refl)
 
-  pub marks_on : (s : Step) → Acts p s q → is_stopped_step s ≡ true → (o o' : Option Op) → o' ≡ o → ((w : World) → but_phase w.now.words ≡ still_words p → w.now.seats.holding ≡ (now_of p).seats.holding → TracesReached p.table.config w.now s)
+  pub marks_on : Has p.seats p.seat → (s : Step) → Acts p s q → is_stopped_step s ≡ true → (o o' : Option Op) → o' ≡ o → ((w : World) → but_phase w.now.words ≡ still_words p → w.now.seats.holding ≡ (now_of p).seats.holding → TracesReached p.table.config w.now s)
       → MarksOn (record { pass = p; op = o }) (record { pass = q; op = o' })
-  marks_on s a stopped o o' same ruled =
+  marks_on own s a stopped o o' same ruled =
       record {
         table = ap (λ (x : PassState). x.table) a.makes.is;
         op = same;
         wanted = still_wanted p q s a wanted all stopped;
-        traces = stopped_traces p q s a wanted all stopped TracesReached (marking s stopped) (ruled (world_at a.makes) (words_there p q s a wanted all stopped) a.holding);
+        traces = stopped_traces p q s a wanted all stopped own TracesReached (marking s stopped) (ruled (world_at a.makes) (words_there p q s a wanted all stopped) a.holding);
       }
     where
       marking : (x : Step) → is_stopped_step x ≡ true → is_marking x ≡ true

@@ -19,6 +19,7 @@ use Rattle.mk_core.specs.Moments.{Moment}
 use Rattle.mk_core.specs.Ranges.{is_word}
 use Rattle.mk_core.specs.Words.{Words, named_word}
 use Rattle.mk_core.proofs.PointedPages.{pointed_within}
+use Rattle.mk_words.specs.Seats.{Has}
 use Rattle.mk_words.specs.States.{PassState, TurnState, now_of, world_of}
 use Rattle.mk_words.specs.Steps.{Finds}
 use Rattle.mk_words.specs.TurnSteps.{Acts, world_at}
@@ -88,33 +89,33 @@ reached_there p w cell same holding r =
       reached = ap (λ (o : Option Hand). is_some_and (λ (h : Hand). is_unmarked h.source) o) hand ∙ r.in_hand.reached;
     }
 
-module _ (t u : TurnState) (wanted : IsWanted t.pass) (all : HoldsAll t.pass.table.config (now_of t.pass) t.pass.seat) (same : u.op ≡ t.op) where
+module _ (t u : TurnState) (wanted : IsWanted t.pass) (all : HoldsAll t.pass.table.config (now_of t.pass) t.pass.seat) (own : Has t.pass.seats t.pass.seat) (same : u.op ≡ t.op) where
   pub on_plain : (x : Word) → Acts t.pass (step.Look x) u.pass → is_plain x ≡ true → MarksOn t u
   on_plain x a plain =
-      marks_on t.pass u.pass wanted all (step.Look x) a (plain_quiet x plain) t.op u.op same (λ w e h. looks_freely t.pass.table.config w.now x plain)
+      marks_on t.pass u.pass wanted all own (step.Look x) a (plain_quiet x plain) t.op u.op same (λ w e h. looks_freely t.pass.table.config w.now x plain)
 
   pub on_root : (x : Word) → Acts t.pass (step.Look x) u.pass → is_root x ≡ true → MarksOn t u
   on_root x a root =
-      marks_on t.pass u.pass wanted all (step.Look x) a (root_quiet x root) t.op u.op same (λ w e h. looks_at_root t.pass.table.config w.now x root)
+      marks_on t.pass u.pass wanted all own (step.Look x) a (root_quiet x root) t.op u.op same (λ w e h. looks_at_root t.pass.table.config w.now x root)
 
   pub on_word : (n : ℕ) → Acts t.pass (step.Look (word.Heap n)) u.pass → IsGrayWord t.pass.table.config.pages (still_words t.pass) n → MarksOn t u
   on_word n a gray =
-      marks_on t.pass u.pass wanted all (step.Look (word.Heap n)) a refl t.op u.op same
+      marks_on t.pass u.pass wanted all own (step.Look (word.Heap n)) a refl t.op u.op same
       (λ w e h. gray_there t.pass.table.config.pages n w.now.words (still_words t.pass) e gray)
 
   pub on_mark : (cell : Cell) → Acts t.pass (step.Mark cell.page (2 ^ cell.index)) u.pass → IsReached t.pass cell → MarksOn t u
   on_mark cell a reached =
-      marks_on t.pass u.pass wanted all (step.Mark cell.page (2 ^ cell.index)) a refl t.op u.op same (λ w e h. reached_there t.pass w cell e h reached)
+      marks_on t.pass u.pass wanted all own (step.Mark cell.page (2 ^ cell.index)) a refl t.op u.op same (λ w e h. reached_there t.pass w cell e h reached)
 
   pub on_black : (page value : ℕ) → Acts t.pass (step.Black page value) u.pass → MarksOn t u
-  on_black page value a = marks_on t.pass u.pass wanted all (step.Black page value) a refl t.op u.op same (λ w e h. tt)
+  on_black page value a = marks_on t.pass u.pass wanted all own (step.Black page value) a refl t.op u.op same (λ w e h. tt)
 
   pub on_unblack : (page : ℕ) → Acts t.pass (step.Unblack page) u.pass → HasDirtyPart (still_words t.pass) page → MarksOn t u
   on_unblack page a part =
-      marks_on t.pass u.pass wanted all (step.Unblack page) a refl t.op u.op same (λ w e h. dirty_there page w.now.words (still_words t.pass) e part)
+      marks_on t.pass u.pass wanted all own (step.Unblack page) a refl t.op u.op same (λ w e h. dirty_there page w.now.words (still_words t.pass) e part)
 
   pub on_undirty : (page : ℕ) → Acts t.pass (step.Undirty page) u.pass → MarksOn t u
-  on_undirty page a = marks_on t.pass u.pass wanted all (step.Undirty page) a refl t.op u.op same (λ w e h. tt)
+  on_undirty page a = marks_on t.pass u.pass wanted all own (step.Undirty page) a refl t.op u.op same (λ w e h. tt)
 
 -- a word of a gray cell
 

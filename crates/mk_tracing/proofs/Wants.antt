@@ -11,6 +11,7 @@ use Rattle.mk_core.specs.Readings.{NoneAttends}
 use Rattle.mk_core.specs.Words.{phase_of}
 use Rattle.mk_protocol.proofs.Readings.{words_tell}
 use Rattle.mk_turns.specs.Doing.{count_done}
+use Rattle.mk_words.specs.Seats.{Has}
 use Rattle.mk_words.specs.States.{PassState, now_of, world_of}
 use Rattle.mk_words.specs.Steps.{Finds}
 use Rattle.mk_words.specs.TurnSteps.{Acts, world_at}
@@ -26,10 +27,10 @@ phase_there p q s a = ap (λ (x : Steady). x.phase) a.turn.steady
 one_more : (n : ℕ) → n % 8 ≡ 1 → (n + 1) % 2 ^ 64 % 8 ≡ 2
 one_more n h = omega arith
 
-module _ (p q : PassState) (a : Acts p step.Want q) (ready : IsReady p) (all : HoldsAll p.table.config (now_of p) p.seat) where
+module _ (p q : PassState) (a : Acts p step.Want q) (own : Has p.seats p.seat) (ready : IsReady p) (all : HoldsAll p.table.config (now_of p) p.seat) where
   pub want_traces : Counted is_tracing TracesReached is_want p q 1
   want_traces =
-      traces_step is_tracing TracesReached is_want p q step.Want a.makes 1 ready.own refl tt (step_untouched p q step.Want a refl all refl)
+      traces_step is_tracing TracesReached is_want p q step.Want a.makes 1 own refl tt (step_untouched p q step.Want a refl all refl)
       (step_counts p q step.Want a refl) refl
 
   pub want_ready : IsReady q
@@ -39,10 +40,10 @@ module _ (p q : PassState) (a : Acts p step.Want q) (ready : IsReady p) (all : H
   want_phase one =
       ap (λ (w : World). phase_of w.now.words) a.world ∙ one_more (world_at a.makes).now.words.phase (phase_there p q step.Want a ∙ one)
 
-module _ (p q : PassState) (a : Acts p (step.Look word.Phase) q) (ready : IsReady p) (all : HoldsAll p.table.config (now_of p) p.seat) where
+module _ (p q : PassState) (a : Acts p (step.Look word.Phase) q) (own : Has p.seats p.seat) (ready : IsReady p) (all : HoldsAll p.table.config (now_of p) p.seat) where
   pub look_traces : Traces is_marking TracesReached p q
   look_traces =
-      (traces_step is_marking TracesReached is_want p q (step.Look word.Phase) a.makes 0 ready.own refl tt
+      (traces_step is_marking TracesReached is_want p q (step.Look word.Phase) a.makes 0 own refl tt
       (step_untouched p q (step.Look word.Phase) a refl all refl) (step_counts p q (step.Look word.Phase) a refl) refl).traces
 
   pub look_ready : IsReady q

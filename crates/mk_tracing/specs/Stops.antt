@@ -10,7 +10,6 @@ use Rattle.mk_core.specs.declared.seats.Stage.{Stage}
 use Rattle.mk_core.specs.declared.seats.Stage.TheVariants as stage
 use Rattle.mk_core.specs.Words.{Words, phase_of}
 use Rattle.mk_core.specs.Readings.{NoneAttends}
-use Rattle.mk_words.specs.Seats.{Has}
 use Rattle.mk_words.specs.States.{PassState, now_of, call_of}
 
 -- A caller's New or Free has loaded what it loads, so that any step of a holder may come.
@@ -24,9 +23,8 @@ abbrev pub is_loaded : Seat → Flight → Bool
 is_loaded (Caller k) f = is_loaded_at f.stage
 is_loaded _ f = true
 
--- The pass has all that its seat does, and its call has loaded what it loads.
+-- The call of the turn's holder has loaded what it loads.
 pub record IsReady (p : PassState) : Type 0 where
-  pub own : Has p.seats p.seat
   pub loaded : is_loaded p.seat (call_of p) ≡ true
 
 -- The close is wanted, and no marker attends, nor will one.

@@ -20,7 +20,7 @@ black-requires-clause-enabled c =
 
 pub returns-clause-on : goal.returns-clause-on
 returns-clause-on c =
-    on_black c.args.stop.now c.black.new.self c.requires.wanted (c.is_in_order.ensures.turn.holds, c.is_in_order.ensures.gates) c.black.ensures.op c.args.cell.page c.bit.result c.black.ensures.acts
+    on_black c.args.stop.now c.black.new.self c.requires.wanted (c.is_in_order.ensures.turn.holds, c.is_in_order.ensures.gates) c.is_in_order.ensures.own c.black.ensures.op c.args.cell.page c.bit.result c.black.ensures.acts
 
 pub returns-clause-words : goal.returns-clause-words
 returns-clause-words c =

@@ -50,7 +50,7 @@ returns-clause-on c =
     let p = c.args.stop.now.pass in
     let gray : IsGray p.table.config.pages (still_words p) c.args.cell =
     subst (λ (t : WordsState). IsGray t.config.pages (still_words p) c.args.cell) (sym c.requires.one_table) c.requires.gray in
-    on_word c.args.stop.now c.look.new.self c.requires.wanted (c.is_in_order.ensures.turn.holds, c.is_in_order.ensures.gates) c.look.ensures.op
+    on_word c.args.stop.now c.look.new.self c.requires.wanted (c.is_in_order.ensures.turn.holds, c.is_in_order.ensures.gates) c.is_in_order.ensures.own c.look.ensures.op
     (first_word (still_words p) c.args.cell + c.args.i)
     (subst (λ k. Acts p (step.Look (word.Heap (64 * c.args.cell.page + c.args.cell.index * k + c.args.i))) c.look.new.self.pass) c.requires.size c.look.ensures.acts)
     (gray_word p.table.config.pages (still_words p) c.args.cell c.args.i gray (subst (λ k. c.args.i < k) c.requires.size c.requires.within))
