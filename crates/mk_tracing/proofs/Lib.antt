@@ -5,3 +5,4 @@ pub mod Stilled
 pub mod CellWords
 pub mod MaySteps
 pub mod StopSteps
+pub mod MoreMarks

@@ -4,6 +4,9 @@
 
 mod cells;
 mod stepping;
+mod values;
 mod waiting;
+mod worklist;
 
 pub use waiting::want_and_wait;
+pub use worklist::Worklist;

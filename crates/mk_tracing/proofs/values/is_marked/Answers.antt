@@ -1,0 +1,1 @@
+use Rattle.mk_tracing.proofs.MoreMarks.{outside_none}
