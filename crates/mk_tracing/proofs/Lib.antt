@@ -6,3 +6,4 @@ pub mod CellWords
 pub mod MaySteps
 pub mod StopSteps
 pub mod MoreMarks
+pub mod RootMarks

@@ -3,10 +3,12 @@
 #![tactic(auto)]
 
 mod cells;
+mod roots;
 mod stepping;
 mod values;
 mod waiting;
 mod worklist;
 
+pub use roots::mark_roots;
 pub use waiting::want_and_wait;
 pub use worklist::Worklist;
