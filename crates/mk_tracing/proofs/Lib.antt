@@ -1,4 +1,4 @@
-pub mod Tracing
+pub mod Parts
 pub mod Steps
 pub mod Wants
 pub mod Stilled
@@ -7,3 +7,5 @@ pub mod MaySteps
 pub mod StopSteps
 pub mod MoreMarks
 pub mod RootMarks
+pub mod NoGrays
+pub mod Blackened

@@ -34,7 +34,7 @@ use Rattle.mk_tracing.specs.Grays.{MarksOn, IsInHand, TracesReached}
 use Rattle.mk_tracing.specs.Stops.{IsReady, IsWanted, is_plain, is_root, still_words, hand_of}
 use Rattle.mk_tracing.specs.Tracing.{Traces, untouched_of, is_marking}
 use Rattle.mk_tracing.proofs.Steps.{is_quiet, is_late, step_counts, step_untouched, still_ready, found_there}
-use Rattle.mk_tracing.proofs.Tracing.{traces_step}
+use Rattle.mk_tracing.proofs.Parts.{traces_step}
 
 abbrev words_by : Steady → Written → List ℕ → List ℕ → Words
 words_by s y marks blacks =

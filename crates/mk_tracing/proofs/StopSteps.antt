@@ -30,7 +30,7 @@ use Rattle.mk_tracing.proofs.CellWords.{cell_of_word, words_in_heap}
 use Rattle.mk_tracing.proofs.MaySteps.{marks_by}
 use Rattle.mk_tracing.proofs.Steps.{is_quiet}
 use Rattle.mk_tracing.proofs.Stilled.{but_phase, is_stopped_step, marks_on, marked_hand}
-use Rattle.mk_tracing.proofs.Tracing.{traces_nothing, traces_then}
+use Rattle.mk_tracing.proofs.Parts.{traces_nothing, traces_then}
 
 -- The marking goes on, and on.
 

@@ -19,7 +19,7 @@ use Rattle.mk_tracing.specs.Grays.{TracesReached}
 use Rattle.mk_tracing.specs.Stops.{IsReady, IsWanted}
 use Rattle.mk_tracing.specs.Tracing.{Traces, Counted, is_tracing, is_marking, is_want}
 use Rattle.mk_tracing.proofs.Steps.{step_counts, step_untouched, still_ready, found_there}
-use Rattle.mk_tracing.proofs.Tracing.{traces_step, traces_wider, counted_then}
+use Rattle.mk_tracing.proofs.Parts.{traces_step, traces_wider, counted_then}
 
 phase_there : (p q : PassState) (s : Step) (a : Acts p s q) → phase_of (world_at a.makes).now.words ≡ phase_of (now_of p).words
 phase_there p q s a = ap (λ (x : Steady). x.phase) a.turn.steady

@@ -3,12 +3,15 @@
 #![tactic(auto)]
 
 mod cells;
+mod grays;
 mod roots;
 mod stepping;
+mod tracing;
 mod values;
 mod waiting;
 mod worklist;
 
 pub use roots::mark_roots;
+pub use tracing::trace;
 pub use waiting::want_and_wait;
 pub use worklist::Worklist;
