@@ -1,9 +1,12 @@
 -- A cell that is blackened: its words point well, and one fewer is white.
-use Rattle.std.proofs.Common.{◌≡◌, ◌≢◌, ◌⊎◌, ℕ, zero, suc, ◌+◌, ◌*◌, ◌-◌, ◌^◌, ◌<◌, ◌≤◌, Bool, true, false, List, length, refl, sym, ◌∙◌, ap, subst, inl, inr, arith}
-use Rattle.std.specs.Prelude.{slice_index, slice_set, bit_or, not, ◌&&◌, ◌||◌, nat_lt, if◌then◌else◌}
+use Rattle.std.proofs.Common.{◌≡◌, ◌≢◌, ◌⊎◌, ℕ, zero, suc, ◌+◌, ◌*◌, ◌-◌, ◌^◌, ◌<◌, ◌≤◌, Bool, true, false, List, length, refl, sym, ◌∙◌, ap, subst, inl, inr, arith, lit≤}
+use Rattle.std.specs.Prelude.{Option, Some, None, slice_index, slice_set, bit_or, not, ◌&&◌, ◌||◌, nat_lt, if◌then◌else◌}
 use Rattle.std.proofs.lemmas.Bool.{cases_Bool, cases_eq, cases_lt, and_from, lt-ltb, true≢false}
 use Rattle.std.proofs.lemmas.List.{get_or-set_same, get_or-set_other}
 use Rattle.mk_geom.specs.declared.addresses.Cell.{Cell}
+use Rattle.mk_geom.specs.declared.headers.Header.{Header}
+use Rattle.mk_geom.specs.declared.headers.Header.TheVariants.{Free, Block, Run, Later, LeafBlock, LeafRun}
+use Rattle.mk_geom.specs.Classes.{cells_of, class_words_of}
 use Rattle.mk_core.specs.Bits.{has_bit}
 use Rattle.mk_core.specs.Bounded.{all_below}
 use Rattle.mk_core.specs.Cells.{header_in, cells_under, cell_words, first_word, has_no_pointers, is_marked, points_well, word_points_well, words_point_well}
@@ -113,3 +116,87 @@ gray_turns pages w v cell gray more either =
         by_second : (a b : Bool) → b ≡ true → (a || b) ≡ true
         by_second true b e = refl
         by_second false b e = e
+
+-- A gray cell stays one behind marks, with its header and its words.
+pub gray_kept : (pages : ℕ) (w v : Words) (cell : Cell) → IsGray pages w cell → MarksMore w v → IsGray pages v cell
+gray_kept pages w v cell gray more =
+    record {
+      page = gray.page;
+      index = subst (λ n. cell.index < n) (sym (ap (λ (y : Words). cells_under (header_in y cell.page)) more.is)) gray.index;
+      marked = more.grow cell.page cell.index gray.marked;
+      not_black = ap (λ (y : Words). has_bit (slice_index y.blacks cell.page) cell.index) more.is ∙ gray.not_black;
+    }
+
+-- Once each of its words points well, they all do.
+pub scan_done : (pages : ℕ) (w v : Words) (cell : Cell) → MarksMore w v
+    → ((j : ℕ) → j < cell_words w cell → points_well pages v (slice_index w.heap (first_word w cell + j)) ≡ true) → words_point_well pages v cell ≡ true
+scan_done pages w v cell more each =
+    let all : Words → Type 0 = λ (y : Words). all_below (cell_words y cell) (λ i. points_well pages v (slice_index y.heap (first_word y cell + i))) ≡ true in
+    subst all (sym more.is) (all_below_from (cell_words w cell) (λ i. points_well pages v (slice_index w.heap (first_word w cell + i))) each)
+
+-- what stays behind marks, of the cell
+pub cell_kept : (w v : Words) (cell : Cell) (i : ℕ) → MarksMore w v → slice_index v.heap (first_word v cell + i) ≡ slice_index w.heap (first_word w cell + i)
+cell_kept w v cell i more = ap (λ (y : Words). slice_index y.heap (first_word y cell + i)) more.is
+
+-- A page has at most 32 cells.
+
+few_of_class : (k : ℕ) → cells_of k ≤ 32
+few_of_class zero = lit≤ tt
+few_of_class (suc zero) = lit≤ tt
+few_of_class (suc (suc zero)) = lit≤ tt
+few_of_class (suc (suc (suc zero))) = lit≤ tt
+few_of_class (suc (suc (suc (suc zero)))) = lit≤ tt
+few_of_class (suc (suc (suc (suc (suc zero))))) = lit≤ tt
+few_of_class (suc (suc (suc (suc (suc (suc zero)))))) = lit≤ tt
+few_of_class (suc (suc (suc (suc (suc (suc (suc zero))))))) = lit≤ tt
+few_of_class (suc (suc (suc (suc (suc (suc (suc (suc k)))))))) = lit≤ tt
+
+pub cells_few : (x : Option Header) → cells_under x ≤ 32
+cells_few (Some (Block class)) = few_of_class class
+cells_few (Some (LeafBlock class)) = few_of_class class
+cells_few (Some (Run count mapped)) = lit≤ tt
+cells_few (Some (LeafRun count)) = lit≤ tt
+cells_few (Some Free) = lit≤ tt
+cells_few (Some (Later distance mapped)) = lit≤ tt
+cells_few None = lit≤ tt
+
+-- A cell is blackened behind marks.
+pub blackens_one : (w x v : Words) (cell : Cell) → MarksMore w x
+    → v ≡ record x { blacks = slice_set x.blacks cell.page (bit_or (slice_index x.blacks cell.page) (2 ^ cell.index)) } → BlackensOne w cell v
+blackens_one w x v cell more is =
+    let from : v ≡ record w { marks = x.marks; blacks = slice_set w.blacks cell.page (bit_or (slice_index w.blacks cell.page) (2 ^ cell.index)) } =
+    is ∙ ap (λ (y : Words). record y { blacks = slice_set y.blacks cell.page (bit_or (slice_index y.blacks cell.page) (2 ^ cell.index)) }) more.is in
+    let marks : v.marks ≡ x.marks = ap (λ (y : Words). y.marks) from in
+    record {
+      is = from ∙ ap (λ (ms : List ℕ). record w { marks = ms; blacks = slice_set w.blacks cell.page (bit_or (slice_index w.blacks cell.page) (2 ^ cell.index)) }) (sym marks);
+      grow = λ p k h. subst (λ (ms : List ℕ). has_bit (slice_index ms p) k ≡ true) (sym marks) (more.grow p k h);
+    }
+
+-- Colours are added, one part behind another.
+
+pub colours_same : (w : Words) → ColoursMore w w
+colours_same w = record { is = refl; marks = λ p k h. h; blacks = λ p k h. h }
+
+abbrev coloured_as : Words → List ℕ → List ℕ → Words
+coloured_as w ms bs = record w { marks = ms; blacks = bs }
+
+pub colours_then : (w v x : Words) (cell : Cell) → ColoursMore w v → BlackensOne v cell x → ColoursMore w x
+colours_then w v x cell one two =
+    let bs : List ℕ = slice_set v.blacks cell.page (bit_or (slice_index v.blacks cell.page) (2 ^ cell.index)) in
+    let blacks : x.blacks ≡ bs = ap (λ (y : Words). y.blacks) two.is in
+    record {
+      is = two.is ∙ ap (λ (y : Words). coloured_as y x.marks bs) one.is ∙ ap (λ (xs : List ℕ). coloured_as w x.marks xs) (sym blacks);
+      marks = λ p k h. two.grow p k (one.marks p k h);
+      blacks = λ p k h. subst (λ (xs : List ℕ). has_bit (slice_index xs p) k ≡ true) (sym blacks) (bits_stay v.blacks cell.page (2 ^ cell.index) p k (one.blacks p k h));
+    }
+
+-- one fewer is white
+pub one_fewer_white : (pages : ℕ) (w v x : Words) (cell : Cell) → IsGray pages w cell → pages ≡ length w.blacks → v ≡ w → BlackensOne v cell x
+    → white_cells pages x.blacks < white_cells pages w.blacks
+one_fewer_white pages w v x cell gray count same one =
+    let few = cells_few (header_in w cell.page) in
+    let known = gray.index in
+    let blacks : x.blacks ≡ slice_set w.blacks cell.page (bit_or (slice_index w.blacks cell.page) (2 ^ cell.index)) =
+    ap (λ (y : Words). y.blacks) one.is ∙ ap (λ (y : Words). slice_set y.blacks cell.page (bit_or (slice_index y.blacks cell.page) (2 ^ cell.index))) same in
+    subst (λ (xs : List ℕ). white_cells pages xs < white_cells pages w.blacks) (sym blacks)
+    (fewer_white pages cell.page cell.index w.blacks gray.page (subst (λ n. cell.page < n) count gray.page) (omega arith) gray.not_black)

@@ -1,6 +1,7 @@
 //! Tracing: every marked cell is scanned and blackened.
 ghost use Rattle.std.specs.Prelude.{◌≡◌, ℕ, ◌<◌, true, false};
 ghost use Rattle.mk_core.specs.Cells.{cell_words, has_no_pointers, header_in, words_point_well};
+ghost use Rattle.mk_core.specs.StopConditions.{may_turn_black};
 ghost use Rattle.mk_tracing.specs.Grays.{BlackensOne, ColoursMore, HasNoGray, IsGray, MarksMore, MarksOn};
 ghost use Rattle.mk_tracing.specs.Stops.{IsWanted, still_words};
 
@@ -33,6 +34,22 @@ fn scan(words: &Words, stop: &mut Stopped, work: &mut Worklist, cell: Cell, size
     }
 }
 
+/// Scans a gray cell, if it may have pointers.
+fn scan_if_due(words: &Words, stop: &mut Stopped, work: &mut Worklist, cell: Cell)
+    requires one_table { stop.old.pass.table ≡ words.now }
+    requires wanted { IsWanted stop.old.pass }
+    requires gray { IsGray words.now.config.pages (still_words stop.old.pass) cell }
+    ensures on { MarksOn stop.old stop.new }
+    ensures more { MarksMore (still_words stop.old.pass) (still_words stop.new.pass) }
+    ensures turns { may_turn_black words.now.config.pages (still_words stop.new.pass) cell ≡ true }
+{
+    let header = look_at(words, stop, Word::Head(cell.page));
+    if has_no_pointers(header) {
+        return;
+    }
+    scan(words, stop, work, cell, words_under(header));
+}
+
 /// Scans a gray cell, if it may have pointers, and blackens it.
 fn blacken(words: &Words, stop: &mut Stopped, work: &mut Worklist, cell: Cell)
     requires one_table { stop.old.pass.table ≡ words.now }
@@ -41,10 +58,7 @@ fn blacken(words: &Words, stop: &mut Stopped, work: &mut Worklist, cell: Cell)
     ensures on { MarksOn stop.old stop.new }
     ensures one { BlackensOne (still_words stop.old.pass) cell (still_words stop.new.pass) }
 {
-    let header = look_at(words, stop, Word::Head(cell.page));
-    if !has_no_pointers(header) {
-        scan(words, stop, work, cell, words_under(header));
-    }
+    scan_if_due(words, stop, work, cell);
     blacken_cell(words, stop, cell);
 }
 
