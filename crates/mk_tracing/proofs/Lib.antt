@@ -9,3 +9,5 @@ pub mod MoreMarks
 pub mod RootMarks
 pub mod NoGrays
 pub mod Blackened
+pub mod Clearing
+pub mod Closes

@@ -98,6 +98,17 @@ pub record RootsPointWell (pages : ℕ) (w : Words) : Type 0 where
   pub registers : (i : ℕ) → points_well pages w (slice_index w.registers i) ≡ true
   pub globals : (g : ℕ) → points_well pages w (slice_index w.globals g) ≡ true
 
--- No page is dirty.
-abbrev pub NoneIsDirty : Words → Type 0
-NoneIsDirty w = (p : ℕ) → slice_index w.dirty p ≡ 0
+-- Where the page is dirty, nothing of it is black.
+pub record IsUnscanned (w : Words) (page : ℕ) : Type 0 where
+  pub own : slice_index w.dirty page ≢ 0 → slice_index w.blacks page ≡ 0
+  pub head : slice_index w.dirty page ≢ 0 → slice_index w.blacks (head_page w page) ≡ 0
+
+-- Black words, and no others, are cleared.
+pub record BlacksFewer (w v : Words) : Type 0 where
+  pub is : v ≡ record w { blacks = v.blacks }
+  pub fewer : (p : ℕ) → slice_index w.blacks p ≡ 0 → slice_index v.blacks p ≡ 0
+
+-- Dirty words, and no others, are cleared.
+pub record DirtyFewer (w v : Words) : Type 0 where
+  pub is : v ≡ record w { dirty = v.dirty }
+  pub fewer : (p : ℕ) → slice_index w.dirty p ≡ 0 → slice_index v.dirty p ≡ 0

@@ -3,6 +3,8 @@
 #![tactic(auto)]
 
 mod cells;
+mod closing;
+mod dirty;
 mod grays;
 mod roots;
 mod stepping;
@@ -11,6 +13,8 @@ mod values;
 mod waiting;
 mod worklist;
 
+pub use closing::close_marks;
+pub use dirty::{unblack_dirty, undirty_all};
 pub use roots::mark_roots;
 pub use tracing::trace;
 pub use waiting::want_and_wait;

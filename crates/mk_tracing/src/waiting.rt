@@ -50,6 +50,7 @@ pub fn want_and_wait<R: Threads + Wait + Sync>(rt: &R, words: &Words, stop: &mut
     requires one_table { stop.old.pass.table ≡ words.now }
     requires ready { IsReady stop.old.pass }
     requires phase { phase_of (now_of stop.old.pass).words ≡ 1 }
+    ensures table { stop.new.pass.table ≡ stop.old.pass.table }
     ensures op { stop.new.op ≡ stop.old.op }
     ensures wanted { IsWanted stop.new.pass }
     ensures traces { Counted is_tracing TracesReached is_want stop.old.pass stop.new.pass 1 }
