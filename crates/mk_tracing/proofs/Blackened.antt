@@ -1,15 +1,14 @@
 -- A cell that is blackened: its words point well, and one fewer is white.
-use Rattle.std.proofs.Common.{◌≡◌, ◌≢◌, ◌⊎◌, ℕ, zero, suc, ◌+◌, ◌*◌, ◌-◌, ◌^◌, ◌<◌, ◌≤◌, Bool, true, false, List, length, refl, sym, ◌∙◌, ap, subst, inl, inr, arith, lit≤}
-use Rattle.std.specs.Prelude.{Option, Some, None, slice_index, slice_set, bit_or, not, ◌&&◌, ◌||◌, nat_lt, if◌then◌else◌}
-use Rattle.std.proofs.lemmas.Bool.{cases_Bool, cases_eq, cases_lt, and_from, lt-ltb, true≢false}
-use Rattle.std.proofs.lemmas.List.{get_or-set_same, get_or-set_other}
+use Rattle.std.proofs.Common.{◌≡◌, ◌⊎◌, ℕ, zero, suc, ◌+◌, ◌^◌, ◌<◌, ◌≤◌, Bool, true, false, List, length, refl, sym, ◌∙◌, ap, subst, inl, inr, arith, lit≤}
+use Rattle.std.specs.Prelude.{Option, Some, None, slice_index, slice_set, bit_or, ◌&&◌, ◌||◌, nat_lt, if◌then◌else◌}
+use Rattle.std.proofs.lemmas.Bool.{cases_lt, and_from, lt-ltb, true≢false}
 use Rattle.mk_geom.specs.declared.addresses.Cell.{Cell}
 use Rattle.mk_geom.specs.declared.headers.Header.{Header}
 use Rattle.mk_geom.specs.declared.headers.Header.TheVariants.{Free, Block, Run, Later, LeafBlock, LeafRun}
-use Rattle.mk_geom.specs.Classes.{cells_of, class_words_of}
+use Rattle.mk_geom.specs.Classes.{cells_of}
 use Rattle.mk_core.specs.Bits.{has_bit}
 use Rattle.mk_core.specs.Bounded.{all_below}
-use Rattle.mk_core.specs.Cells.{header_in, cells_under, cell_words, first_word, has_no_pointers, is_marked, points_well, word_points_well, words_point_well}
+use Rattle.mk_core.specs.Cells.{header_in, cells_under, cell_words, first_word, has_no_pointers, is_marked, points_well, words_point_well}
 use Rattle.mk_core.specs.StopConditions.{may_turn_black}
 use Rattle.mk_core.specs.Words.{Words}
 use Rattle.mk_core.proofs.WordBits.{bits_stay, bits_added, bit_for_small, bit_for_has}

@@ -1,25 +1,23 @@
 -- The marks may be closed, and are closed.
-use Rattle.std.proofs.Common.{◌≡◌, ◌≢◌, ℕ, ◌+◌, ◌<◌, Bool, true, false, List, [], ◌∷◌, ◌++◌, zero, suc, refl, sym, ◌∙◌, ap, subst, arith}
-use Rattle.std.specs.Prelude.{slice_index, slice_index_or, ◌==◌, ◌&&◌}
+use Rattle.std.proofs.Common.{◌≡◌, ℕ, ◌<◌, Bool, true, List, [], ◌∷◌, ◌++◌, suc, refl, ◌∙◌, ap}
+use Rattle.std.specs.Prelude.{slice_index, ◌==◌, ◌&&◌}
 use Rattle.std.specs.List.{list_all}
 use Rattle.std.proofs.lemmas.Bool.{and_from, eq-eqb}
 use Rattle.mk_geom.specs.declared.pages.Page.{Page}
 use Rattle.mk_core.specs.declared.config.Config.{Config}
 use Rattle.mk_core.specs.declared.events.Event.{Event}
 use Rattle.mk_core.specs.declared.events.Step.TheVariants as step
-use Rattle.mk_core.specs.Bits.{without}
 use Rattle.mk_core.specs.Bounded.{all_below, is_none_or}
 use Rattle.mk_core.specs.Cells.{is_marked, pointed_cell, points_well}
 use Rattle.mk_core.specs.ClosedMarks.{MarksAreClosed}
 use Rattle.mk_core.specs.Frames.{HoldsAll}
-use Rattle.mk_core.specs.History.{left, IsHistory, AreEnabledFrom}
-use Rattle.mk_core.specs.Moments.{Moment}
+use Rattle.mk_core.specs.History.{IsHistory, AreEnabledFrom}
 use Rattle.mk_core.specs.StopConditions.{has_closed_page, none_attends, roots_point_well}
 use Rattle.mk_core.specs.Words.{Words, phase_of}
 use Rattle.mk_core.proofs.HistoryParts.{enabled_in_parts}
 use Rattle.mk_frames.proofs.Tests.{all_below_from, none_from}
 use Rattle.mk_invariant.proofs.Theorems.{closes_find_marks_closed}
-use Rattle.mk_words.specs.States.{PassState, now_of, call_of, world_of, event_of}
+use Rattle.mk_words.specs.States.{PassState, now_of, world_of, event_of}
 use Rattle.mk_words.specs.Steps.{IsEnabledTo}
 use Rattle.mk_words.proofs.Undecided.{undecided_admitted}
 use Rattle.mk_tracing.specs.Grays.{ColoursMore, HasNoGray, MarksMore, RootsPointWell}

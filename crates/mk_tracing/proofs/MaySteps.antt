@@ -1,6 +1,6 @@
 -- Which steps may come in the stop.
-use Rattle.std.proofs.Common.{◌≡◌, ◌≢◌, ℕ, ◌+◌, ◌*◌, ◌^◌, ◌<◌, Bool, true, false, List, Option, refl, sym, ◌∙◌, ap, subst, arith}
-use Rattle.std.specs.Prelude.{Some, None, slice_index, ◌||◌, ◌==◌, nat_lt, not, ◌&&◌}
+use Rattle.std.proofs.Common.{◌≡◌, ℕ, ◌^◌, ◌<◌, Bool, true, false, Option, refl, ◌∙◌, ap}
+use Rattle.std.specs.Prelude.{Some, slice_index, ◌||◌, ◌==◌, nat_lt, not, ◌&&◌}
 use Rattle.std.proofs.lemmas.Bool.{and_from, and_parts, eq-eqb, ltb-true, lt-ltb}
 use Rattle.mk_geom.specs.declared.addresses.Cell.{Cell}
 use Rattle.mk_core.specs.declared.config.Config.{Config}
@@ -10,19 +10,19 @@ use Rattle.mk_core.specs.declared.events.Word.{Word}
 use Rattle.mk_core.specs.declared.events.Word.TheVariants as word
 use Rattle.mk_core.specs.declared.seats.Flight.{Flight}
 use Rattle.mk_core.specs.declared.seats.Hand.{Hand}
-use Rattle.mk_core.specs.Bounded.{all_below, is_some_and}
-use Rattle.mk_core.specs.Cells.{pointed_cell, header_in, head_page}
+use Rattle.mk_core.specs.Bounded.{all_below}
+use Rattle.mk_core.specs.Cells.{pointed_cell, head_page}
 use Rattle.mk_core.specs.Frames.{HoldsAll}
 use Rattle.mk_core.specs.Moments.{Moment, is_number_of, is_held, others_are_held, is_phase}
 use Rattle.mk_core.specs.Ranges.{is_word, has_gates}
 use Rattle.mk_core.specs.Readings.{NoneAttends}
-use Rattle.mk_core.specs.StopConditions.{is_bit_of, marks_by_hand, may_mark, may_undirty, may_unblack, none_attends, blackens, may_turn_black, may_black}
+use Rattle.mk_core.specs.StopConditions.{is_bit_of, marks_by_hand, none_attends, blackens, may_turn_black}
 use Rattle.mk_core.specs.Words.{Words, phase_of}
 use Rattle.mk_core.proofs.AllBelow.{all_below-at, all_below_not_is}
 use Rattle.mk_frames.proofs.Tests.{none_from}
 use Rattle.mk_words.specs.States.{PassState, now_of, call_of}
 use Rattle.mk_words.specs.Steps.{IsEnabledTo}
-use Rattle.mk_tracing.specs.Grays.{IsReached, IsInHand}
+use Rattle.mk_tracing.specs.Grays.{IsReached}
 use Rattle.mk_tracing.specs.Stops.{IsWanted, still_words, hand_of}
 use Rattle.mk_tracing.proofs.Steps.{may_step}
 

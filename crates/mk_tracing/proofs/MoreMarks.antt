@@ -1,23 +1,21 @@
 -- Marks that are added: what points well goes on doing so.
-use Rattle.std.proofs.Common.{◌≡◌, ◌≢◌, ◌⊎◌, ℕ, ◌+◌, ◌*◌, ◌-◌, ◌/◌, ◌^◌, ◌<◌, ◌≤◌, Bool, true, false, List, length, option_and_then, refl, sym, ◌∙◌, ap, subst, inl, inr, arith}
-use Rattle.std.specs.Prelude.{slice_index_or, Option, Some, None, slice_index, slice_set, bit_or, nat_le, nat_lt, ◌&&◌, if◌then◌else◌}
-use Rattle.std.proofs.lemmas.Bool.{and_parts, leb-true, ltb-true, cases_Bool, false_from_ne_true}
+use Rattle.std.proofs.Common.{◌≡◌, ◌≢◌, ◌⊎◌, ℕ, ◌+◌, ◌*◌, ◌-◌, ◌/◌, ◌^◌, ◌<◌, ◌≤◌, Bool, true, List, length, option_and_then, refl, sym, ◌∙◌, ap, subst, inl, inr, arith}
+use Rattle.std.specs.Prelude.{slice_index_or, Option, Some, None, slice_index, slice_set, bit_or, nat_le, nat_lt, if◌then◌else◌}
+use Rattle.std.proofs.lemmas.Bool.{and_parts, leb-true, ltb-true, false_from_ne_true}
 use Rattle.mk_geom.specs.declared.addresses.Cell.{Cell}
 use Rattle.mk_geom.specs.declared.pages.Page.{Page}
 use Rattle.mk_geom.specs.Addresses.{is_heap_address, page_at_address, word_at_address, cell_at, cell_under}
 use Rattle.mk_geom.specs.Headers.{header_of}
 use Rattle.mk_geom.specs.Storages.{free_page}
-use Rattle.mk_core.specs.declared.config.Config.{Config}
 use Rattle.mk_core.specs.Bits.{has_bit}
 use Rattle.mk_core.specs.Bounded.{is_none_or}
 use Rattle.mk_core.specs.Cells.{is_marked, pointed_cell, points_well}
 use Rattle.mk_core.specs.Words.{Words, header_at}
 use Rattle.mk_core.proofs.Lengths.{histories_keep_lengths}
-use Rattle.mk_core.proofs.MarkTests.{null_points_well}
 use Rattle.mk_core.proofs.PointedPages.{pointed_within}
 use Rattle.mk_core.proofs.WordBits.{bits_stay, bits_added, bit_for_small, bit_for_has}
-use Rattle.mk_words.specs.States.{PassState, now_of}
-use Rattle.mk_tracing.specs.Grays.{IsInHand, IsReached, MarksMore}
+use Rattle.mk_words.specs.States.{PassState}
+use Rattle.mk_tracing.specs.Grays.{IsInHand, MarksMore}
 use Rattle.mk_tracing.specs.Stops.{still_words, hand_of}
 
 -- a record with the marks of another

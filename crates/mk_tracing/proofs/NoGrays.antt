@@ -1,12 +1,12 @@
 -- Pages without gray cells, and pages with one.
-use Rattle.std.proofs.Common.{◌≡◌, ◌≢◌, ◌⊎◌, ℕ, zero, suc, ◌+◌, ◌-◌, ◌*◌, ◌^◌, ◌<◌, ◌≤◌, min, Bool, true, false, refl, sym, ◌∙◌, ap, subst, inl, inr, arith, bit_and}
-use Rattle.std.specs.Prelude.{slice_index, not, ◌&&◌, ◌==◌}
+use Rattle.std.proofs.Common.{◌≡◌, ℕ, ◌-◌, ◌^◌, ◌<◌, ◌≤◌, min, Bool, true, false, refl, sym, ◌∙◌, ap, subst, inl, inr, arith, bit_and}
+use Rattle.std.specs.Prelude.{slice_index, not, ◌&&◌}
 use Rattle.std.specs.Int.{bit_at}
 use Rattle.std.proofs.lemmas.Bool.{cases_lt, eq-eqb}
 use Rattle.std.proofs.Math.Pow.{pow_pos}
 use Rattle.std.proofs.lemmas.Nat.Bits.{bit_at_and, bit_at_above, bit_at-lt}
 use Rattle.mk_core.specs.Bits.{has_bit, without}
-use Rattle.mk_core.specs.Cells.{header_in, cells_under, cell_bits}
+use Rattle.mk_core.specs.Cells.{header_in, cells_under}
 use Rattle.mk_geom.specs.Headers.{header_of}
 use Rattle.mk_core.specs.Words.{Words, header_at}
 use Rattle.mk_core.proofs.BitsWithout.{has_bit_without}

@@ -1,7 +1,6 @@
 -- Tracing in parts: nothing, one part behind another, and one step.
 use Rattle.std.proofs.Common.{◌≡◌, ◌+◌, ℕ, Bool, true, false, List, [], ◌∷◌, ◌++◌, refl, sym, ◌∙◌, ap, subst, append-nil, append_assoc, arith}
 use Rattle.std.specs.Prelude.{count_by, cond, if◌then◌else◌}
-use Rattle.std.specs.List.{list_all}
 use Rattle.std.proofs.lemmas.Bool.{and_parts, and_from}
 use Rattle.std.proofs.lemmas.List.Sums.{sum_by-append}
 use Rattle.mk_core.specs.declared.config.Config.{Config}
@@ -10,7 +9,7 @@ use Rattle.mk_core.specs.declared.events.Event.{Event}
 use Rattle.mk_core.specs.declared.events.Step.{Step}
 use Rattle.mk_core.specs.Accesses.{found}
 use Rattle.mk_core.specs.Frames.{CountsAreLeft}
-use Rattle.mk_core.specs.Growing.{is_same_seat, is_one_of, AreOfOthers, Finding, own_from, in_this_call}
+use Rattle.mk_core.specs.Growing.{is_same_seat, is_one_of, AreOfOthers, Finding, own_from}
 use Rattle.mk_core.specs.History.{World, world_behind, left, left_from}
 use Rattle.mk_core.specs.Moments.{Moment}
 use Rattle.mk_core.proofs.HistoryParts.{left_in_parts}
@@ -19,7 +18,7 @@ use Rattle.mk_words.specs.States.{PassState, world_of, event_of}
 use Rattle.mk_words.specs.Steps.{Makes}
 use Rattle.mk_words.specs.TurnSteps.{world_at}
 use Rattle.mk_words.proofs.Seats.{same_seat, same_self, not_both}
-use Rattle.mk_turns.specs.Doing.{Does, AreOwnOrOfOthers, are_of, count_done, done_in}
+use Rattle.mk_turns.specs.Doing.{AreOwnOrOfOthers, are_of, count_done, done_in}
 use Rattle.mk_turns.proofs.Doing.{done_in_parts, of_kinds_in_parts, own_or_others_in_parts, others_are_so, none_own}
 use Rattle.mk_tracing.specs.Tracing.{Traces, Counted, OwnStepsKeep, untouched_of}
 

@@ -1,6 +1,6 @@
 -- Roots that point well, one after the other.
-use Rattle.std.proofs.Common.{◌≡◌, ◌≢◌, ◌⊎◌, ℕ, ◌+◌, ◌*◌, ◌/◌, ◌%◌, ◌<◌, ◌≤◌, Bool, true, false, List, length, refl, sym, ◌∙◌, ap, subst, inl, inr, arith, slice_index_or}
-use Rattle.std.specs.Prelude.{slice_index, ◌==◌, if◌then◌else◌}
+use Rattle.std.proofs.Common.{◌≡◌, ℕ, ◌+◌, ◌*◌, ◌/◌, ◌%◌, ◌<◌, ◌≤◌, true, List, refl, sym, ◌∙◌, ap, subst, inl, inr, arith, slice_index_or}
+use Rattle.std.specs.Prelude.{slice_index}
 use Rattle.std.proofs.lemmas.Bool.{cases_lt}
 use Rattle.std.proofs.lemmas.List.{get_or_past}
 use Rattle.mk_never.specs.declared.values.Value.{Value}
@@ -10,19 +10,18 @@ use Rattle.mk_core.specs.declared.events.Event.{Event}
 use Rattle.mk_core.specs.declared.events.Word.{Word}
 use Rattle.mk_core.specs.declared.events.Word.TheVariants as word
 use Rattle.mk_core.specs.declared.seats.Flight.{Flight}
-use Rattle.mk_core.specs.Calls.{at_rest, d_of}
+use Rattle.mk_core.specs.Calls.{at_rest}
 use Rattle.mk_core.specs.Cells.{points_well}
 use Rattle.mk_core.specs.History.{left, never_behind, IsHistory, bases_of}
 use Rattle.mk_core.specs.Image.{image_of}
 use Rattle.mk_core.specs.Words.{Words, named_word, register_word}
 use Rattle.mk_core.proofs.Lengths.{histories_keep_lengths}
-use Rattle.mk_core.proofs.MarkTests.{null_points_well}
 use Rattle.mk_protocol.proofs.Protocols.{lists_keep_the_protocol}
 use Rattle.mk_images.specs.Images.{flight_among, shown}
 use Rattle.mk_invariant.proofs.Histories.{histories_keep_the_invariant}
 use Rattle.mk_words.specs.States.{PassState, now_of}
 use Rattle.mk_tracing.specs.Grays.{MarksMore, RootsPointWell}
-use Rattle.mk_tracing.specs.Stops.{still_words, is_root}
+use Rattle.mk_tracing.specs.Stops.{is_root}
 use Rattle.mk_tracing.proofs.MoreMarks.{well_more, well_none, zero_none, marked_as}
 
 -- Each value below one points well, and so does the next.

@@ -1,6 +1,6 @@
 -- One step of tracing: it may come, and leaves alone what tracing doesn't touch.
-use Rattle.std.proofs.Common.{◌≡◌, ◌≢◌, ℕ, suc, ◌+◌, ◌<◌, Bool, true, false, List, [], ◌∷◌, ◌++◌, length, Option, refl, sym, ◌∙◌, ap, subst, arith, append-nil}
-use Rattle.std.specs.Prelude.{Some, None, slice_index, slice_set, slice_index_or, ◌||◌, ◌==◌, if◌then◌else◌, not, ◌&&◌, bit_or, count_by, cond}
+use Rattle.std.proofs.Common.{◌≡◌, ℕ, ◌+◌, Bool, true, false, List, [], ◌∷◌, ◌++◌, Option, refl, sym, ◌∙◌, ap, subst, arith, append-nil}
+use Rattle.std.specs.Prelude.{Some, None, slice_index, slice_set, slice_index_or, ◌==◌, if◌then◌else◌, not, ◌&&◌, count_by, cond}
 use Rattle.std.proofs.lemmas.Bool.{and_from, lt-ltb, eq-eqb, not-true}
 use Rattle.std.proofs.lemmas.List.{set-get_or}
 use Rattle.std.proofs.lemmas.List.Sums.{sum_by-append}
@@ -28,16 +28,15 @@ use Rattle.mk_core.specs.declared.seats.Stage.{Stage}
 use Rattle.mk_core.specs.declared.seats.Stage.TheVariants as stage
 use Rattle.mk_core.specs.Words.{Words, phase_of, header_at, named_word}
 use Rattle.mk_core.specs.Accesses.{found, caller_number}
-use Rattle.mk_core.specs.Bounded.{is_some_and}
 use Rattle.mk_core.specs.declared.events.Answer.TheVariants as answer
 use Rattle.mk_core.specs.Calls.{at_rest, still}
 use Rattle.mk_core.specs.Counts.{ends, is_full_answer}
 use Rattle.mk_core.specs.Decided.{Decided, entry_of, answered}
 use Rattle.mk_core.specs.Cycles.{is_end}
-use Rattle.mk_core.specs.Effects.{decided, progress, progress_look, sees_double, flights_behind, moment_behind, chosen, answer_decided}
-use Rattle.mk_core.specs.Enabled.{IsEnabled, MeetsAll, marker_may, holder_may}
+use Rattle.mk_core.specs.Effects.{decided, progress, sees_double, flights_behind, chosen, answer_decided}
+use Rattle.mk_core.specs.Enabled.{marker_may, holder_may}
 use Rattle.mk_core.specs.Frames.{HoldsAll, Steady, Written, steady_of, written_of, CountsAreLeft}
-use Rattle.mk_core.specs.History.{World, world_behind, left, first_world, calls, call_decided}
+use Rattle.mk_core.specs.History.{World, world_behind, left, first_world, calls}
 use Rattle.mk_core.specs.Moments.{Moment, flight_of, marker_at, outside, is_phase}
 use Rattle.mk_core.specs.NewPlaces.{object_made, bits_made, target}
 use Rattle.mk_core.specs.Order.{seat_exists, comes_next, comes_next_to_host, may_decide, is_of_any_holder, is_of_turn, is_in_order, is_open_to, group_of, host_has_turn}
@@ -47,7 +46,6 @@ use Rattle.mk_core.specs.StopConditions.{marks_place}
 use Rattle.mk_core.specs.TurnConditions.{place_now}
 use Rattle.mk_core.proofs.Conditions.{meets_enabled}
 use Rattle.mk_core.proofs.Histories.{calls_more, left_more}
-use Rattle.mk_words.specs.Seats.{Has}
 use Rattle.mk_words.specs.States.{PassState, now_of, call_of, world_of, event_of}
 use Rattle.mk_words.specs.Steps.{Makes, Finds, IsEnabledTo, may_decide as may_decide_call}
 use Rattle.mk_words.specs.TurnSteps.{Acts, world_at}

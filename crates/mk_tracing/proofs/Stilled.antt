@@ -1,6 +1,6 @@
 -- In the stop, where no marker attends, the words are at each step as they were left, but for the phase.
-use Rattle.std.proofs.Common.{◌≡◌, ◌≢◌, ℕ, ◌+◌, ◌%◌, ◌<◌, Bool, true, false, List, [], ◌∷◌, ◌++◌, length, Option, option_and_then, refl, sym, ◌∙◌, ap, subst, arith}
-use Rattle.std.specs.Prelude.{Some, None, slice_index, slice_set, slice_index_or, ◌||◌, ◌==◌, if◌then◌else◌, not, ◌&&◌, bit_or}
+use Rattle.std.proofs.Common.{◌≡◌, ℕ, ◌%◌, Bool, true, false, List, Option, option_and_then, refl, sym, ◌∙◌, ap, subst, arith}
+use Rattle.std.specs.Prelude.{Some, None, slice_index, slice_set, slice_index_or, if◌then◌else◌, not, ◌&&◌, bit_or}
 use Rattle.std.proofs.lemmas.Bool.{ne_eqb}
 use Rattle.mk_core.specs.declared.config.Config.{Config}
 use Rattle.mk_core.specs.declared.events.Seat.{Seat}
@@ -22,16 +22,16 @@ use Rattle.mk_core.specs.Cells.{header_in, pointed_cell, is_marked, has_no_point
 use Rattle.mk_core.specs.Effects.{markers_behind, hand_given, hand_of_cell, is_in_stop, is_mapped_cell}
 use Rattle.mk_core.specs.Frames.{HoldsAll, Steady, Written, steady_of, written_of}
 use Rattle.mk_core.specs.History.{World, world_behind}
-use Rattle.mk_core.specs.Moments.{Moment, outside, is_phase}
+use Rattle.mk_core.specs.Moments.{Moment, outside}
 use Rattle.mk_core.specs.Readings.{Holds, NoneAttends}
 use Rattle.mk_core.specs.StopConditions.{is_attending}
 use Rattle.mk_core.specs.Words.{Words, phase_of, named_word}
 use Rattle.mk_words.specs.Seats.{Has}
-use Rattle.mk_words.specs.States.{PassState, now_of, call_of, world_of, event_of}
-use Rattle.mk_words.specs.Steps.{Makes, Finds}
+use Rattle.mk_words.specs.States.{PassState, now_of, world_of, event_of}
+use Rattle.mk_words.specs.Steps.{Finds}
 use Rattle.mk_words.specs.TurnSteps.{Acts, world_at}
 use Rattle.mk_tracing.specs.Grays.{MarksOn, IsInHand, TracesReached}
-use Rattle.mk_tracing.specs.Stops.{IsReady, IsWanted, is_plain, is_root, still_words, hand_of}
+use Rattle.mk_tracing.specs.Stops.{IsWanted, is_plain, is_root, still_words, hand_of}
 use Rattle.mk_tracing.specs.Tracing.{Traces, untouched_of, is_marking}
 use Rattle.mk_tracing.proofs.Steps.{is_quiet, is_late, step_counts, step_untouched, still_ready, found_there}
 use Rattle.mk_tracing.proofs.Parts.{traces_step}

@@ -1,35 +1,34 @@
 -- Each step in the stop goes on with the marking.
-use Rattle.std.proofs.Common.{◌≡◌, ◌≢◌, ◌⊎◌, ℕ, ◌+◌, ◌*◌, ◌^◌, ◌<◌, ◌≤◌, Bool, true, false, Option, refl, sym, ◌∙◌, ap, subst, inl, inr, arith}
-use Rattle.std.specs.Prelude.{Some, slice_index, nat_lt}
+use Rattle.std.proofs.Common.{◌≡◌, ◌≢◌, ℕ, ◌+◌, ◌*◌, ◌^◌, ◌<◌, true, false, Option, refl, sym, ◌∙◌, ap, subst, arith}
+use Rattle.std.specs.Prelude.{Some, slice_index}
 use Rattle.std.proofs.lemmas.Bool.{lt-ltb}
 use Rattle.mk_geom.specs.declared.addresses.Cell.{Cell}
 use Rattle.mk_core.specs.declared.config.Config.{Config}
-use Rattle.mk_core.specs.declared.events.Step.{Step}
 use Rattle.mk_core.specs.declared.events.Step.TheVariants as step
 use Rattle.mk_core.specs.declared.events.Word.{Word}
 use Rattle.mk_core.specs.declared.events.Word.TheVariants as word
 use Rattle.mk_core.specs.declared.seats.Hand.{Hand}
 use Rattle.mk_core.specs.declared.seats.Holding.{Holding}
 use Rattle.mk_core.specs.Bounded.{is_some_and}
-use Rattle.mk_core.specs.Cells.{pointed_cell, cell_words, first_word, has_no_pointers, header_in, is_marked}
+use Rattle.mk_core.specs.Cells.{pointed_cell, cell_words, first_word, has_no_pointers, header_in}
 use Rattle.mk_core.specs.Cycles.{is_unmarked}
 use Rattle.mk_core.specs.Frames.{HoldsAll}
 use Rattle.mk_core.specs.History.{World, IsHistory}
 use Rattle.mk_core.specs.Moments.{Moment}
 use Rattle.mk_core.specs.Ranges.{is_word}
-use Rattle.mk_core.specs.Words.{Words, named_word}
+use Rattle.mk_core.specs.Words.{Words}
 use Rattle.mk_core.proofs.PointedPages.{pointed_within}
 use Rattle.mk_words.specs.Seats.{Has}
-use Rattle.mk_words.specs.States.{PassState, TurnState, now_of, world_of}
+use Rattle.mk_words.specs.States.{PassState, TurnState, now_of}
 use Rattle.mk_words.specs.Steps.{Finds}
-use Rattle.mk_words.specs.TurnSteps.{Acts, world_at}
+use Rattle.mk_words.specs.TurnSteps.{Acts}
 use Rattle.mk_tracing.specs.Grays.{HasDirtyPart, IsGray, IsGrayWord, IsInHand, IsReached, MarksOn, MarksReached, TracesReached}
-use Rattle.mk_tracing.specs.Stops.{IsWanted, is_plain, is_root, still_words, hand_of}
-use Rattle.mk_tracing.specs.Tracing.{Traces, is_marking}
+use Rattle.mk_tracing.specs.Stops.{IsWanted, is_plain, is_root, still_words}
+use Rattle.mk_tracing.specs.Tracing.{is_marking}
 use Rattle.mk_tracing.proofs.CellWords.{cell_of_word, words_in_heap}
 use Rattle.mk_tracing.proofs.MaySteps.{marks_by}
 use Rattle.mk_tracing.proofs.Steps.{is_quiet}
-use Rattle.mk_tracing.proofs.Stilled.{but_phase, is_stopped_step, marks_on, marked_hand}
+use Rattle.mk_tracing.proofs.Stilled.{but_phase, marks_on, marked_hand}
 use Rattle.mk_tracing.proofs.Parts.{traces_nothing, traces_then}
 
 -- The marking goes on, and on.

@@ -1,7 +1,5 @@
 -- The wish to close the marks, and the looks at the phase behind it.
-use Rattle.std.proofs.Common.{◌≡◌, ◌≢◌, ℕ, ◌+◌, ◌/◌, ◌%◌, ◌^◌, ◌<◌, Bool, true, false, List, refl, sym, ◌∙◌, ap, subst, arith}
-use Rattle.std.specs.Prelude.{◌==◌, not}
-use Rattle.std.proofs.lemmas.Bool.{ne_eqb}
+use Rattle.std.proofs.Common.{◌≡◌, ℕ, ◌+◌, ◌%◌, ◌^◌, ◌<◌, true, false, refl, ◌∙◌, ap, arith}
 use Rattle.mk_core.specs.declared.events.Step.{Step}
 use Rattle.mk_core.specs.declared.events.Step.TheVariants as step
 use Rattle.mk_core.specs.declared.events.Word.TheVariants as word
@@ -10,13 +8,12 @@ use Rattle.mk_core.specs.History.{World, IsHistory}
 use Rattle.mk_core.specs.Readings.{NoneAttends}
 use Rattle.mk_core.specs.Words.{phase_of}
 use Rattle.mk_protocol.proofs.Readings.{words_tell}
-use Rattle.mk_turns.specs.Doing.{count_done}
 use Rattle.mk_words.specs.Seats.{Has}
-use Rattle.mk_words.specs.States.{PassState, now_of, world_of}
+use Rattle.mk_words.specs.States.{PassState, now_of}
 use Rattle.mk_words.specs.Steps.{Finds}
 use Rattle.mk_words.specs.TurnSteps.{Acts, world_at}
 use Rattle.mk_tracing.specs.Grays.{TracesReached}
-use Rattle.mk_tracing.specs.Stops.{IsReady, IsWanted}
+use Rattle.mk_tracing.specs.Stops.{IsReady}
 use Rattle.mk_tracing.specs.Tracing.{Traces, Counted, is_tracing, is_marking, is_want}
 use Rattle.mk_tracing.proofs.Steps.{step_counts, step_untouched, still_ready, found_there}
 use Rattle.mk_tracing.proofs.Parts.{traces_step, traces_wider, counted_then}

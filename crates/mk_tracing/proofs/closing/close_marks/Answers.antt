@@ -1,8 +1,6 @@
 use Rattle.std.proofs.Common.{◌≡◌, ◌∙◌, ℕ, ◌<◌, sym, subst}
 use Rattle.std.specs.Prelude.{slice_index}
-use Rattle.mk_core.specs.declared.events.Step.TheVariants as step
 use Rattle.mk_words.specs.States.{WordsState}
-use Rattle.mk_words.specs.Steps.{IsEnabledTo}
 use Rattle.mk_tracing.specs.Grays.{HasNoGray, RootsPointWell}
 use Rattle.mk_tracing.specs.Stops.{still_words}
 use Rattle.mk_tracing.proofs.Closes.{may_close_now, marks_closed_now}

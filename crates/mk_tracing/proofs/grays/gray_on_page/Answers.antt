@@ -1,8 +1,8 @@
-use Rattle.std.proofs.Common.{◌≡◌, ◌∙◌, ℕ, ap, sym, subst, refl, arith, true, false, inl, inr, ◌<◌, ◌≤◌, ◌+◌}
+use Rattle.std.proofs.Common.{◌∙◌, ap}
 use Rattle.std.specs.Prelude.{slice_index}
 use Rattle.mk_core.specs.Words.{Words, header_at}
 use Rattle.mk_tracing.specs.Stops.{still_words}
-use Rattle.mk_tracing.proofs.StopSteps.{on_from, on_then}
+use Rattle.mk_tracing.proofs.StopSteps.{on_then}
 use Rattle.mk_tracing.proofs.NoGrays.{no_gray_found}
 use Rattle.mk_tracing.proofs.grays.gray_on_page.Goals as goal
 

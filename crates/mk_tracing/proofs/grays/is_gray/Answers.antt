@@ -1,5 +1,3 @@
-use Rattle.std.proofs.Common.{◌≡◌, ◌∙◌, ℕ, ap, sym, subst, refl, arith, true, false, inl, inr, ◌<◌, ◌≤◌, ◌+◌}
-use Rattle.mk_tracing.specs.Stops.{still_words}
 use Rattle.mk_tracing.proofs.StopSteps.{on_from, on_then}
 use Rattle.mk_tracing.proofs.grays.is_gray.Goals as goal
 

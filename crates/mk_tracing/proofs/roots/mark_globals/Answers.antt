@@ -1,8 +1,7 @@
-use Rattle.std.proofs.Common.{◌≡◌, ℕ, ◌<◌, true, refl, subst, arith}
+use Rattle.std.proofs.Common.{◌≡◌, ℕ, true, refl, subst, arith}
 use Rattle.std.specs.Prelude.{slice_index}
 use Rattle.mk_core.specs.declared.events.Word.TheVariants as word
 use Rattle.mk_core.specs.Cells.{points_well}
-use Rattle.mk_core.specs.Words.{register_word}
 use Rattle.mk_tracing.specs.Stops.{still_words}
 use Rattle.mk_tracing.proofs.MoreMarks.{more_same, more_then}
 use Rattle.mk_tracing.proofs.RootMarks.{values_then, root_kept}

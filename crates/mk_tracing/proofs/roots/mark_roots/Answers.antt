@@ -1,4 +1,4 @@
-use Rattle.std.proofs.Common.{◌<◌, ◌≡◌, ◌∙◌, ℕ, true, ap, sym, subst}
+use Rattle.std.proofs.Common.{◌<◌, ◌≡◌, ℕ, true, ap, sym, subst}
 use Rattle.std.specs.Prelude.{slice_index}
 use Rattle.mk_core.specs.Cells.{points_well}
 use Rattle.mk_core.specs.Words.{Words, register_word}

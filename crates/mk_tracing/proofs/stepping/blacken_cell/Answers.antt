@@ -1,4 +1,4 @@
-use Rattle.std.proofs.Common.{subst, sym, ap, ◌∙◌, ◌≡◌, ◌<◌, ◌^◌, true}
+use Rattle.std.proofs.Common.{subst, sym, ◌≡◌, ◌<◌, ◌^◌, true}
 use Rattle.mk_core.specs.declared.events.Step.TheVariants as step
 use Rattle.mk_core.specs.StopConditions.{may_turn_black}
 use Rattle.mk_words.specs.States.{WordsState}

@@ -1,5 +1,5 @@
-use Rattle.std.proofs.Common.{refl, subst, sym, ap, ◌∙◌, ◌≡◌, ◌<◌, ◌+◌, ◌*◌, ℕ, arith}
-use Rattle.mk_core.specs.Cells.{cell_words, first_word}
+use Rattle.std.proofs.Common.{refl, subst, sym, ◌<◌, ◌+◌, ◌*◌, ℕ, arith}
+use Rattle.mk_core.specs.Cells.{first_word}
 use Rattle.mk_core.specs.declared.events.Step.TheVariants as step
 use Rattle.mk_core.specs.declared.events.Word.TheVariants as word
 use Rattle.mk_words.specs.States.{WordsState}

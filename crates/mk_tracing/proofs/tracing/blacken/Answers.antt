@@ -1,5 +1,5 @@
-use Rattle.std.proofs.Common.{◌≡◌, ◌<◌, ℕ, arith}
-use Rattle.mk_core.specs.Cells.{header_in, cells_under}
+use Rattle.std.proofs.Common.{arith}
+use Rattle.mk_core.specs.Cells.{header_in}
 use Rattle.mk_tracing.specs.Stops.{still_words}
 use Rattle.mk_tracing.proofs.Blackened.{blackens_one, cells_few}
 use Rattle.mk_tracing.proofs.StopSteps.{on_then}

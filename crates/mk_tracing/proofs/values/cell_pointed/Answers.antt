@@ -1,5 +1,5 @@
-use Rattle.std.proofs.Common.{◌≡◌, ◌∙◌, ap, sym, inl, inr, subst, ◌≤◌, ◌-◌, ◌/◌, ℕ}
-use Rattle.mk_geom.specs.Addresses.{cell_at, page_at_address}
+use Rattle.std.proofs.Common.{◌∙◌, ap, sym, inl, inr, subst, ◌≤◌, ◌-◌, ◌/◌}
+use Rattle.mk_geom.specs.Addresses.{cell_at}
 use Rattle.mk_tracing.specs.Stops.{still_words}
 use Rattle.mk_tracing.proofs.MoreMarks.{outside_none, found_by_header}
 use Rattle.mk_tracing.proofs.StopSteps.{on_from}

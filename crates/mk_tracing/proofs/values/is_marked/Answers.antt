@@ -1,1 +1,0 @@
-use Rattle.mk_tracing.proofs.MoreMarks.{outside_none}

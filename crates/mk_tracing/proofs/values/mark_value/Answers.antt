@@ -1,10 +1,10 @@
-use Rattle.std.proofs.Common.{◌≡◌, ◌∙◌, ap, sym, subst, ℕ}
+use Rattle.std.proofs.Common.{◌≡◌, ◌∙◌, ap, sym, ℕ}
 use Rattle.std.specs.Prelude.{Some}
 use Rattle.mk_core.specs.Cells.{pointed_cell}
 use Rattle.mk_core.specs.Words.{Words}
 use Rattle.mk_core.proofs.PointedPages.{pointed_within}
 use Rattle.mk_words.specs.States.{WordsState}
-use Rattle.mk_tracing.specs.Stops.{still_words, hand_of}
+use Rattle.mk_tracing.specs.Stops.{still_words}
 use Rattle.mk_tracing.proofs.MoreMarks.{hand_kept, some_not_zero, then_more, then_well, marks_length}
 use Rattle.mk_tracing.proofs.StopSteps.{on_then}
 use Rattle.mk_tracing.proofs.values.mark_value.Goals as goal
