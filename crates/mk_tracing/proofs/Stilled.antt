@@ -30,7 +30,7 @@ use Rattle.mk_words.specs.Seats.{Has}
 use Rattle.mk_words.specs.States.{PassState, now_of, world_of, event_of}
 use Rattle.mk_words.specs.Steps.{Finds}
 use Rattle.mk_words.specs.TurnSteps.{Acts, world_at}
-use Rattle.mk_tracing.specs.Grays.{MarksOn, IsInHand, TracesReached}
+use Rattle.mk_tracing.specs.Grays.{with_marks, with_blacks, without_blacks, without_dirty, MarksOn, IsInHand, TracesReached}
 use Rattle.mk_tracing.specs.Stops.{IsWanted, is_plain, is_root, still_words, hand_of}
 use Rattle.mk_tracing.specs.Tracing.{Traces, untouched_of, is_marking}
 use Rattle.mk_tracing.proofs.Steps.{is_quiet, is_late, step_counts, step_untouched, still_ready, found_there}
@@ -135,18 +135,6 @@ module _ (p q : PassState) (s : Step) (a : Acts p s q) (wanted : IsWanted p) (al
       (traces_step is_marking rule (λ (x : Step). false) p q s a.makes 0 own kind ruled untouched (step_counts p q s a (quiet_of s stopped)) refl).traces
 
 -- what each step leaves
-
-abbrev pub with_marks : ℕ → ℕ → Words → Words
-with_marks pg v w = record w { marks = slice_set w.marks pg (bit_or (slice_index w.marks pg) v) }
-
-abbrev pub with_blacks : ℕ → ℕ → Words → Words
-with_blacks pg v w = record w { blacks = slice_set w.blacks pg (bit_or (slice_index w.blacks pg) v) }
-
-abbrev pub without_blacks : ℕ → Words → Words
-without_blacks pg w = record w { blacks = slice_set w.blacks pg 0 }
-
-abbrev pub without_dirty : ℕ → Words → Words
-without_dirty pg w = record w { dirty = slice_set w.dirty pg 0 }
 
 module _ (p q : PassState) (wanted : IsWanted p) (all : HoldsAll p.table.config (now_of p) p.seat) where
   pub look_words : (x : Word) → Acts p (step.Look x) q → is_quiet (step.Look x) ≡ true → still_words q ≡ still_words p

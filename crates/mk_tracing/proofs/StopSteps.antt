@@ -16,13 +16,17 @@ use Rattle.mk_core.specs.Frames.{HoldsAll}
 use Rattle.mk_core.specs.History.{World, IsHistory}
 use Rattle.mk_core.specs.Moments.{Moment}
 use Rattle.mk_core.specs.Ranges.{is_word}
+use Rattle.mk_core.specs.NewPlaces.{object_made}
+use Rattle.mk_core.specs.StopConditions.{marks_place}
+use Rattle.mk_core.specs.TurnConditions.{place_now}
+use Rattle.std.specs.Prelude.{Bool, ◌&&◌, not}
 use Rattle.mk_core.specs.Words.{Words}
 use Rattle.mk_core.proofs.PointedPages.{pointed_within}
 use Rattle.mk_words.specs.Seats.{Has}
 use Rattle.mk_words.specs.States.{PassState, TurnState, now_of}
 use Rattle.mk_words.specs.Steps.{Finds}
 use Rattle.mk_words.specs.TurnSteps.{Acts}
-use Rattle.mk_tracing.specs.Grays.{HasDirtyPart, IsGray, IsGrayWord, IsInHand, IsReached, MarksOn, MarksReached, TracesReached}
+use Rattle.mk_tracing.specs.Grays.{ReachedMarksSweepNothing, HasDirtyPart, IsGray, IsGrayWord, IsInHand, IsReached, MarksOn, MarksReached, TracesReached}
 use Rattle.mk_tracing.specs.Stops.{IsWanted, is_plain, is_root, still_words}
 use Rattle.mk_tracing.specs.Tracing.{is_marking}
 use Rattle.mk_tracing.proofs.CellWords.{cell_of_word, words_in_heap}
@@ -146,3 +150,9 @@ word_near p history cell i size gray scanned is li =
     let near = words_in_heap p.table.config p.seen cell i history gray.page gray.index scanned (subst (λ k. i < k) is li) in
     let few = history.within_limits.pages.1 in
     subst (λ k. 64 * cell.page + cell.index * k + i < 262144) (sym is) (omega arith)
+
+-- A mark by what stood in a root or a marked cell isn't sweeping.
+pub reached_marks_sweep_nothing : ReachedMarksSweepNothing
+reached_marks_sweep_nothing c m f (step.Mark p v) r =
+    ap (λ (b : Bool). b && not (marks_place m.words (object_made c f.op) (place_now c m f) p v)) r.reached
+reached_marks_sweep_nothing c m f _ r = refl

@@ -25,5 +25,5 @@ returns-clause-roots c =
     roots_well p pages x c.is_in_order.ensures.history (sym (ap (λ (t : WordsState). t.config.pages) c.requires.one_table))
     (ap (λ (y : Words). y.registers) more.is) (ap (λ (y : Words). y.globals) more.is)
     (λ k r lk lr. well_more pages v x (register_word w k r) c.mark_globals.ensures.more
-    (c.mark_registers.ensures.well k r (subst (λ (t : WordsState). k < t.config.callers) c.requires.one_table lk) lr))
+    (c.mark_registers.ensures.well k (subst (λ (t : WordsState). k < t.config.callers) c.requires.one_table lk) r lr))
     (λ g lg. subst (λ (y : Words). points_well pages x (slice_index y.globals g) ≡ true) c.mark_registers.ensures.more.is (c.mark_globals.ensures.well g lg))
