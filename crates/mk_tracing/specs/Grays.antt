@@ -74,7 +74,8 @@ pub record IsReached (p : PassState) (cell : Cell) : Type 0 where
   pub in_hand : IsInHand p value
   pub points : pointed_cell p.table.config.pages (still_words p).pages value ≡ Some cell
 
--- The words with one of them changed: bits are added to a page's mark or black word, or its black or dirty word is cleared.
+-- The words with one of them changed: bits are added to a page's mark or black word, or its black or dirty word is
+-- cleared.
 
 abbrev pub with_marks : ℕ → ℕ → Words → Words
 with_marks p bits w = record w { marks = slice_set w.marks p (bit_or (slice_index w.marks p) bits) }
@@ -143,4 +144,5 @@ pub record DirtyFewer (w v : Words) : Type 0 where
 
 -- Such steps make no sweeping mark.
 abbrev pub ReachedMarksSweepNothing : Type 0
-ReachedMarksSweepNothing = (c : Config) (m : Moment) (f : Flight) (s : Step) → TracesReached c m s → sweeps c m f s ≡ false
+ReachedMarksSweepNothing = (c : Config) (m : Moment) (f : Flight)
+    (s : Step) → TracesReached c m s → sweeps c m f s ≡ false

@@ -1,6 +1,4 @@
-use Rattle.std.proofs.Common.{◌≡◌, ℕ, ◌<◌, true}
-use Rattle.mk_core.specs.Cells.{points_well}
-use Rattle.mk_core.specs.Words.{register_word}
+use Rattle.std.proofs.Common.{ℕ, ◌<◌}
 use Rattle.mk_tracing.specs.Grays.{RegistersAreWell, MarksMore, MarksOn}
 use Rattle.mk_tracing.specs.Stops.{still_words}
 use Rattle.mk_tracing.proofs.roots.mark_registers.Given as goal
