@@ -1,0 +1,196 @@
+-- A word of a scanned cell lies in the heap, and a lookup finds the cell there, where the word isn't 0.
+use Rattle.std.proofs.Common.{◌≡◌, ◌≢◌, ◌⊎◌, ℕ, ◌+◌, ◌-◌, ◌*◌, ◌/◌, ◌%◌, ◌<◌, ◌≤◌, Bool, true, false, List, refl, sym, ◌∙◌, ap, subst, inl, inr, arith, option_and_then}
+use Rattle.std.specs.Prelude.{Option, Some, None, slice_index, nat_le, nat_lt, if◌then◌else◌}
+use Rattle.std.proofs.lemmas.Bool.{and_from, le-leb, lt-ltb, ne_eqb, true≢false}
+use Rattle.std.proofs.Math.Nat.{mul_comm}
+use Rattle.std.proofs.lemmas.Nat.{mul-add-lt, div-mul-add}
+use Rattle.mk_geom.specs.declared.addresses.Cell.{Cell}
+use Rattle.mk_geom.specs.declared.headers.Header.{Header}
+use Rattle.mk_geom.specs.declared.headers.Header.TheVariants.{Free, Block, Run, Later, LeafBlock, LeafRun}
+use Rattle.mk_geom.specs.Addresses.{address_of, is_heap_address, page_at_address, word_at_address, cell_of_block, cell_under}
+use Rattle.mk_geom.specs.Classes.{class_words_of, cells_of}
+use Rattle.mk_geom.proofs.ClassTable.{cell_ends}
+use Rattle.mk_core.specs.declared.config.Config.{Config}
+use Rattle.mk_core.specs.declared.events.Event.{Event}
+use Rattle.mk_core.specs.Words.{Words, phase_of}
+use Rattle.mk_core.specs.Cells.{header_in, cells_under, words_under, head_page, has_no_pointers, pointed_cell, first_word, cell_words}
+use Rattle.mk_core.specs.History.{World, left, never_behind, IsHistory}
+use Rattle.mk_core.specs.Moments.{is_phase}
+use Rattle.mk_core.specs.ObjectHeaders.{ShowsPart, OfBlock, OfLeafBlock, OfRun, OfLeafRun, OfLater}
+use Rattle.mk_core.specs.declared.seats.Object.{Object}
+use Rattle.mk_protocol.specs.Ground.{ground_of}
+use Rattle.mk_protocol.proofs.InHeap.{in_heap_left}
+use Rattle.mk_protocol.proofs.RunsInHeap.{RunsFit}
+use Rattle.mk_layout.specs.Scene.{shows_on}
+use Rattle.mk_layout.specs.Terrain.{object_now}
+use Rattle.mk_layout.proofs.Readings.{claimed, claimed_head}
+use Rattle.mk_layout.proofs.Serving.{Laid}
+use Rattle.mk_guard.proofs.CoveredWords.{covered_word}
+use Rattle.mk_zeros.proofs.BarePages.{Unreleasing, on_allocation, shown_there}
+use Rattle.mk_zeros.proofs.TellGuard.{later_pages}
+use Rattle.mk_invariant.specs.Invariant.{Invariant}
+use Rattle.mk_invariant.proofs.Histories.{histories_keep_the_invariant}
+
+-- the page is behind its head as its header says
+abbrev LiesBehind : Words → ℕ → ℕ → Type 0
+LiesBehind w p page = (page ≡ p) ⊎ ((distance : ℕ) × (mapped : Bool) ×
+    (header_in w page ≡ Some (Later distance mapped)) × (p + distance ≡ page))
+
+part_behind : (w : Words) (o : Object) (p distance page : ℕ) (x : Option Header) → ShowsPart o distance x
+    → header_in w page ≡ x
+    → p + distance ≡ page → LiesBehind w p page
+part_behind w o p distance page x (OfBlock first small leaf) is at = inl (omega arith)
+part_behind w o p distance page x (OfLeafBlock first small leaf) is at = inl (omega arith)
+part_behind w o p distance page x (OfRun mapped first large leaf) is at = inl (omega arith)
+part_behind w o p distance page x (OfLeafRun first large leaf) is at = inl (omega arith)
+part_behind w o p distance page x (OfLater mapped some large) is at = inr (distance, mapped, is, at)
+
+-- While the phase isn't releasing, a word that isn't 0 lies on an allocation, whose headers stand.
+behind_head : (c : Config) (w : World) (n p : ℕ) → Unreleasing c w → slice_index w.now.words.heap n ≢ 0
+    → head_page w.now.words (n / 64) ≡ p → LiesBehind w.now.words p (n / 64)
+behind_head c w n p q some head =
+    let x = on_allocation c w n q some in
+    let shown = shown_there c w x.claim q x.among in
+    let at = x.at in
+    let page : x.claim.page ≡ p =
+    sym (claimed_head w.now.words.pages x.claim x.distance shown x.near) ∙ ap (λ i. head_page w.now.words i) at
+    ∙ head in
+    part_behind w.now.words x.claim.object p x.distance (n / 64)
+    (shows_on w.now.words.pages (x.claim.page + x.distance))
+    (claimed w.now.words.pages x.claim x.distance shown x.near) (ap (λ i. header_in w.now.words i) (sym at))
+    (omega arith)
+
+unreleasing_behind : (c : Config) (es : List Event) → IsHistory c es → phase_of (left c es).now.words ≡ 2
+    → Unreleasing c (left c es)
+unreleasing_behind c es h two =
+    let all : Invariant c (left c es) (never_behind c es) = histories_keep_the_invariant c es h in
+    let w : World = left c es in
+    let off : is_phase w.now.words 4 ≡ false = ne_eqb (phase_of w.now.words) 4 (λ e. omega arith) in
+    record {
+      off = off;
+      laid = subst (λ four. Laid c (object_now c w.now) four w (ground_of w)) off all.order.laid;
+      zeros = all.zeros;
+    }
+
+-- where a lookup at a heap word goes
+
+in_heap : (pages n : ℕ) → n < 64 * pages → is_heap_address pages (address_of n) ≡ true
+in_heap pages n lt =
+    and_from (nat_le 65536 (address_of n)) (nat_lt (address_of n) (65536 + 512 * pages)) (le-leb _ _ (omega arith))
+    (lt-ltb _ _ (omega arith))
+
+page_there : (n : ℕ) → page_at_address (address_of n) ≡ n / 64
+page_there n = omega arith
+
+word_there : (n : ℕ) → word_at_address (address_of n) ≡ n % 64
+word_there n = omega arith
+
+found_at : (pages : ℕ) (w : Words) (n : ℕ) (h : Header) (cell : Cell) → n < 64 * pages → header_in w (n / 64) ≡ Some h
+    → cell_under h (n / 64) (n % 64) ≡ Some cell → pointed_cell pages w.pages (address_of n) ≡ Some cell
+unfolding pointed_cell
+found_at pages w n h cell lt is under =
+    let here : header_in w (page_at_address (address_of n)) ≡ Some h = ap (λ p. header_in w p) (page_there n) ∙ is in
+    let find : Option Header → Option Cell = λ (o : Option Header). option_and_then
+    (λ x. cell_under x (page_at_address (address_of n)) (word_at_address (address_of n))) o in
+    ap (λ (b : Bool). if b then find (header_in w (page_at_address (address_of n))) else None) (in_heap pages n lt)
+    ∙ ap find here
+    ∙ ap (λ p. cell_under h p (word_at_address (address_of n))) (page_there n) ∙ ap (λ i. cell_under h (n / 64) i)
+    (word_there n) ∙ under
+
+abbrev cell_of : ℕ → ℕ → Cell
+cell_of p k = record { page = p; index = k }
+
+abbrev some_where : Bool → Cell → Option Cell
+some_where b cell = if b then Some cell else None
+
+block_there : (size cells p k i : ℕ) → k < cells → i < size
+    → some_where (nat_lt (k * size + i) (cells * size)) (cell_of p ((k * size + i) / size)) ≡ Some (cell_of p k)
+block_there size cells p k i lk li =
+    ap (λ (b : Bool). some_where b (cell_of p ((k * size + i) / size)))
+    (lt-ltb (k * size + i) (cells * size) (subst (λ n. k * size + i < n) (mul_comm size cells)
+    (mul-add-lt k size i cells lk li)))
+    ∙ ap (λ (j : ℕ). Some (cell_of p j)) (div-mul-add k size i li)
+
+-- The cell's words lie in the heap.
+
+in_heap_under : (c : Config) (w : Words) (p k i : ℕ) (x : Option Header) → RunsFit c w.pages → header_in w p ≡ x
+    → p < c.pages → k < cells_under x
+    → has_no_pointers x ≡ false → i < words_under x → 64 * p + k * words_under x + i < 64 * c.pages
+in_heap_under c w p k i (Some (Block class)) fit is lt lk scanned li = let ends = cell_ends k
+    (class_words_of class) lk in omega arith
+in_heap_under c w p k i (Some (Run count true)) fit is lt lk scanned li =
+    let near : p + count ≤ c.pages = fit p count is in
+    let zero : k ≡ 0 = omega arith in
+    let none : k * (64 * count) ≡ 0 = ap (λ j. j * (64 * count)) zero ∙ omega arith in
+    omega arith
+in_heap_under c w p k i (Some (Run count false)) fit is lt lk scanned li = absurd (true≢false scanned)
+in_heap_under c w p k i (Some (LeafBlock class)) fit is lt lk scanned li = absurd (true≢false scanned)
+in_heap_under c w p k i (Some (LeafRun count)) fit is lt lk scanned li = absurd (true≢false scanned)
+in_heap_under c w p k i (Some Free) fit is lt lk scanned li = absurd (omega arith)
+in_heap_under c w p k i (Some (Later d m)) fit is lt lk scanned li = absurd (omega arith)
+in_heap_under c w p k i None fit is lt lk scanned li = absurd (omega arith)
+
+pub words_in_heap : (c : Config) (es : List Event) (cell : Cell) (i : ℕ) → IsHistory c es → cell.page < c.pages
+    → cell.index < cells_under (header_in (left c es).now.words cell.page)
+    → has_no_pointers (header_in (left c es).now.words cell.page) ≡ false
+    → i < cell_words (left c es).now.words cell → first_word (left c es).now.words cell + i < 64 * c.pages
+words_in_heap c es cell i h lt lk scanned li =
+    in_heap_under c (left c es).now.words cell.page cell.index i (header_in (left c es).now.words cell.page)
+    (in_heap_left c es h.within_limits h.enabled).runs refl lt lk scanned li
+
+-- and a lookup finds the cell at each that isn't 0.
+
+run_at : (pages : ℕ) (w : Words) (n p count : ℕ) → n < 64 * pages → header_in w p ≡ Some (Run count true)
+    → LiesBehind w p (n / 64)
+    → pointed_cell pages w.pages (address_of n) ≡ Some (record { page = p; index = 0 })
+run_at pages w n p count lt is (inl here) =
+    found_at pages w n (Run count true) (record { page = p; index = 0 }) lt (ap (λ q. header_in w q) here ∙ is)
+    (ap (λ (q : ℕ). Some (cell_of q 0)) here)
+run_at pages w n p count lt is (inr (d, m, shown, at)) =
+    found_at pages w n (Later d m) (record { page = p; index = 0 }) lt shown
+    (ap (λ (b : Bool). some_where b (cell_of (n / 64 - d) 0)) (le-leb d (n / 64) (omega arith))
+    ∙ ap (λ (q : ℕ). Some (cell_of q 0)) (omega arith))
+
+cell_under_word : (c : Config) (v : World) (p k i : ℕ) (x : Option Header) → Unreleasing c v
+    → header_in v.now.words p ≡ x → k < cells_under x
+    → has_no_pointers x ≡ false → i < words_under x → 64 * p + k * words_under x + i < 64 * c.pages
+    → slice_index v.now.words.heap (64 * p + k * words_under x + i) ≢ 0
+    → head_page v.now.words ((64 * p + k * words_under x + i) / 64) ≡ p
+    → pointed_cell c.pages v.now.words.pages (address_of (64 * p + k * words_under x + i))
+    ≡ Some (record { page = p; index = k })
+cell_under_word c v p k i (Some (Block class)) q is lk scanned li within some head =
+    let size = class_words_of class in
+    let ends = cell_ends k size lk in
+    let n = 64 * p + k * size + i in
+    let page : n / 64 ≡ p = omega arith in
+    let place : n % 64 ≡ k * size + i = omega arith in
+    found_at c.pages v.now.words n (Block class) (record { page = p; index = k }) within
+    (ap (λ j. header_in v.now.words j) page ∙ is)
+    (ap (λ j. cell_of_block class j (n % 64)) page ∙ ap (λ j. cell_of_block class p j) place ∙ block_there size
+    (cells_of class) p k i lk li)
+cell_under_word c v p k i (Some (Run count true)) q is lk scanned li within some head =
+    let n = 64 * p + k * (64 * count) + i in
+    let zero : 0 ≡ k = omega arith in
+    run_at c.pages v.now.words n p count within is (behind_head c v n p q some head)
+    ∙ ap (λ (j : ℕ). Some (cell_of p j)) zero
+cell_under_word c v p k i (Some (Run count false)) q is lk scanned li within some head = absurd (true≢false scanned)
+cell_under_word c v p k i (Some (LeafBlock class)) q is lk scanned li within some head = absurd (true≢false scanned)
+cell_under_word c v p k i (Some (LeafRun count)) q is lk scanned li within some head = absurd (true≢false scanned)
+cell_under_word c v p k i (Some Free) q is lk scanned li within some head = absurd (omega arith)
+cell_under_word c v p k i (Some (Later d m)) q is lk scanned li within some head = absurd (omega arith)
+cell_under_word c v p k i None q is lk scanned li within some head = absurd (omega arith)
+
+pub cell_of_word : (c : Config) (es : List Event) (cell : Cell) (i : ℕ) → IsHistory c es
+    → phase_of (left c es).now.words ≡ 2 → cell.page < c.pages
+    → cell.index < cells_under (header_in (left c es).now.words cell.page)
+    → has_no_pointers (header_in (left c es).now.words cell.page) ≡ false
+    → i < cell_words (left c es).now.words cell
+    → slice_index (left c es).now.words.heap (first_word (left c es).now.words cell + i) ≢ 0
+    → pointed_cell c.pages (left c es).now.words.pages (address_of (first_word (left c es).now.words cell + i))
+    ≡ Some cell
+cell_of_word c es cell i h two lt lk scanned li some =
+    let v : World = left c es in
+    let q = unreleasing_behind c es h two in
+    cell_under_word c v cell.page cell.index i (header_in v.now.words cell.page) q refl lk scanned li
+    (words_in_heap c es cell i h lt lk scanned li) some
+    (covered_word v.now.words cell.page cell.index i (later_pages c v q) lk scanned li some)

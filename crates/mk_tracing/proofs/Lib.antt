@@ -1,0 +1,13 @@
+pub mod Parts
+pub mod Steps
+pub mod Wants
+pub mod Stilled
+pub mod CellWords
+pub mod MaySteps
+pub mod StopSteps
+pub mod MoreMarks
+pub mod RootMarks
+pub mod NoGrays
+pub mod Blackened
+pub mod Clearing
+pub mod Closes

@@ -1,0 +1,124 @@
+-- Marks that are added: what points well goes on doing so.
+use Rattle.std.proofs.Common.{◌≡◌, ◌≢◌, ◌⊎◌, ℕ, ◌+◌, ◌*◌, ◌-◌, ◌/◌, ◌^◌, ◌<◌, ◌≤◌, Bool, true, List, length, option_and_then, refl, sym, ◌∙◌, ap, subst, inl, inr, arith}
+use Rattle.std.specs.Prelude.{slice_index_or, Option, Some, None, slice_index, slice_set, bit_or, nat_le, nat_lt, if◌then◌else◌}
+use Rattle.std.proofs.lemmas.Bool.{and_parts, leb-true, ltb-true, false_from_ne_true}
+use Rattle.mk_geom.specs.declared.addresses.Cell.{Cell}
+use Rattle.mk_geom.specs.declared.pages.Page.{Page}
+use Rattle.mk_geom.specs.Addresses.{is_heap_address, page_at_address, word_at_address, cell_at, cell_under}
+use Rattle.mk_geom.specs.Headers.{header_of}
+use Rattle.mk_geom.specs.Storages.{free_page}
+use Rattle.mk_core.specs.Bits.{has_bit}
+use Rattle.mk_core.specs.Bounded.{is_none_or}
+use Rattle.mk_core.specs.Cells.{is_marked, pointed_cell, points_well}
+use Rattle.mk_core.specs.Words.{Words, header_at}
+use Rattle.mk_core.proofs.Lengths.{histories_keep_lengths}
+use Rattle.mk_core.proofs.PointedPages.{pointed_within}
+use Rattle.mk_core.proofs.WordBits.{bits_stay, bits_added, bit_for_small, bit_for_has}
+use Rattle.mk_words.specs.States.{PassState}
+use Rattle.mk_tracing.specs.Grays.{IsInHand, MarksMore}
+use Rattle.mk_tracing.specs.Stops.{still_words, hand_of}
+
+-- a record with the marks of another
+abbrev pub marked_as : Words → List ℕ → Words
+marked_as w ms = record w { marks = ms }
+
+pub more_same : (w v : Words) → v ≡ w → MarksMore w v
+more_same w v e = subst (λ (x : Words). MarksMore w x) (sym e) (record { is = refl; grow = λ p k h. h })
+
+pub more_then : (u v w : Words) → MarksMore u v → MarksMore v w → MarksMore u w
+more_then u v w one two =
+    record {
+      is = two.is ∙ ap (λ (x : Words). marked_as x w.marks) one.is;
+      grow = λ p k h. two.grow p k (one.grow p k h);
+    }
+
+pub more_marked : (w v : Words) (page value : ℕ)
+    → v ≡ marked_as w (slice_set w.marks page (bit_or (slice_index w.marks page) value)) → MarksMore w v
+more_marked w v page value e =
+    subst (λ (x : Words). MarksMore w x) (sym e) (record {
+      is = refl;
+      grow = λ p k h. bits_stay w.marks page value p k h;
+    })
+
+none_or_on : (o : Option Cell) (w v : Words) → ((x : Cell) → is_marked w x ≡ true → is_marked v x ≡ true)
+    → is_none_or (is_marked w) o ≡ true → is_none_or (is_marked v) o ≡ true
+none_or_on None w v f h = refl
+none_or_on (Some x) w v f h = f x h
+
+pub well_more : (pages : ℕ) (w v : Words) (u : ℕ) → MarksMore w v → points_well pages w u ≡ true
+    → points_well pages v u ≡ true
+well_more pages w v u more h =
+    ap (λ (ps : List Page). is_none_or (is_marked v) (pointed_cell pages ps u)) (ap (λ (x : Words). x.pages) more.is)
+    ∙ none_or_on (pointed_cell pages w.pages u) w v (λ x m. more.grow x.page x.index m) h
+
+-- a value that points into nothing, or into a marked cell
+pub well_none : (pages : ℕ) (w : Words) (u : ℕ) → pointed_cell pages w.pages u ≡ None → points_well pages w u ≡ true
+well_none pages w u e = ap (λ (o : Option Cell). is_none_or (is_marked w) o) e
+
+pub well_some : (pages : ℕ) (w : Words) (u : ℕ) (cell : Cell) → pointed_cell pages w.pages u ≡ Some cell
+    → is_marked w cell ≡ true → points_well pages w u ≡ true
+well_some pages w u cell e marked = ap (λ (o : Option Cell). is_none_or (is_marked w) o) e ∙ marked
+
+-- the marked cell is marked
+pub marked_now : (w v : Words) (cell : Cell) → cell.page < length w.marks → cell.index < 64
+    → v ≡ marked_as w (slice_set w.marks cell.page (bit_or (slice_index w.marks cell.page) (2 ^ cell.index)))
+    → is_marked v cell ≡ true
+marked_now w v cell lt small e =
+    ap (λ (x : Words). is_marked x cell) e
+    ∙ bits_added w.marks cell.page (2 ^ cell.index) cell.index lt
+    (subst (λ n. has_bit n cell.index ≡ true) (bit_for_small cell.index small) (bit_for_has cell.index small))
+
+-- what lies outside the heap points into nothing
+pub outside_none : (pages : ℕ) (ps : List Page) (u : ℕ) → (u < 65536) ⊎ (pages ≤ (u - 65536) / 512)
+    → pointed_cell pages ps u ≡ None
+unfolding pointed_cell
+outside_none pages ps u out = ap (λ (b : Bool). if b then option_and_then
+    (λ h. cell_under h (page_at_address u) (word_at_address u))
+    (header_of (slice_index_or ps (page_at_address u) free_page).header) else None)
+    (false_from_ne_true (is_heap_address pages u) (λ h.
+    let parts = and_parts (nat_le 65536 u) (nat_lt u (65536 + 512 * pages)) h in
+    let low = leb-true 65536 u parts.0 in
+    let high = ltb-true u (65536 + 512 * pages) parts.1 in
+    never out low high))
+  where
+    never : (u < 65536) ⊎ (pages ≤ (u - 65536) / 512) → 65536 ≤ u → u < 65536 + 512 * pages → ⊥
+    never (inl a) low high = omega arith
+    never (inr b) low high = omega arith
+
+pub zero_none : (pages : ℕ) (ps : List Page) → pointed_cell pages ps 0 ≡ None
+zero_none pages ps = outside_none pages ps 0 (inl (omega arith))
+
+-- A value that points into a cell isn't 0.
+pub some_not_zero : (pages : ℕ) (ps : List Page) (u : ℕ) (cell : Cell) → pointed_cell pages ps u ≡ Some cell → u ≢ 0
+some_not_zero pages ps u cell is z =
+    let bad : None ≡ Some cell = sym (zero_none pages ps) ∙ ap (λ n. pointed_cell pages ps n) (sym z) ∙ is in cc
+
+-- A lookup by the header that is there finds the cell.
+pub found_by_header : (pages : ℕ) (w : Words) (u : ℕ)
+    → cell_at pages (header_at w (page_at_address u)) u ≡ pointed_cell pages w.pages u
+unfolding pointed_cell
+found_by_header pages w u = refl
+
+-- The hand, through looks that leave it and the words.
+pub hand_kept : (p q : PassState) (u : ℕ) → hand_of q ≡ hand_of p → IsInHand p u → IsInHand q u
+hand_kept p q u same h = record { hand = h.hand; is = same ∙ h.is; value = h.value; reached = h.reached }
+
+pub marks_length : (p : PassState) → length (still_words p).marks ≡ p.table.config.pages
+marks_length p = (histories_keep_lengths p.table.config p.seen).marks
+
+-- A value is marked by the hand, through looks that leave it and the words.
+module _ (pages u : ℕ) (cell : Cell) (w v x : Words) (e : v ≡ w) (points : pointed_cell pages w.pages u ≡ Some cell)
+    (few : pages ≡ length w.marks)
+    (is : x ≡ marked_as v (slice_set v.marks cell.page (bit_or (slice_index v.marks cell.page) (2 ^ cell.index)))) where
+  is_from : x ≡ marked_as w (slice_set w.marks cell.page (bit_or (slice_index w.marks cell.page) (2 ^ cell.index)))
+  is_from = is ∙ ap (λ (y : Words). marked_as y (slice_set y.marks cell.page
+      (bit_or (slice_index y.marks cell.page) (2 ^ cell.index)))) e
+
+  pub then_more : MarksMore w x
+  then_more = more_marked w x cell.page (2 ^ cell.index) is_from
+
+  pub then_well : points_well pages x u ≡ true
+  then_well =
+      let within = pointed_within pages w u cell points in
+      well_some pages x u cell (ap (λ (y : Words). pointed_cell pages y.pages u) is_from ∙ points)
+      (marked_now w x cell (subst (λ n. cell.page < n) few within.0) within.1 is_from)

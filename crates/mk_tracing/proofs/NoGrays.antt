@@ -1,0 +1,57 @@
+-- Pages without gray cells, and pages with one.
+use Rattle.std.proofs.Common.{◌≡◌, ℕ, ◌-◌, ◌^◌, ◌<◌, ◌≤◌, min, Bool, true, false, refl, sym, ◌∙◌, ap, subst, inl, inr, arith, bit_and}
+use Rattle.std.specs.Prelude.{slice_index, not, ◌&&◌}
+use Rattle.std.specs.Int.{bit_at}
+use Rattle.std.proofs.lemmas.Bool.{cases_lt, eq-eqb}
+use Rattle.std.proofs.Math.Pow.{pow_pos}
+use Rattle.std.proofs.lemmas.Nat.Bits.{bit_at_and, bit_at_above, bit_at-lt}
+use Rattle.mk_core.specs.Bits.{has_bit, without}
+use Rattle.mk_core.specs.Cells.{header_in, cells_under}
+use Rattle.mk_geom.specs.Headers.{header_of}
+use Rattle.mk_core.specs.Words.{Words, header_at}
+use Rattle.mk_core.proofs.BitsWithout.{has_bit_without}
+use Rattle.mk_core.proofs.WordBits.{zero_from_bits, bit_is_one}
+use Rattle.mk_tracing.specs.Grays.{HasNoGray}
+
+-- no bit of the cells is in one word and not in the other
+no_gray_bits : (marks blacks n : ℕ) → ((k : ℕ) → k < n → has_bit marks k ≡ true → has_bit blacks k ≡ true)
+    → without (bit_and marks (2 ^ n - 1)) blacks ≡ 0
+no_gray_bits marks blacks n none =
+    zero_from_bits (without (bit_and marks (2 ^ n - 1)) blacks)
+    (λ k. has_bit_without (bit_and marks (2 ^ n - 1)) blacks k ∙ by k (has_bit (bit_and marks (2 ^ n - 1)) k) refl)
+  where
+    both : (k : ℕ) → has_bit (bit_and marks (2 ^ n - 1)) k ≡ true → (bit_at marks k ≡ 1) × (bit_at (2 ^ n - 1) k ≡ 1)
+    both k h =
+        let one : min (bit_at marks k) (bit_at (2 ^ n - 1) k) ≡ 1 = sym (bit_at_and marks (2 ^ n - 1) k) ∙ bit_is_one
+        (bit_and marks (2 ^ n - 1)) k h in
+        let lt = bit_at-lt marks k in
+        let less = bit_at-lt (2 ^ n - 1) k in
+        (omega arith, omega arith)
+
+    below : (k : ℕ) → bit_at (2 ^ n - 1) k ≡ 1 → k < n
+    below k one = elim (cases_lt k n) [
+      | inl lt ↦ lt
+      | inr past ↦
+          let some : 1 ≤ 2 ^ n = pow_pos n in
+          let none_there = bit_at_above (2 ^ n - 1) n k (omega arith) past in
+          absurd (omega arith)
+    ]
+
+    by : (k : ℕ) (b : Bool) → has_bit (bit_and marks (2 ^ n - 1)) k ≡ b → (b && not (has_bit blacks k)) ≡ false
+    by k false is = refl
+    by k true is = let h = both k is in ap not (none k (below k h.1) (eq-eqb (bit_at marks k) 1 h.0))
+
+pub no_gray : (w : Words) (p : ℕ)
+    → ((k : ℕ) → k < cells_under (header_in w p) → has_bit (slice_index w.marks p) k ≡ true
+    → has_bit (slice_index w.blacks p) k ≡ true)
+    → HasNoGray w p
+no_gray w p none = no_gray_bits (slice_index w.marks p) (slice_index w.blacks p) (cells_under (header_in w p)) none
+
+-- the words as they were found
+pub no_gray_found : (w : Words) (p header marks blacks : ℕ) → header ≡ header_at w p → marks ≡ slice_index w.marks p
+    → blacks ≡ slice_index w.blacks p
+    → ((k : ℕ) → k < cells_under (header_of header) → has_bit marks k ≡ true → has_bit blacks k ≡ true) → HasNoGray w p
+no_gray_found w p header marks blacks h m b none =
+    no_gray w p (λ k lt is.
+    subst (λ n. has_bit n k ≡ true) b
+    (none k (subst (λ n. k < cells_under (header_of n)) (sym h) lt) (subst (λ n. has_bit n k ≡ true) (sym m) is)))

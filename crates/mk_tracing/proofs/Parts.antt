@@ -1,0 +1,244 @@
+-- Tracing in parts: nothing, one part behind another, and one step.
+use Rattle.std.proofs.Common.{◌≡◌, ◌+◌, ℕ, Bool, true, false, List, [], ◌∷◌, ◌++◌, refl, sym, ◌∙◌, ap, subst, append-nil, append_assoc, arith}
+use Rattle.std.specs.Prelude.{count_by, cond, if◌then◌else◌}
+use Rattle.std.proofs.lemmas.Bool.{and_parts, and_from}
+use Rattle.std.proofs.lemmas.List.Sums.{sum_by-append}
+use Rattle.mk_core.specs.declared.config.Config.{Config}
+use Rattle.mk_core.specs.declared.events.Seat.{Seat}
+use Rattle.mk_core.specs.declared.events.Event.{Event}
+use Rattle.mk_core.specs.declared.events.Step.{Step}
+use Rattle.mk_core.specs.Accesses.{found}
+use Rattle.mk_core.specs.Frames.{CountsAreLeft}
+use Rattle.mk_core.specs.Growing.{is_same_seat, is_one_of, AreOfOthers, Finding, own_from}
+use Rattle.mk_core.specs.History.{World, world_behind, left, left_from}
+use Rattle.mk_core.specs.Moments.{Moment}
+use Rattle.mk_core.proofs.HistoryParts.{left_in_parts}
+use Rattle.mk_words.specs.Seats.{Has}
+use Rattle.mk_words.specs.States.{PassState, world_of, event_of}
+use Rattle.mk_words.specs.Steps.{Makes}
+use Rattle.mk_words.specs.TurnSteps.{world_at}
+use Rattle.mk_words.proofs.Seats.{same_seat, same_self, not_both}
+use Rattle.mk_turns.specs.Doing.{AreOwnOrOfOthers, are_of, count_done, done_in}
+use Rattle.mk_turns.proofs.Doing.{done_in_parts, of_kinds_in_parts, own_or_others_in_parts, others_are_so, none_own}
+use Rattle.mk_tracing.specs.Tracing.{Traces, Counted, OwnStepsKeep, untouched_of}
+
+-- the rule, over a list in two parts
+keep_in_parts : (rule : Config → Moment → Step → Type 0) (c : Config) (s : Seat) (w : World) (xs ys : List Event)
+    → OwnStepsKeep rule c s w xs → OwnStepsKeep rule c s (left_from c w xs) ys → OwnStepsKeep rule c s w (xs ++ ys)
+unfolding OwnStepsKeep left_from
+keep_in_parts rule c s w [] ys one two = two
+keep_in_parts rule c s w (e ∷ es) ys one two = (one.0, keep_in_parts rule c s (world_behind c w e) es ys one.1 two)
+
+-- events of others keep to it, since none is the seat's own
+others_keep : (rule : Config → Moment → Step
+    → Type 0) (c : Config) (s : Seat) (seats : List Seat) (w : World) (xs : List Event)
+    → Has seats s → AreOfOthers seats xs → OwnStepsKeep rule c s w xs
+unfolding OwnStepsKeep AreOfOthers
+others_keep rule c s seats w [] has others = tt
+others_keep rule c s seats w (e ∷ es) has others = (
+  λ same. absurd (not_both seats e.seat others.0 (subst (λ (x : Seat). Has seats x) (same_seat s e.seat same) has)),
+  others_keep rule c s seats (world_behind c w e) es has others.1,
+)
+
+one_keeps : (rule : Config → Moment → Step → Type 0) (c : Config) (s : Seat) (w : World) (e : Event)
+    → rule c w.now e.step → OwnStepsKeep rule c s w (e ∷ [])
+unfolding OwnStepsKeep
+one_keeps rule c s w e is = (λ same. is, tt)
+
+-- an own step, as it is counted
+
+one_own : (c : Config) (s : Seat) (w : World) (e : Event) → is_same_seat s e.seat ≡ true
+    → own_from c s w (e ∷ []) ≡ record { event = e; found = found c w.now e } ∷ []
+unfolding own_from
+one_own c s w e same = ap (λ (b : Bool). if b then record { event = e; found = found c w.now e } ∷ [] else []) same
+
+itself : (s : Seat) (seats : List Seat) (e : Event) → e.seat ≡ s → Has seats s → AreOwnOrOfOthers s seats (e ∷ [])
+unfolding AreOwnOrOfOthers
+itself s seats e same has =
+    (ap (λ (x : Seat). is_one_of seats x) same ∙ has ∙ sym (ap (λ (x : Seat). is_same_seat s x) same ∙ same_self s), tt)
+
+-- Nothing is traced.
+
+none_done : (p : PassState) → done_in p [] ≡ []
+unfolding own_from
+none_done p = refl
+
+nothing_own : (s : Seat) (seats : List Seat) → AreOwnOrOfOthers s seats []
+unfolding AreOwnOrOfOthers
+nothing_own s seats = tt
+
+nothing_keeps : (rule : Config → Moment → Step → Type 0) (c : Config) (s : Seat) (w : World)
+    → OwnStepsKeep rule c s w []
+unfolding OwnStepsKeep
+nothing_keeps rule c s w = tt
+
+pub traces_nothing : (kinds : Step → Bool) (rule : Config → Moment → Step → Type 0) (p : PassState)
+    → Traces kinds rule p p
+traces_nothing kinds rule p =
+    record {
+      does = record {
+        more = [];
+        is = sym (ap (λ (es : List Event). record p { seen = es }) (append-nil p.seen));
+        own_or_others = nothing_own p.seat p.seats;
+        of_kinds = ap (λ (xs : List Finding). are_of kinds xs) (none_done p);
+      };
+      keeps = nothing_keeps rule p.table.config p.seat (world_of p);
+      untouched = refl;
+      counts = record { ends = refl; fulls = refl };
+    }
+
+-- One part is traced behind another, and what is done of a kind adds up.
+
+counts_then : (c : Config) (es fs gs : List Event) → CountsAreLeft c es fs → CountsAreLeft c fs gs
+    → CountsAreLeft c es gs
+counts_then c es fs gs one two = record { ends = two.ends ∙ one.ends; fulls = two.fulls ∙ one.fulls }
+
+count_in_parts : (test : Finding → Bool) (xs ys : List Finding)
+    → count_by test (xs ++ ys) ≡ count_by test xs + count_by test ys
+count_in_parts test xs ys = sum_by-append (λ (x : Finding). cond (test x) 1 0) xs ys
+
+count_first : (test : Finding → Bool) (x : Finding) (xs : List Finding) → test x ≡ false
+    → count_by test (x ∷ xs) ≡ count_by test xs
+count_first test x xs unlike =
+    let one : count_by test (x ∷ []) ≡ 0 = ap (λ (b : Bool). 0 + cond b 1 0) unlike in
+    let both : count_by test (x ∷ xs) ≡ count_by test (x ∷ []) + count_by test xs = count_in_parts test (x ∷ []) xs in
+    omega arith
+
+module _ (kinds : Step → Bool) (rule : Config → Moment → Step → Type 0) (kind : Step → Bool) where
+  then_at : (p : PassState) (xs : List Event) → AreOwnOrOfOthers p.seat p.seats xs → are_of kinds (done_in p xs) ≡ true
+      → OwnStepsKeep rule p.table.config p.seat (world_of p) xs
+      → untouched_of (left p.table.config (p.seen ++ xs)) ≡ untouched_of (world_of p)
+      → CountsAreLeft p.table.config p.seen (p.seen ++ xs)
+      → (n m : ℕ) → count_by (λ (x : Finding). kind x.event.step) (done_in p xs) ≡ n
+      → (r : PassState) → Counted kinds rule kind (record p { seen = p.seen ++ xs }) r m
+      → Counted kinds rule kind p r (n + m)
+  then_at p xs own of_kinds keeps untouched counts n m before r on =
+      let d = on.traces.does in
+      let test : Finding → Bool = λ (x : Finding). kind x.event.step in
+      record {
+        traces = record {
+          does = record {
+            more = xs ++ d.more;
+            is = d.is ∙ ap (λ (es : List Event). record p { seen = es }) (append_assoc p.seen xs d.more);
+            own_or_others = own_or_others_in_parts p.seat p.seats xs d.more own d.own_or_others;
+            of_kinds =
+                ap (λ (zs : List Finding). are_of kinds zs) (done_in_parts p xs d.more)
+                ∙ of_kinds_in_parts kinds (done_in p xs) (done_in (record p { seen = p.seen ++ xs }) d.more) of_kinds
+                d.of_kinds;
+          };
+          keeps =
+              keep_in_parts rule p.table.config p.seat (world_of p) xs d.more keeps
+              (subst (λ (w : World). OwnStepsKeep rule p.table.config p.seat w d.more)
+              (left_in_parts p.table.config p.seen xs) on.traces.keeps);
+          untouched = on.traces.untouched ∙ untouched;
+          counts = counts_then p.table.config p.seen (p.seen ++ xs) r.seen counts on.traces.counts;
+        };
+        count =
+            ap (λ (zs : List Finding). count_by test zs) (done_in_parts p xs d.more)
+            ∙ count_in_parts test (done_in p xs) (done_in (record p { seen = p.seen ++ xs }) d.more)
+            ∙ ap (λ k. k + count_by test (done_in (record p { seen = p.seen ++ xs }) d.more)) before ∙ ap
+            (λ k. n + k) on.count;
+      }
+
+  pub counted_then : (p q r : PassState) (n m : ℕ) → Counted kinds rule kind p q n → Counted kinds rule kind q r m
+      → Counted kinds rule kind p r (n + m)
+  counted_then p q r n m one two =
+      let t = one.traces in
+      let d = t.does in
+      then_at p d.more d.own_or_others d.of_kinds t.keeps
+      (subst (λ (x : PassState). untouched_of (world_of x) ≡ untouched_of (world_of p)) d.is t.untouched)
+      (subst (λ (x : PassState). CountsAreLeft p.table.config p.seen x.seen) d.is t.counts) n m one.count r
+      (subst (λ (x : PassState). Counted kinds rule kind x r m) d.is two)
+
+pub traces_then : (kinds : Step → Bool) (rule : Config → Moment → Step → Type 0) (p q r : PassState)
+    → Traces kinds rule p q → Traces kinds rule q r → Traces kinds rule p r
+traces_then kinds rule p q r t u =
+    (counted_then kinds rule kinds p q r (count_done kinds t.does) (count_done kinds u.does)
+    (record { traces = t; count = refl }) (record { traces = u; count = refl })).traces
+
+-- More kinds may be allowed.
+
+wider_kinds : (kinds more : Step → Bool) (xs : List Finding) → ((s : Step) → kinds s ≡ true → more s ≡ true)
+    → are_of kinds xs ≡ true → are_of more xs ≡ true
+wider_kinds kinds more [] wider h = refl
+wider_kinds kinds more (x ∷ xs) wider h =
+    let parts = and_parts (kinds x.event.step) (are_of kinds xs) h in
+    and_from (more x.event.step) (are_of more xs) (wider x.event.step parts.0) (wider_kinds kinds more xs wider parts.1)
+
+none_counted : (kinds kind : Step → Bool) (xs : List Finding) → ((s : Step) → kinds s ≡ true → kind s ≡ false)
+    → are_of kinds xs ≡ true → count_by (λ (x : Finding). kind x.event.step) xs ≡ 0
+none_counted kinds kind [] none h = refl
+none_counted kinds kind (x ∷ xs) none h =
+    let parts = and_parts (kinds x.event.step) (are_of kinds xs) h in
+    count_first (λ (y : Finding). kind y.event.step) x xs (none x.event.step parts.0)
+    ∙ none_counted kinds kind xs none parts.1
+
+pub traces_wider : (kinds more kind : Step → Bool) (rule : Config → Moment → Step → Type 0) (p q : PassState)
+    → ((s : Step) → kinds s ≡ true → more s ≡ true) → ((s : Step) → kinds s ≡ true → kind s ≡ false)
+    → Traces kinds rule p q → Counted more rule kind p q 0
+traces_wider kinds more kind rule p q wider none t =
+    let d = t.does in
+    record {
+      traces = record {
+        does = record {
+          more = d.more;
+          is = d.is;
+          own_or_others = d.own_or_others;
+          of_kinds = wider_kinds kinds more (done_in p d.more) wider d.of_kinds;
+        };
+        keeps = t.keeps;
+        untouched = t.untouched;
+        counts = t.counts;
+      };
+      count = none_counted kinds kind (done_in p d.more) none d.of_kinds;
+    }
+
+-- One step is made.
+module _ (kinds : Step → Bool) (rule : Config → Moment → Step → Type 0) (kind : Step → Bool) (p q : PassState)
+    (s : Step) (m : Makes p s q) where
+  pub done_by_one : Has p.seats p.seat
+      → done_in p (m.others ++ event_of p s ∷ [])
+      ≡ record { event = event_of p s; found = found p.table.config (world_at m).now (event_of p s) } ∷ []
+  done_by_one has =
+      done_in_parts p m.others (event_of p s ∷ [])
+      ∙ ap (λ (zs : List Finding). zs ++ done_in (record p { seen = p.seen ++ m.others }) (event_of p s ∷ []))
+      (none_own p.table.config p.seats p.seat (left p.table.config p.seen) m.others has m.of_others)
+      ∙ one_own p.table.config p.seat (world_at m) (event_of p s) (same_self p.seat)
+
+  pub traces_step : (n : ℕ) → Has p.seats p.seat → kinds s ≡ true → rule p.table.config (world_at m).now s
+      → untouched_of (world_of q) ≡ untouched_of (world_of p) → CountsAreLeft p.table.config p.seen q.seen
+      → 0 + cond (kind s) 1 0 ≡ n → Counted kinds rule kind p q n
+  traces_step n has allowed ruled untouched counts number =
+      let e : Event = event_of p s in
+      record {
+        traces = record {
+          does = record {
+            more = m.others ++ e ∷ [];
+            is = m.is ∙ ap (λ (es : List Event). record p { seen = es }) (append_assoc p.seen m.others (e ∷ []));
+            own_or_others =
+                own_or_others_in_parts p.seat p.seats m.others (e ∷ [])
+                (others_are_so p.seats p.seat m.others has m.of_others) (itself p.seat p.seats e refl has);
+            of_kinds = ap (λ (zs : List Finding). are_of kinds zs) (done_by_one has) ∙ and_from
+                (kinds s) true allowed refl;
+          };
+          keeps =
+              keep_in_parts rule p.table.config p.seat (world_of p) m.others (e ∷ [])
+              (others_keep rule p.table.config p.seat p.seats (world_of p) m.others has m.of_others)
+              (one_keeps rule p.table.config p.seat (left_from p.table.config (world_of p) m.others) e
+              (subst (λ (w : World). rule p.table.config w.now s)
+              (left_in_parts p.table.config p.seen m.others) ruled));
+          untouched = untouched;
+          counts = counts;
+        };
+        count = ap (λ (zs : List Finding). count_by (λ (x : Finding). kind x.event.step) zs) (done_by_one has) ∙ number;
+      }
+
+-- The table, the seat and its seats stay.
+
+pub traces_table : (kinds : Step → Bool) (rule : Config → Moment → Step → Type 0) (p q : PassState)
+    → Traces kinds rule p q → q.table ≡ p.table
+traces_table kinds rule p q t = ap (λ (x : PassState). x.table) t.does.is
+
+pub traces_seat : (kinds : Step → Bool) (rule : Config → Moment → Step → Type 0) (p q : PassState)
+    → Traces kinds rule p q → q.seat ≡ p.seat
+traces_seat kinds rule p q t = ap (λ (x : PassState). x.seat) t.does.is

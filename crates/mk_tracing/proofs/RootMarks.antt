@@ -1,0 +1,90 @@
+-- Roots that point well, one after the other.
+use Rattle.std.proofs.Common.{◌≡◌, ℕ, ◌+◌, ◌*◌, ◌/◌, ◌%◌, ◌<◌, ◌≤◌, true, List, refl, sym, ◌∙◌, ap, subst, inl, inr, arith, slice_index_or}
+use Rattle.std.specs.Prelude.{slice_index}
+use Rattle.std.proofs.lemmas.Bool.{cases_lt}
+use Rattle.std.proofs.lemmas.List.{get_or_past}
+use Rattle.mk_never.specs.declared.values.Value.{Value}
+use Rattle.mk_never.specs.declared.values.Value.TheVariants.{Null}
+use Rattle.mk_core.specs.declared.config.Config.{Config}
+use Rattle.mk_core.specs.declared.events.Event.{Event}
+use Rattle.mk_core.specs.declared.events.Word.{Word}
+use Rattle.mk_core.specs.declared.events.Word.TheVariants as word
+use Rattle.mk_core.specs.declared.seats.Flight.{Flight}
+use Rattle.mk_core.specs.Calls.{at_rest}
+use Rattle.mk_core.specs.Cells.{points_well}
+use Rattle.mk_core.specs.History.{left, never_behind, IsHistory, bases_of}
+use Rattle.mk_core.specs.Image.{image_of}
+use Rattle.mk_core.specs.Words.{Words, named_word, register_word}
+use Rattle.mk_core.proofs.Lengths.{histories_keep_lengths}
+use Rattle.mk_protocol.proofs.Protocols.{lists_keep_the_protocol}
+use Rattle.mk_images.specs.Images.{flight_among, shown}
+use Rattle.mk_invariant.proofs.Histories.{histories_keep_the_invariant}
+use Rattle.mk_words.specs.States.{PassState, now_of}
+use Rattle.mk_tracing.specs.Grays.{MarksMore, RootsPointWell}
+use Rattle.mk_tracing.specs.Stops.{is_root}
+use Rattle.mk_tracing.proofs.MoreMarks.{well_more, well_none, zero_none, marked_as}
+
+-- Each value below one points well, and so does the next.
+pub values_then : (pages : ℕ) (v x : Words) (value : ℕ → ℕ) (i : ℕ) → MarksMore v x
+    → ((k : ℕ) → k < i → points_well pages v (value k) ≡ true)
+    → points_well pages x (value i) ≡ true → (k : ℕ) → k < i + 1 → points_well pages x (value k) ≡ true
+values_then pages v x value i more before here k lt = elim (cases_lt k i) [
+  | inl below ↦ well_more pages v x (value k) more (before k below)
+  | inr past ↦ let at : k ≡ i = omega arith in ap (λ j. points_well pages x (value j)) at ∙ here
+]
+
+-- A root is the same behind marks.
+pub root_kept : (w v : Words) (x : Word) → is_root x ≡ true → MarksMore w v → named_word v x ≡ named_word w x
+root_kept w v x root more = ap (λ (y : Words). named_word y x) more.is ∙ by x root
+  where
+    by : (y : Word) → is_root y ≡ true → named_word (marked_as w v.marks) y ≡ named_word w y
+    by (word.Reg j r) h = refl
+    by (word.Global g) h = refl
+    by _ h = cc
+
+-- A register behind those of the callers is 0.
+pub register_past : (c : Config) (es : List Event) (i : ℕ) → IsHistory c es → 8 * c.callers ≤ i
+    → slice_index (left c es).now.words.registers i ≡ 0
+register_past c es i h past =
+    let all = histories_keep_the_invariant c es h in
+    let count = (lists_keep_the_protocol c es h.within_limits h.enabled).callers in
+    let some = all.mirrors.register_count in
+    let idle : flight_among (left c es).now.seats.flights (i / 8) ≡ at_rest = get_or_past (left c es).now.seats.flights
+    (i / 8) at_rest (omega arith) in
+    let null : slice_index_or (never_behind c es).registers i Null ≡ Null = get_or_past
+    (never_behind c es).registers i Null (omega arith) in
+    ap (λ (f : Flight). shown f (i % 8) (slice_index (left c es).now.words.registers i)) (sym idle)
+    ∙ all.mirrors.images.registers i
+    ∙ ap (λ (v : Value). image_of (bases_of (left c es).allocations) v) null
+
+pub roots_well : (p : PassState) (pages : ℕ) (w : Words) → IsHistory p.table.config p.seen
+    → pages ≡ p.table.config.pages
+    → w.registers ≡ (now_of p).words.registers → w.globals ≡ (now_of p).words.globals
+    → ((k r : ℕ) → k < p.table.config.callers → r < 8 → points_well pages w (register_word (now_of p).words k r) ≡ true)
+    → ((g : ℕ) → g < 64 → points_well pages w (slice_index (now_of p).words.globals g) ≡ true) → RootsPointWell pages w
+roots_well p pages w h same registers globals rs gs =
+    record {
+      registers = λ i. ap (λ (xs : List ℕ). points_well pages w (slice_index xs i)) registers ∙ register i;
+      globals = λ g. ap (λ (xs : List ℕ). points_well pages w (slice_index xs g)) globals ∙ global g;
+    }
+  where
+    null : (n : ℕ) → n ≡ 0 → points_well pages w n ≡ true
+    null n z = ap (λ u. points_well pages w u) z ∙ well_none pages w 0 (zero_none pages w.pages)
+
+    register : (i : ℕ) → points_well pages w (slice_index (now_of p).words.registers i) ≡ true
+    register i = elim (cases_lt i (8 * p.table.config.callers)) [
+      | inl lt ↦
+          let at : 8 * (i / 8) + i % 8 ≡ i = omega arith in
+          subst (λ j. points_well pages w (slice_index (now_of p).words.registers j) ≡ true) at
+          (rs (i / 8) (i % 8) (omega arith) (omega arith))
+      | inr past ↦ null (slice_index (now_of p).words.registers i) (register_past p.table.config p.seen i h past)
+    ]
+
+    global : (g : ℕ) → points_well pages w (slice_index (now_of p).words.globals g) ≡ true
+    global g = elim (cases_lt g 64) [
+      | inl lt ↦ gs g lt
+      | inr past ↦
+          null (slice_index (now_of p).words.globals g)
+          (get_or_past (now_of p).words.globals g 0 (let long =
+          (histories_keep_lengths p.table.config p.seen).globals in omega arith))
+    ]

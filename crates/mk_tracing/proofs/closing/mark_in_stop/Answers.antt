@@ -1,0 +1,26 @@
+use Rattle.std.proofs.Common.{◌∙◌, ap}
+use Rattle.std.specs.Prelude.{slice_index}
+use Rattle.mk_core.specs.Words.{Words}
+use Rattle.mk_tracing.specs.Stops.{still_words}
+use Rattle.mk_tracing.proofs.Closes.{roots_more}
+use Rattle.mk_tracing.proofs.StopSteps.{on_then}
+use Rattle.mk_tracing.proofs.closing.mark_in_stop.Goals as goal
+
+pub returns-clause-on : goal.returns-clause-on
+returns-clause-on c =
+    on_then c.args.stop.now c.mark_roots.new.stop c.trace.new.stop
+    (on_then c.args.stop.now c.undirty_all.new.stop c.mark_roots.new.stop
+    (on_then c.args.stop.now c.unblack_dirty.new.stop c.undirty_all.new.stop c.unblack_dirty.ensures.on
+    c.undirty_all.ensures.on) c.mark_roots.ensures.on)
+    c.trace.ensures.on
+
+pub returns-clause-clean : goal.returns-clause-clean
+returns-clause-clean c p lt =
+    ap (λ (w : Words). slice_index w.dirty p) c.trace.ensures.more.is
+    ∙ ap (λ (w : Words). slice_index w.dirty p) c.mark_roots.ensures.more.is
+    ∙ c.undirty_all.ensures.clean p lt
+
+pub returns-clause-roots : goal.returns-clause-roots
+returns-clause-roots c =
+    roots_more c.args.words.now.config.pages (still_words c.mark_roots.new.stop.pass)
+    (still_words c.trace.new.stop.pass) c.trace.ensures.more c.mark_roots.ensures.roots

@@ -1,0 +1,41 @@
+use Rattle.std.proofs.Common.{◌≡◌, ◌∙◌, ℕ, ap, sym}
+use Rattle.std.specs.Prelude.{slice_index}
+use Rattle.mk_geom.specs.Addresses.{head_page_under}
+use Rattle.mk_geom.specs.Headers.{header_of}
+use Rattle.mk_core.specs.Cells.{head_page}
+use Rattle.mk_core.specs.Words.{Words}
+use Rattle.mk_tracing.specs.Stops.{still_words}
+use Rattle.mk_tracing.proofs.Clearing.{black_cleared, blacks_cleared, cleared_unscanned}
+use Rattle.mk_tracing.proofs.StopSteps.{on_then}
+use Rattle.mk_tracing.proofs.dirty.unblack_if_dirty.Goals as goal
+
+pub returns-then-head-page-clause-on : goal.returns-then-head-page-clause-on
+returns-then-head-page-clause-on c =
+    on_then c.args.stop.now c.look_at-header.new.stop c.unblack_page.new.stop
+    (on_then c.args.stop.now c.look_at.new.stop c.look_at-header.new.stop c.look_at.ensures.on
+    c.look_at-header.ensures.on) c.unblack_page.ensures.on
+
+pub returns-clause-on : goal.returns-clause-on
+returns-clause-on c =
+    on_then c.args.stop.now c.unblack_page.new.stop c.unblack_page-2.new.stop
+    (on_then c.args.stop.now c.look_at-header.new.stop c.unblack_page.new.stop
+    (on_then c.args.stop.now c.look_at.new.stop c.look_at-header.new.stop c.look_at.ensures.on
+    c.look_at-header.ensures.on) c.unblack_page.ensures.on)
+    c.unblack_page-2.ensures.on
+
+pub returns-clause-unscanned : goal.returns-clause-unscanned
+returns-clause-unscanned c =
+    let page : ℕ = c.args.page in
+    let w = still_words c.look_at-header.new.stop.pass in
+    let x = still_words c.unblack_page.new.stop.pass in
+    let v = still_words c.unblack_page-2.new.stop.pass in
+    let headed : Words → ℕ = λ (y : Words). head_page y page in
+    let head : head_page v page ≡ c.head_page-head.result =
+    ap headed c.unblack_page-2.ensures.words ∙ ap headed c.unblack_page.ensures.words
+    ∙ ap headed c.look_at-header.ensures.words
+    ∙ ap (λ h. head_page_under (header_of h) page) (sym c.look_at-header.ensures.found)
+    ∙ sym c.head_page-head.ensures.exact in
+    cleared_unscanned v page
+    ((blacks_cleared x v c.head_page-head.result c.unblack_page-2.ensures.words).fewer page
+    (black_cleared w x page c.unblack_page.ensures.words))
+    (ap (λ q. slice_index v.blacks q) head ∙ black_cleared x v c.head_page-head.result c.unblack_page-2.ensures.words)

@@ -1,0 +1,22 @@
+use Rattle.std.proofs.Common.{arith}
+use Rattle.mk_core.specs.Cells.{header_in}
+use Rattle.mk_tracing.specs.Stops.{still_words}
+use Rattle.mk_tracing.proofs.Blackened.{blackens_one, cells_few}
+use Rattle.mk_tracing.proofs.StopSteps.{on_then}
+use Rattle.mk_tracing.proofs.tracing.blacken.Goals as goal
+
+pub blacken_cell-requires-clause-index : goal.blacken_cell-requires-clause-index
+blacken_cell-requires-clause-index c =
+    let few = cells_few (header_in (still_words c.args.stop.now.pass) c.args.cell.page) in
+    let known = c.requires.gray.index in
+    omega arith
+
+pub returns-clause-on : goal.returns-clause-on
+returns-clause-on c = on_then c.args.stop.now c.scan_if_due.new.stop c.blacken_cell.new.stop c.scan_if_due.ensures.on
+    c.blacken_cell.ensures.on
+
+pub returns-clause-one : goal.returns-clause-one
+returns-clause-one c =
+    blackens_one (still_words c.args.stop.now.pass) (still_words c.scan_if_due.new.stop.pass)
+    (still_words c.blacken_cell.new.stop.pass) c.args.cell
+    c.scan_if_due.ensures.more c.blacken_cell.ensures.words

@@ -1,0 +1,55 @@
+-- A stop in which marks are closed: the close is wanted, and no marker attends.
+use Rattle.std.specs.Prelude.{◌≡◌, Bool, true, false, Option}
+use Rattle.mk_core.specs.declared.events.Seat.{Seat}
+use Rattle.mk_core.specs.declared.events.Seat.TheVariants.{Caller}
+use Rattle.mk_core.specs.declared.events.Word.{Word}
+use Rattle.mk_core.specs.declared.events.Word.TheVariants as word
+use Rattle.mk_core.specs.declared.seats.Flight.{Flight}
+use Rattle.mk_core.specs.declared.seats.Hand.{Hand}
+use Rattle.mk_core.specs.declared.seats.Stage.{Stage}
+use Rattle.mk_core.specs.declared.seats.Stage.TheVariants as stage
+use Rattle.mk_core.specs.Words.{Words, phase_of}
+use Rattle.mk_core.specs.Readings.{NoneAttends}
+use Rattle.mk_words.specs.States.{PassState, now_of, call_of}
+
+-- A caller's New or Free has loaded what it loads, so that any step of a holder may come.
+
+abbrev pub is_loaded_at : Stage → Bool
+is_loaded_at stage.Turn = true
+is_loaded_at stage.Give = true
+is_loaded_at _ = false
+
+abbrev pub is_loaded : Seat → Flight → Bool
+is_loaded (Caller k) f = is_loaded_at f.stage
+is_loaded _ f = true
+
+-- The call of the turn's holder has loaded what it loads.
+pub record IsReady (p : PassState) : Type 0 where
+  pub loaded : is_loaded p.seat (call_of p) ≡ true
+
+-- The close is wanted, and no marker attends, nor will one.
+pub record IsWanted (p : PassState) : Type 0 where
+  pub ready : IsReady p
+  pub phase : phase_of (now_of p).words ≡ 2
+  pub none : NoneAttends (now_of p)
+
+-- a word at which a look gives no hand and decides nothing
+abbrev pub is_plain : Word → Bool
+is_plain (word.Head p) = true
+is_plain (word.Mark p) = true
+is_plain (word.Black p) = true
+is_plain (word.Dirty p) = true
+is_plain _ = false
+
+-- a register, or a global
+abbrev pub is_root : Word → Bool
+is_root (word.Reg j r) = true
+is_root (word.Global g) = true
+is_root _ = false
+
+-- The words, but for the phase: markers that come and find it wanted are counted there, and nothing else changes.
+abbrev pub still_words : PassState → Words
+still_words p = record (now_of p).words { phase = 0 }
+
+abbrev pub hand_of : PassState → Option Hand
+hand_of p = (now_of p).seats.holding.hand

@@ -1,0 +1,57 @@
+//! What an engine does from the wish to close on, until the marks may be closed.
+ghost use Rattle.std.specs.Prelude.{◌≡◌, ℕ, ◌<◌, slice_index};
+ghost use Rattle.mk_core.specs.declared.events.Step.TheVariants as step;
+ghost use Rattle.mk_core.specs.ClosedMarks.{MarksAreClosed};
+ghost use Rattle.mk_core.specs.Words.{phase_of};
+ghost use Rattle.mk_words.specs.States.{now_of, world_of};
+ghost use Rattle.mk_words.specs.Steps.{IsEnabledTo};
+ghost use Rattle.mk_tracing.specs.Grays.{HasNoGray, MarksOn, RootsPointWell, TracesReached};
+ghost use Rattle.mk_tracing.specs.Stops.{IsReady, IsWanted, still_words};
+ghost use Rattle.mk_tracing.specs.Tracing.{Counted, is_tracing, is_want};
+
+use crate::dirty::{unblack_dirty, undirty_all};
+use crate::roots::mark_roots;
+use crate::tracing::trace;
+use crate::waiting::want_and_wait;
+use crate::worklist::Worklist;
+use mk_words::{Stopped, Words};
+use std::sync::Wait;
+use std::thread::Threads;
+
+/// Looks again at what is dirty and at all roots, and traces from there, until every marked cell is black.
+fn mark_in_stop(words: &Words, stop: &mut Stopped, work: &mut Worklist)
+    requires one_table { stop.old.pass.table ≡ words.now }
+    requires wanted { IsWanted stop.old.pass }
+    ensures on { MarksOn stop.old stop.new }
+    ensures black { (p : ℕ) → p < words.now.config.pages → HasNoGray (still_words stop.new.pass) p }
+    ensures clean { (p : ℕ) → p < words.now.config.pages → slice_index (still_words stop.new.pass).dirty p ≡ 0 }
+    ensures roots { RootsPointWell words.now.config.pages (still_words stop.new.pass) }
+{
+    unblack_dirty(words, stop);
+    undirty_all(words, stop);
+    mark_roots(words, stop, work);
+    trace(words, stop, work);
+}
+
+/// Wants the close, waits for the markers, and marks in the stop until the marks may be closed. It serves every engine:
+/// where nothing is marked before the stop, no page has a black cell.
+pub fn close_marks<R: Threads + Wait + Sync>(
+    rt: &R,
+    words: &Words,
+    stop: &mut Stopped,
+    work: &mut Worklist,
+)
+    requires one_table { stop.old.pass.table ≡ words.now }
+    requires ready { IsReady stop.old.pass }
+    requires phase { phase_of (now_of stop.old.pass).words ≡ 1 }
+    ensures table { stop.new.pass.table ≡ stop.old.pass.table }
+    ensures op { stop.new.op ≡ stop.old.op }
+    ensures wanted { IsWanted stop.new.pass }
+    ensures traces { Counted is_tracing TracesReached is_want stop.old.pass stop.new.pass 1 }
+    ensures closes { IsEnabledTo stop.new.pass step.Close }
+    ensures closed { MarksAreClosed stop.new.pass.table.config (world_of stop.new.pass) }
+{
+    want_and_wait(rt, words, stop);
+    mark_in_stop(words, stop, work);
+    stop.is_in_order();
+}

@@ -1,0 +1,137 @@
+//! The search for gray cells: marked, and not black.
+ghost use Rattle.std.specs.Prelude.{◌≡◌, ℕ, ◌<◌, ◌≤◌, true, false, IfSome, IfNone};
+ghost use Rattle.mk_geom.specs.Headers.{header_of};
+ghost use Rattle.mk_core.specs.Bits.{has_bit};
+ghost use Rattle.mk_core.specs.Cells.{cells_under};
+ghost use Rattle.mk_tracing.specs.Grays.{AllAreBlack, HasNoGray, IsGray, MarksOn};
+ghost use Rattle.mk_tracing.specs.Stops.{IsWanted, still_words};
+
+use crate::cells::{cells_under, has_bit};
+use crate::stepping::look_at;
+use crate::worklist::Worklist;
+use mk_core::Word;
+use mk_geom::Cell;
+use mk_words::{Stopped, Words};
+
+/// The first gray cell of a page of these words.
+fn gray_index(header: u64, marks: u64, blacks: u64) -> Option<u64>
+    ensures known { IfSome result (λ k. k < cells_under (header_of header)) }
+    ensures marked { IfSome result (λ k. has_bit marks k ≡ true) }
+    ensures not_black { IfSome result (λ k. has_bit blacks k ≡ false) }
+    ensures none { IfNone result (AllAreBlack (cells_under (header_of header)) marks blacks) }
+{
+    for index in 0..cells_under(header) {
+        if has_bit(marks, index) && !has_bit(blacks, index) {
+            return Some(index);
+        }
+    }
+    None
+}
+
+/// The first gray cell of a page.
+fn gray_on_page(words: &Words, stop: &mut Stopped, page: u64) -> Option<Cell>
+    requires one_table { stop.old.pass.table ≡ words.now }
+    requires wanted { IsWanted stop.old.pass }
+    requires page { page < words.now.config.pages }
+    ensures on { MarksOn stop.old stop.new }
+    ensures words { still_words stop.new.pass ≡ still_words stop.old.pass }
+    ensures gray { IfSome result (λ cell. IsGray words.now.config.pages (still_words stop.old.pass) cell) }
+    ensures none { IfNone result (HasNoGray (still_words stop.old.pass) page) }
+{
+    let marks = look_at(words, stop, Word::Mark(page));
+    let blacks = look_at(words, stop, Word::Black(page));
+    let header = look_at(words, stop, Word::Head(page));
+    let Some(index) = gray_index(header, marks, blacks) else {
+        return None;
+    };
+    Some(Cell { page, index })
+}
+
+/// The first gray cell from a page on, up to another.
+fn gray_between(words: &Words, stop: &mut Stopped, from: u64, to: u64) -> Option<Cell>
+    requires one_table { stop.old.pass.table ≡ words.now }
+    requires wanted { IsWanted stop.old.pass }
+    requires to { to ≤ words.now.config.pages }
+    ensures on { MarksOn stop.old stop.new }
+    ensures words { still_words stop.new.pass ≡ still_words stop.old.pass }
+    ensures gray { IfSome result (λ cell. IsGray words.now.config.pages (still_words stop.old.pass) cell) }
+    ensures none { IfNone result ((p : ℕ) → from ≤ p → p < to → HasNoGray (still_words stop.old.pass) p) }
+{
+    for page in from..to {
+        let found = gray_on_page(words, stop, page);
+        if let Some(cell) = found {
+            return Some(cell);
+        }
+    }
+    None
+}
+
+/// Whether a cell that was noted is gray.
+fn is_gray(words: &Words, stop: &mut Stopped, cell: Cell) -> bool
+    requires one_table { stop.old.pass.table ≡ words.now }
+    requires wanted { IsWanted stop.old.pass }
+    ensures on { MarksOn stop.old stop.new }
+    ensures words { still_words stop.new.pass ≡ still_words stop.old.pass }
+    ensures gray { result ≡ true → IsGray words.now.config.pages (still_words stop.old.pass) cell }
+{
+    if cell.page >= words.pages() {
+        return false;
+    }
+    let header = look_at(words, stop, Word::Head(cell.page));
+    let marks = look_at(words, stop, Word::Mark(cell.page));
+    let blacks = look_at(words, stop, Word::Black(cell.page));
+    cell.index < cells_under(header) && has_bit(marks, cell.index) && !has_bit(blacks, cell.index)
+}
+
+/// The gray cell that was noted last.
+fn gray_noted(words: &Words, stop: &mut Stopped, work: &mut Worklist) -> Option<Cell>
+    requires one_table { stop.old.pass.table ≡ words.now }
+    requires wanted { IsWanted stop.old.pass }
+    ensures on { MarksOn stop.old stop.new }
+    ensures words { still_words stop.new.pass ≡ still_words stop.old.pass }
+    ensures gray { IfSome result (λ cell. IsGray words.now.config.pages (still_words stop.old.pass) cell) }
+{
+    while let Some(cell) = work.pop() {
+        if is_gray(words, stop, cell) {
+            return Some(cell);
+        }
+    }
+    None
+}
+
+/// A gray cell, from the page on where the last one was found. None where no page has any.
+fn gray_somewhere(words: &Words, stop: &mut Stopped, from: u64) -> Option<Cell>
+    requires one_table { stop.old.pass.table ≡ words.now }
+    requires wanted { IsWanted stop.old.pass }
+    ensures on { MarksOn stop.old stop.new }
+    ensures words { still_words stop.new.pass ≡ still_words stop.old.pass }
+    ensures gray { IfSome result (λ cell. IsGray words.now.config.pages (still_words stop.old.pass) cell) }
+    ensures none { IfNone result ((p : ℕ) → p < words.now.config.pages → HasNoGray (still_words stop.old.pass) p) }
+{
+    let pages = words.pages();
+    let found = gray_between(words, stop, from, pages);
+    if let Some(cell) = found {
+        return Some(cell);
+    }
+    gray_between(words, stop, 0, pages)
+}
+
+/// A gray cell: one that was noted, or else one that is found page by page. None where no page has any.
+pub(crate) fn next_gray(words: &Words, stop: &mut Stopped, work: &mut Worklist) -> Option<Cell>
+    requires one_table { stop.old.pass.table ≡ words.now }
+    requires wanted { IsWanted stop.old.pass }
+    ensures on { MarksOn stop.old stop.new }
+    ensures words { still_words stop.new.pass ≡ still_words stop.old.pass }
+    ensures gray { IfSome result (λ cell. IsGray words.now.config.pages (still_words stop.old.pass) cell) }
+    ensures none { IfNone result ((p : ℕ) → p < words.now.config.pages → HasNoGray (still_words stop.old.pass) p) }
+{
+    let noted = gray_noted(words, stop, work);
+    if let Some(cell) = noted {
+        return Some(cell);
+    }
+    let Some(cell) = gray_somewhere(words, stop, work.page) else {
+        return None;
+    };
+    work.page = cell.page;
+    Some(cell)
+}

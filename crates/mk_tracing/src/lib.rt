@@ -1,0 +1,23 @@
+//! What every engine does in the stop: wants the close and waits for the markers, marks from the roots, blackens every
+//! marked cell, and looks again at what is dirty.
+#![tactic(auto)]
+
+mod cells;
+mod closing;
+mod dirty;
+mod grays;
+mod laws;
+mod roots;
+mod stepping;
+mod tracing;
+mod values;
+mod waiting;
+mod worklist;
+
+pub use closing::close_marks;
+pub use dirty::{unblack_dirty, undirty_all};
+pub use laws::reached_marks_sweep_nothing;
+pub use roots::mark_roots;
+pub use tracing::trace;
+pub use waiting::want_and_wait;
+pub use worklist::Worklist;

@@ -1,0 +1,89 @@
+//! Marks from the roots: the registers and the globals.
+ghost use Rattle.std.specs.Prelude.{◌≡◌, ℕ, ◌<◌, true, slice_index};
+ghost use Rattle.mk_core.specs.Cells.{points_well};
+ghost use Rattle.mk_core.specs.Ranges.{is_word};
+ghost use Rattle.mk_core.specs.Words.{named_word, register_word};
+ghost use Rattle.mk_tracing.specs.Grays.{GlobalIsWell, RegistersAreWell, MarksMore, MarksOn, RootsPointWell};
+ghost use Rattle.mk_tracing.specs.Stops.{IsWanted, is_root, still_words};
+
+use crate::stepping::look_at_root;
+use crate::values::mark_value;
+use crate::worklist::Worklist;
+use mk_core::Word;
+use mk_words::{Stopped, Words};
+
+/// How many registers a caller has.
+const REGISTERS: u64 = 8;
+
+const GLOBALS: u64 = 64;
+
+/// Looks at a root, and marks what its value points into.
+fn mark_root(words: &Words, stop: &mut Stopped, work: &mut Worklist, x: Word)
+    requires one_table { stop.old.pass.table ≡ words.now }
+    requires wanted { IsWanted stop.old.pass }
+    requires word { is_word words.now.config x ≡ true }
+    requires root { is_root x ≡ true }
+    ensures on { MarksOn stop.old stop.new }
+    ensures more { MarksMore (still_words stop.old.pass) (still_words stop.new.pass) }
+    ensures well { points_well words.now.config.pages (still_words stop.new.pass) (named_word (still_words stop.old.pass) x) ≡ true }
+{
+    let value = look_at_root(words, stop, x);
+    let marked = mark_value(words, stop, value);
+    if let Some(cell) = marked {
+        work.push(cell);
+    }
+}
+
+/// Marks what a caller's registers point into.
+fn mark_registers_of(words: &Words, stop: &mut Stopped, work: &mut Worklist, caller: u64)
+    requires one_table { stop.old.pass.table ≡ words.now }
+    requires wanted { IsWanted stop.old.pass }
+    requires caller { caller < words.now.config.callers }
+    ensures on { MarksOn stop.old stop.new }
+    ensures more { MarksMore (still_words stop.old.pass) (still_words stop.new.pass) }
+    ensures well { RegistersAreWell words.now.config stop.old.pass stop.new.pass caller }
+{
+    for register in 0..REGISTERS {
+        mark_root(words, stop, work, Word::Reg { caller, register });
+    }
+}
+
+/// Marks what the registers of all callers point into.
+fn mark_registers(words: &Words, stop: &mut Stopped, work: &mut Worklist)
+    requires one_table { stop.old.pass.table ≡ words.now }
+    requires wanted { IsWanted stop.old.pass }
+    ensures on { MarksOn stop.old stop.new }
+    ensures more { MarksMore (still_words stop.old.pass) (still_words stop.new.pass) }
+    ensures well { (k : ℕ) → k < words.now.config.callers → RegistersAreWell words.now.config stop.old.pass stop.new.pass k }
+{
+    for caller in 0..words.callers() {
+        mark_registers_of(words, stop, work, caller);
+    }
+}
+
+/// Marks what the globals point into.
+fn mark_globals(words: &Words, stop: &mut Stopped, work: &mut Worklist)
+    requires one_table { stop.old.pass.table ≡ words.now }
+    requires wanted { IsWanted stop.old.pass }
+    ensures on { MarksOn stop.old stop.new }
+    ensures more { MarksMore (still_words stop.old.pass) (still_words stop.new.pass) }
+    ensures well { (g : ℕ) → g < 64 → GlobalIsWell words.now.config stop.old.pass stop.new.pass g }
+{
+    for global in 0..GLOBALS {
+        mark_root(words, stop, work, Word::Global(global));
+    }
+}
+
+/// Marks what the roots point into: the registers of all callers, and the globals. A root is marked before the next is
+/// looked at. What is marked is noted.
+pub fn mark_roots(words: &Words, stop: &mut Stopped, work: &mut Worklist)
+    requires one_table { stop.old.pass.table ≡ words.now }
+    requires wanted { IsWanted stop.old.pass }
+    ensures on { MarksOn stop.old stop.new }
+    ensures more { MarksMore (still_words stop.old.pass) (still_words stop.new.pass) }
+    ensures roots { RootsPointWell words.now.config.pages (still_words stop.new.pass) }
+{
+    stop.is_in_order();
+    mark_registers(words, stop, work);
+    mark_globals(words, stop, work);
+}

@@ -1,0 +1,114 @@
+//! Steps in the stop, when the close is wanted and no marker attends.
+ghost use Rattle.std.specs.Prelude.{◌≡◌, ◌≢◌, ◌+◌, ◌<◌, ◌^◌, true, false, slice_index, slice_set, bit_or};
+ghost use Rattle.mk_core.specs.Cells.{cell_words, first_word, has_no_pointers, head_page, header_in};
+ghost use Rattle.mk_core.specs.Ranges.{is_word};
+ghost use Rattle.mk_core.specs.StopConditions.{may_turn_black};
+ghost use Rattle.mk_core.specs.Words.{named_word};
+ghost use Rattle.mk_tracing.specs.Grays.{with_marks, with_blacks, without_blacks, without_dirty, HasDirtyPart, IsGray, IsInHand, IsReached, MarksOn};
+ghost use Rattle.mk_tracing.specs.Stops.{IsWanted, hand_of, is_plain, is_root, still_words};
+
+use crate::cells::{PAGE_WORDS, bit};
+use mk_core::Word;
+use mk_geom::Cell;
+use mk_words::{Stopped, Words};
+
+/// Looks at a word that gives no hand.
+pub(crate) fn look_at(words: &Words, stop: &mut Stopped, x: Word) -> u64
+    requires one_table { stop.old.pass.table ≡ words.now }
+    requires wanted { IsWanted stop.old.pass }
+    requires word { is_word words.now.config x ≡ true }
+    requires plain { is_plain x ≡ true }
+    ensures on { MarksOn stop.old stop.new }
+    ensures words { still_words stop.new.pass ≡ still_words stop.old.pass }
+    ensures hand { hand_of stop.new.pass ≡ hand_of stop.old.pass }
+    ensures found { result ≡ named_word (still_words stop.old.pass) x }
+{
+    stop.is_in_order();
+    stop.look(words, x)
+}
+
+/// Looks at a register or a global, whose value is then the hand.
+pub(crate) fn look_at_root(words: &Words, stop: &mut Stopped, x: Word) -> u64
+    requires one_table { stop.old.pass.table ≡ words.now }
+    requires wanted { IsWanted stop.old.pass }
+    requires word { is_word words.now.config x ≡ true }
+    requires root { is_root x ≡ true }
+    ensures on { MarksOn stop.old stop.new }
+    ensures words { still_words stop.new.pass ≡ still_words stop.old.pass }
+    ensures hand { IsInHand stop.new.pass result }
+    ensures found { result ≡ named_word (still_words stop.old.pass) x }
+{
+    stop.is_in_order();
+    stop.look(words, x)
+}
+
+/// Looks at a word of a gray cell of so many words, whose value is then the hand, if it isn't 0.
+pub(crate) fn look_at_word(words: &Words, stop: &mut Stopped, cell: Cell, size: u64, i: u64) -> u64
+    requires one_table { stop.old.pass.table ≡ words.now }
+    requires wanted { IsWanted stop.old.pass }
+    requires gray { IsGray words.now.config.pages (still_words stop.old.pass) cell }
+    requires scanned { has_no_pointers (header_in (still_words stop.old.pass) cell.page) ≡ false }
+    requires size { size ≡ cell_words (still_words stop.old.pass) cell }
+    requires within { i < size }
+    ensures on { MarksOn stop.old stop.new }
+    ensures words { still_words stop.new.pass ≡ still_words stop.old.pass }
+    ensures hand { result ≢ 0 → IsInHand stop.new.pass result }
+    ensures found { result ≡ slice_index (still_words stop.old.pass).heap (first_word (still_words stop.old.pass) cell + i) }
+{
+    stop.is_in_order();
+    let word = PAGE_WORDS * cell.page + cell.index * size + i;
+    stop.look(words, Word::Heap(word))
+}
+
+/// Marks the cell into which the hand points.
+pub(crate) fn mark_cell(words: &Words, stop: &mut Stopped, cell: Cell)
+    requires one_table { stop.old.pass.table ≡ words.now }
+    requires wanted { IsWanted stop.old.pass }
+    requires reached { IsReached stop.old.pass cell }
+    ensures on { MarksOn stop.old stop.new }
+    ensures words { still_words stop.new.pass ≡ with_marks cell.page (2 ^ cell.index) (still_words stop.old.pass) }
+{
+    stop.is_in_order();
+    stop.mark(words, cell.page, bit(cell.index));
+}
+
+/// Blackens a marked cell, whose words point well or aren't scanned.
+pub(crate) fn blacken_cell(words: &Words, stop: &mut Stopped, cell: Cell)
+    requires one_table { stop.old.pass.table ≡ words.now }
+    requires wanted { IsWanted stop.old.pass }
+    requires page { cell.page < words.now.config.pages }
+    requires index { cell.index < 32 }
+    requires turns { may_turn_black words.now.config.pages (still_words stop.old.pass) cell ≡ true }
+    ensures on { MarksOn stop.old stop.new }
+    ensures words { still_words stop.new.pass ≡ with_blacks cell.page (2 ^ cell.index) (still_words stop.old.pass) }
+{
+    stop.is_in_order();
+    stop.black(words, cell.page, bit(cell.index));
+}
+
+/// Makes the cells of a page unscanned again, of which a part is dirty.
+pub(crate) fn unblack_page(words: &Words, stop: &mut Stopped, page: u64)
+    requires one_table { stop.old.pass.table ≡ words.now }
+    requires wanted { IsWanted stop.old.pass }
+    requires page { page < words.now.config.pages }
+    requires part { HasDirtyPart (still_words stop.old.pass) page }
+    ensures on { MarksOn stop.old stop.new }
+    ensures words { still_words stop.new.pass ≡ without_blacks page (still_words stop.old.pass) }
+{
+    stop.is_in_order();
+    stop.unblack(words, page);
+}
+
+/// Clears a page's dirty word, where nothing of the page is black.
+pub(crate) fn undirty_page(words: &Words, stop: &mut Stopped, page: u64)
+    requires one_table { stop.old.pass.table ≡ words.now }
+    requires wanted { IsWanted stop.old.pass }
+    requires page { page < words.now.config.pages }
+    requires own { slice_index (still_words stop.old.pass).blacks page ≡ 0 }
+    requires head { slice_index (still_words stop.old.pass).blacks (head_page (still_words stop.old.pass) page) ≡ 0 }
+    ensures on { MarksOn stop.old stop.new }
+    ensures words { still_words stop.new.pass ≡ without_dirty page (still_words stop.old.pass) }
+{
+    stop.is_in_order();
+    stop.undirty(words, page);
+}

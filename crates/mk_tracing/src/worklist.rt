@@ -1,0 +1,51 @@
+//! Cells that were marked and are still to be scanned.
+ghost use Rattle.std.specs.Prelude.{◌≤◌, ◌<◌, IfSome, vec_len};
+
+use mk_geom::Cell;
+use mk_never::NoMemory;
+use std::alloc::Global;
+
+/// The cells that were marked last and aren't scanned yet, as far as there is room. One that finds no room is forgotten,
+/// and found again where its owner looks for gray cells page by page, from the page where it found the last one.
+#[derive(Drop)]
+pub struct Worklist {
+    cells: Vec<Cell>,
+    count: usize,
+    pub(crate) page: u64,
+    ghost within: { count ≤ vec_len cells },
+}
+
+impl Worklist {
+    /// An empty list for a heap of so many pages, with all the room that it ever has.
+    pub fn new(alloc: Global, pages: u64) -> Result<Worklist, NoMemory>
+        requires { pages ≤ 4096 }
+    {
+        let room = 64 + 8 * pages as usize;
+        let nothing = Cell { page: 0, index: 0 };
+        let cells = Vec::from_elem(alloc, nothing, room).map_err(|_| NoMemory)?;
+        Ok(Worklist {
+            cells,
+            count: 0,
+            page: 0,
+        })
+    }
+
+    /// Notes a cell, if there is room.
+    pub(crate) fn push(&mut self, cell: Cell) {
+        if self.count < self.cells.len() {
+            self.cells[self.count] = cell;
+            self.count += 1;
+        }
+    }
+
+    /// The cell that was noted last, which the list then has no more.
+    pub(crate) fn pop(&mut self) -> Option<Cell>
+        ensures { IfSome result (λ cell. self.new.count < self.old.count) }
+    {
+        if self.count == 0 {
+            return None;
+        }
+        self.count -= 1;
+        Some(self.cells[self.count])
+    }
+}
