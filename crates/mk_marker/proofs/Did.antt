@@ -1,0 +1,47 @@
+-- What is done in parts.
+use Rattle.std.proofs.Common.{◌≡◌, ℕ, ◌+◌, Bool, true, List, [], ◌∷◌, ◌++◌, refl, sym, ◌∙◌, ap, subst, append_assoc}
+use Rattle.std.specs.Prelude.{count_by}
+use Rattle.mk_core.specs.declared.seats.Marker.{Marker as MarkerState}
+use Rattle.mk_core.specs.declared.events.Seat.{Seat}
+use Rattle.mk_core.specs.declared.events.Seat.TheVariants.{Marker}
+use Rattle.mk_core.specs.declared.events.Step.{Step}
+use Rattle.mk_core.specs.declared.events.Event.{Event}
+use Rattle.mk_core.specs.Growing.{Finding, AreOfOthers}
+use Rattle.mk_core.specs.History.{World, left}
+use Rattle.mk_words.specs.Seats.{Has}
+use Rattle.mk_words.specs.States.{WordsState, PassState, event_of}
+use Rattle.mk_words.specs.Steps.{Makes, Finds}
+use Rattle.mk_turns.specs.Doing.{AreOwnOrOfOthers, done_in, are_of}
+use Rattle.mk_turns.proofs.Doing.{done_in_parts, own_or_others_in_parts, others_are_so, none_own}
+use Rattle.mk_marker.specs.Markers.{IsMarkers}
+use Rattle.mk_marker.specs.Doing.{Did, finding}
+use Rattle.mk_marker.specs.Steps.{IsOf}
+
+then_at : (p : PassState) (more : List Event) (xs ys : List Finding) → AreOwnOrOfOthers p.seat p.seats more → done_in p more ≡ xs
+    → (r : PassState) → Did (record p { seen = p.seen ++ more }) ys r → Did p (xs ++ ys) r
+then_at p more xs ys own done r d =
+    record {
+      more = more ++ d.more;
+      is = d.is ∙ ap (λ (es : List Event). record p { seen = es }) (append_assoc p.seen more d.more);
+      own_or_others = own_or_others_in_parts p.seat p.seats more d.more own d.own_or_others;
+      done =
+        done_in_parts p more d.more
+        ∙ ap (λ (zs : List Finding). zs ++ done_in (record p { seen = p.seen ++ more }) d.more) done
+        ∙ ap (λ (zs : List Finding). xs ++ zs) d.done;
+    }
+
+pub did_then : (p : PassState) (xs : List Finding) (q : PassState) (ys : List Finding) (r : PassState) → Did p xs q → Did q ys r → Did p (xs ++ ys) r
+did_then p xs q ys r d e = then_at p d.more xs ys d.own_or_others d.done r (subst (λ (x : PassState). Did x ys r) d.is e)
+
+pub seat_kept : (p : PassState) (xs : List Finding) (q : PassState) → Did p xs q → q.seat ≡ p.seat
+seat_kept p xs q d = ap (λ (x : PassState). x.seat) d.is
+
+pub table_kept : (p : PassState) (xs : List Finding) (q : PassState) → Did p xs q → q.table ≡ p.table
+table_kept p xs q d = ap (λ (x : PassState). x.table) d.is
+
+pub still_of : (w : WordsState) (p : PassState) (xs : List Finding) (q : PassState) → IsOf w p → Did p xs q → IsOf w q
+still_of w p xs q o d =
+    record {
+      one_table = table_kept p xs q d ∙ o.one_table;
+      marker = record { number = o.marker.number; exists = o.marker.exists; seat = seat_kept p xs q d ∙ o.marker.seat };
+    }
