@@ -1,12 +1,12 @@
 -- What is done in parts.
-use Rattle.std.proofs.Common.{◌≡◌, ℕ, ◌+◌, Bool, true, List, [], ◌∷◌, ◌++◌, refl, sym, ◌∙◌, ap, subst, append_assoc}
+use Rattle.std.proofs.Common.{◌≡◌, ℕ, ◌+◌, Bool, true, List, [], ◌∷◌, ◌++◌, refl, sym, ◌∙◌, ap, subst, append_assoc, append-nil}
 use Rattle.std.specs.Prelude.{count_by}
 use Rattle.mk_core.specs.declared.seats.Marker.{Marker as MarkerState}
 use Rattle.mk_core.specs.declared.events.Seat.{Seat}
 use Rattle.mk_core.specs.declared.events.Seat.TheVariants.{Marker}
 use Rattle.mk_core.specs.declared.events.Step.{Step}
 use Rattle.mk_core.specs.declared.events.Event.{Event}
-use Rattle.mk_core.specs.Growing.{Finding, AreOfOthers}
+use Rattle.mk_core.specs.Growing.{Finding, own_from}
 use Rattle.mk_core.specs.History.{World, left}
 use Rattle.mk_words.specs.Seats.{Has}
 use Rattle.mk_words.specs.States.{WordsState, PassState, event_of}
@@ -45,3 +45,7 @@ still_of w p xs q o d =
       one_table = table_kept p xs q d ∙ o.one_table;
       marker = record { number = o.marker.number; exists = o.marker.exists; seat = seat_kept p xs q d ∙ o.marker.seat };
     }
+
+pub did_nothing : (p : PassState) → Did p [] p
+unfolding AreOwnOrOfOthers own_from
+did_nothing p = record { more = []; is = sym (ap (λ (es : List Event). record p { seen = es }) (append-nil p.seen)); own_or_others = tt; done = refl }

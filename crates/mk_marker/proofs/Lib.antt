@@ -1,3 +1,4 @@
 pub mod Did
 pub mod Moving
 pub mod FewCells
+pub mod Scanned

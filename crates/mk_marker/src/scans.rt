@@ -57,7 +57,7 @@ fn scan_words(words: &Words, pass: &mut Pass, count: u64)
     ensures none_left { words_left (marker_in pass.new) ≡ 0 }
     ensures goes { GoesOn pass.old count pass.new }
 {
-    for _ in 0..count {
+    'words: for _loaded in 0..count {
         scan_word(words, pass);
     }
 }
