@@ -2,3 +2,5 @@ pub mod Did
 pub mod Moving
 pub mod FewCells
 pub mod Scanned
+pub mod MarkedCells
+pub mod Looking
