@@ -1,6 +1,6 @@
 -- Looks at pages, one behind the other.
 use Rattle.std.proofs.Common.{◌≡◌, ◌≢◌, ◌⊎◌, ℕ, ◌+◌, ◌<◌, ◌≤◌, Bool, true, false, List, [], ◌∷◌, ◌++◌, refl, sym, ◌∙◌, ap, subst, inl, inr, append_assoc, arith}
-use Rattle.std.specs.Prelude.{◌&&◌, not, Option, Some, None, slice_index}
+use Rattle.std.specs.Prelude.{◌&&◌, not, Option, Some, None, IfSome, IfNone, slice_index}
 use Rattle.std.proofs.lemmas.Bool.{and_parts, not-true}
 use Rattle.mk_geom.specs.Headers.{header_of}
 use Rattle.mk_core.specs.declared.config.Config.{Config}
@@ -206,3 +206,16 @@ a_cell p page n a m b h d k between one marks two head shows history some bit =
       marker = now;
       marked = still;
     }
+
+-- two searches, one behind the other
+
+pub none_both : (r : Option MarkedCell) (p : PassState) (a b : ℕ) (q : PassState) (d e : ℕ) (t : PassState) (first end : ℕ) → LooksInVain p a b q
+    → ((page : ℕ) → first ≤ page → page < end → ((a ≤ page) × (page < b)) ⊎ ((d ≤ page) × (page < e)))
+    → IfNone r (LooksInVain q d e t) → IfNone r (LooksInVain p first end t)
+none_both (Some x) p a b q d e t first end one all h = h
+none_both None p a b q d e t first end one all h = looked_on p a b q d e t first end one h all
+
+pub some_then : (r : Option MarkedCell) (p : PassState) (a b : ℕ) (q t : PassState) → LooksInVain p a b q
+    → IfSome r (λ (cell : MarkedCell). SeesCell q cell t) → IfSome r (λ (cell : MarkedCell). SeesCell p cell t)
+some_then (Some x) p a b q t one h = sees_then p a b q x t one h
+some_then None p a b q t one h = h

@@ -85,3 +85,9 @@ abbrev pub WorksSo : Work → PassState → PassState → Type 0
 WorksSo Worked p q = ScansACell p q
 WorksSo Idle p q = FindsNoWork p q
 WorksSo Wanted p q = FindsWanted p q
+
+-- The marker went out.
+pub record GoesOut (p q : PassState) : Type 0 where
+  pub left : ℕ
+  pub did : Did p (finding p.seat step.Quit left ∷ []) q
+  pub out : IsOut q
