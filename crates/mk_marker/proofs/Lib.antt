@@ -4,3 +4,4 @@ pub mod FewCells
 pub mod Scanned
 pub mod MarkedCells
 pub mod Looking
+pub mod Worked

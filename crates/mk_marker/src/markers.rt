@@ -120,7 +120,7 @@ impl<'h> Marker<'h> {
     /// Hands the pass back, which attends nowhere.
     pub fn finish(self) -> Pass
         requires out { attends self ≡ false }
-        ensures pass { result ≡ self }
+        ensures pass { result ≡ self.entry }
         ensures out { IsOut result }
     {
         let Marker { pass, .. } = self;
