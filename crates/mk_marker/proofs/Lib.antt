@@ -2,6 +2,8 @@ pub mod Did
 pub mod Moving
 pub mod FewCells
 pub mod Scanned
+pub mod PointedCells
+pub mod MarkBits
 pub mod MarkedCells
 pub mod Looking
 pub mod Worked
