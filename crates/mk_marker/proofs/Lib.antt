@@ -4,6 +4,7 @@ pub mod FewCells
 pub mod Scanned
 pub mod PointedCells
 pub mod MarkBits
+pub mod NewMarks
 pub mod MarkedCells
 pub mod Looking
 pub mod Worked

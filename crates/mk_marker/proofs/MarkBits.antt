@@ -68,7 +68,7 @@ abbrev pub MarksAreOfCells : Config → Moment → Type 0
 MarksAreOfCells c m = IsMarking m.words → (p k : ℕ) → has_bit (slice_index m.words.marks p) k ≡ true → IsCell c m p k
 
 -- The header that is made there has the cell.
-made_has : (o : Object) (header k : ℕ) → IsSized o → header ≡ header_made o 0 → k < cells_made o → k < cells_under (header_of header)
+pub made_has : (o : Object) (header k : ℕ) → IsSized o → header ≡ header_made o 0 → k < cells_made o → k < cells_under (header_of header)
 made_has o header k sized is lt =
     let some = pages_some o sized in
     let cells = part_cells o (header_of (header_made o 0)) (made_shows o 0 sized (omega arith)) in
@@ -100,16 +100,16 @@ not_used : (p : Placing) (place : Place) → p ≡ Chosen place → is_used_once
 not_used (Chosen x) place is h = cc
 not_used _ place is h = cc
 
-marking_not_four : (n : ℕ) → (n ≡ 1) ⊎ (n ≡ 2) → (n == 4) ≡ false
+pub marking_not_four : (n : ℕ) → (n ≡ 1) ⊎ (n ≡ 2) → (n == 4) ≡ false
 marking_not_four n early = ne_eqb n 4 (λ e. elim early [ inl x ↦ omega arith | inr x ↦ omega arith ])
+
+abbrev pub StaysChosen : Config → World → Seat → Place → Step → Type 0
+StaysChosen c w seat place x =
+    ((WorldBehind c w seat x).now.seats.holding.placing ≡ Chosen place)
+    ⊎ ((header_at w.now.words place.page ≡ header_made (object_now c w.now) 0) × IsSized (object_now c w.now))
 
 module _ (c : Config) (w : World) (seat : Seat) (limits : IsWithinLimits c) (known : Known c w.now) (early : IsMarking w.now.words) (place : Place)
     (is : w.now.seats.holding.placing ≡ Chosen place) where
-  Stays : Step → Type 0
-  Stays x =
-      ((WorldBehind c w seat x).now.seats.holding.placing ≡ Chosen place)
-      ⊎ ((header_at w.now.words place.page ≡ header_made (object_now c w.now) 0) × IsSized (object_now c w.now))
-
   gives_not : Meets c w.now seat step.Give → ⊥
   gives_not h =
       let t = giver_has_turn c w.now seat known h in
@@ -120,7 +120,7 @@ module _ (c : Config) (w : World) (seat : Seat) (limits : IsWithinLimits c) (kno
       let d = and_parts (is_decided (flight_of w.now seat).stage) (is_run_gone w.now.words w.now.seats.holding.freed) b.0 in
       undecided (flight_of w.now seat).stage (undecided_new (flight_of w.now seat) new).stage d.0
 
-  takes : (p n : ℕ) → Meets c w.now seat (step.Used p n) → UsedStep c w.now (flight_of w.now seat) p n → Stays (step.Used p n)
+  takes : (p n : ℕ) → Meets c w.now seat (step.Used p n) → UsedStep c w.now (flight_of w.now seat) p n → StaysChosen c w seat place (step.Used p n)
   takes p n h (ItTakes four once t) =
       let now = placed_now c w.now (flight_of w.now seat) t.place t.there in
       let o : Object = object_made c (flight_of w.now seat).op in
@@ -137,9 +137,10 @@ module _ (c : Config) (w : World) (seat : Seat) (limits : IsWithinLimits c) (kno
       by Unplaced e (ByFit f) = cc
       by (Chosen y) e AsChosen = cc
       by (Used y) e AsUsed = cc
+      by Granted e x4 = elim x4 [ ]
   takes p n h (ItGivesBack four g) = absurd (true≢false (sym four ∙ marking_not_four (phase_of w.now.words) early))
 
-  pub stays_chosen : (x : Step) → Meets c w.now seat x → Stays x
+  pub stays_chosen : (x : Step) → Meets c w.now seat x → StaysChosen c w seat place x
   stays_chosen (step.Take o) h =
       inl (either (w.now.words.turn == 0) w.now.seats.holding place is
       (λ z. ap (λ (y : Holding). y.placing) (known.orderly.free (eqb-true w.now.words.turn 0 z))))
@@ -151,3 +152,24 @@ module _ (c : Config) (w : World) (seat : Seat) (limits : IsWithinLimits c) (kno
       inl (chosen_still (marks_place w.now.words (object_made c (flight_of w.now seat).op) (place_now c w.now (flight_of w.now seat)) p n) w.now.seats.holding.placing
       (place_now c w.now (flight_of w.now seat)) place is)
   stays_chosen _ h = inl is
+
+-- So a mark that was of a cell is of one behind a step: headers go on.
+pub still_a_cell : (c : Config) (w : World) (seat : Seat) (x : Step) (p k : ℕ) → IsWithinLimits c → Known c w.now → IsMarking w.now.words → Meets c w.now seat x
+    → GoesOn c.pages (header_at w.now.words p) (header_at (WorldBehind c w seat x).now.words p)
+    → IsCell c w.now p k → IsCell c (WorldBehind c w seat x).now p k
+still_a_cell c w seat x p k limits known early h goes is = elim is [
+  | inl lt ↦ inl (onward lt)
+  | inr t ↦ elim (stays_chosen c w seat limits known early t.place t.chosen x h) [
+    | inl still ↦
+        let same : object_now c (WorldBehind c w seat x).now ≡ object_now c w.now = object_kind c w seat x known h (ap (λ (y : Placing). has_place y) still) in
+        inr (record { place = t.place; chosen = still; page = t.page; cell = subst (λ (o : Object). k < cells_made o) (sym same) t.cell })
+    | inr stands ↦
+        inl (onward (subst (λ (q : ℕ). k < cells_under (header_in w.now.words q)) t.page
+        (made_has (object_now c w.now) (header_at w.now.words t.place.page) k stands.1 stands.0 t.cell)))
+  ]
+]
+  where
+    onward : k < cells_under (header_in w.now.words p) → k < cells_under (header_in (WorldBehind c w seat x).now.words p)
+    onward lt =
+        let same : cells_under (header_in (WorldBehind c w seat x).now.words p) ≡ cells_under (header_in w.now.words p) = goes.count (λ z. omega arith) in
+        subst (λ (n : ℕ). k < n) (sym same) lt

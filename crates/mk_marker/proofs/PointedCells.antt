@@ -5,7 +5,7 @@ use Rattle.std.proofs.lemmas.Bool.{true≢false}
 use Rattle.mk_geom.specs.declared.addresses.Cell.{Cell}
 use Rattle.mk_geom.specs.declared.headers.Header.{Header}
 use Rattle.mk_geom.specs.declared.headers.Header.TheVariants.{Free, Block, Run, Later, LeafBlock, LeafRun}
-use Rattle.mk_geom.specs.Addresses.{cell_under, page_at_address, word_at_address, run_of_page}
+use Rattle.mk_geom.specs.Addresses.{cell_at, cell_under, page_at_address, word_at_address, run_of_page}
 use Rattle.mk_geom.specs.Classes.{cells_of}
 use Rattle.mk_geom.specs.Headers.{header_of, IsInRange}
 use Rattle.mk_geom.proofs.ClassTable.{some_cells}
@@ -63,10 +63,14 @@ module _ (c : Config) (w : World) (laid : IsLaidOut c w) (on : is_phase w.now.wo
       let l = lies_under (Later d mapped) page word cell is in
       far d mapped page cell shown l.head (later_index (nat_le d page) (Later d mapped) page cell is)
 
-  pub pointed_is_cell : (value : ℕ) (cell : Cell) → pointed_cell c.pages w.now.words.pages value ≡ Some cell
+  pub found_is_cell : (value : ℕ) (cell : Cell) → cell_at c.pages (header_at w.now.words (page_at_address value)) value ≡ Some cell
       → cell.index < cells_under (header_in w.now.words cell.page)
-  unfolding pointed_cell
-  pointed_is_cell value cell is =
+  found_is_cell value cell is =
       let page : ℕ = page_at_address value in
       let under = found_under c.pages (header_at w.now.words page) value cell is in
       by_header under.0 page (word_at_address value) cell (word_of-header_of (header_at w.now.words page) under.0 under.1).0 under.1 under.2
+
+  pub pointed_is_cell : (value : ℕ) (cell : Cell) → pointed_cell c.pages w.now.words.pages value ≡ Some cell
+      → cell.index < cells_under (header_in w.now.words cell.page)
+  unfolding pointed_cell
+  pointed_is_cell value cell is = found_is_cell value cell is
