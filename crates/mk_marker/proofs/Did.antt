@@ -1,20 +1,11 @@
 -- What is done in parts.
-use Rattle.std.proofs.Common.{◌≡◌, ℕ, ◌+◌, Bool, true, List, [], ◌∷◌, ◌++◌, refl, sym, ◌∙◌, ap, subst, append_assoc, append-nil}
-use Rattle.std.specs.Prelude.{count_by}
-use Rattle.mk_core.specs.declared.seats.Marker.{Marker as MarkerState}
-use Rattle.mk_core.specs.declared.events.Seat.{Seat}
-use Rattle.mk_core.specs.declared.events.Seat.TheVariants.{Marker}
-use Rattle.mk_core.specs.declared.events.Step.{Step}
+use Rattle.std.proofs.Common.{◌≡◌, List, [], ◌++◌, refl, sym, ◌∙◌, ap, subst, append_assoc, append-nil}
 use Rattle.mk_core.specs.declared.events.Event.{Event}
 use Rattle.mk_core.specs.Growing.{Finding, own_from}
-use Rattle.mk_core.specs.History.{World, left}
-use Rattle.mk_words.specs.Seats.{Has}
-use Rattle.mk_words.specs.States.{WordsState, PassState, event_of}
-use Rattle.mk_words.specs.Steps.{Makes, Finds}
-use Rattle.mk_turns.specs.Doing.{AreOwnOrOfOthers, done_in, are_of}
-use Rattle.mk_turns.proofs.Doing.{done_in_parts, own_or_others_in_parts, others_are_so, none_own}
-use Rattle.mk_marker.specs.Markers.{IsMarkers}
-use Rattle.mk_marker.specs.Doing.{Did, finding}
+use Rattle.mk_words.specs.States.{WordsState, PassState}
+use Rattle.mk_turns.specs.Doing.{AreOwnOrOfOthers, done_in}
+use Rattle.mk_turns.proofs.Doing.{done_in_parts, own_or_others_in_parts}
+use Rattle.mk_marker.specs.Doing.{Did}
 use Rattle.mk_marker.specs.Steps.{IsOf}
 
 then_at : (p : PassState) (more : List Event) (xs ys : List Finding) → AreOwnOrOfOthers p.seat p.seats more → done_in p more ≡ xs
@@ -25,9 +16,9 @@ then_at p more xs ys own done r d =
       is = d.is ∙ ap (λ (es : List Event). record p { seen = es }) (append_assoc p.seen more d.more);
       own_or_others = own_or_others_in_parts p.seat p.seats more d.more own d.own_or_others;
       done =
-        done_in_parts p more d.more
-        ∙ ap (λ (zs : List Finding). zs ++ done_in (record p { seen = p.seen ++ more }) d.more) done
-        ∙ ap (λ (zs : List Finding). xs ++ zs) d.done;
+          done_in_parts p more d.more
+          ∙ ap (λ (zs : List Finding). zs ++ done_in (record p { seen = p.seen ++ more }) d.more) done
+          ∙ ap (λ (zs : List Finding). xs ++ zs) d.done;
     }
 
 pub did_then : (p : PassState) (xs : List Finding) (q : PassState) (ys : List Finding) (r : PassState) → Did p xs q → Did q ys r → Did p (xs ++ ys) r

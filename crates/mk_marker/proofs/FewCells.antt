@@ -1,5 +1,5 @@
 -- A page has at most 32 cells.
-use Rattle.std.proofs.Common.{◌≡◌, ℕ, ◌*◌, ◌<◌, ◌≤◌, refl, arith}
+use Rattle.std.proofs.Common.{◌≡◌, ℕ, ◌<◌, refl, arith}
 use Rattle.std.specs.Prelude.{Option, Some, None}
 use Rattle.std.proofs.lemmas.Nat.{mul-le}
 use Rattle.mk_geom.specs.declared.headers.Header.{Header}

@@ -1,12 +1,11 @@
 -- Looks at pages, one behind the other.
-use Rattle.std.proofs.Common.{◌≡◌, ◌≢◌, ◌⊎◌, ℕ, ◌+◌, ◌<◌, ◌≤◌, Bool, true, false, List, [], ◌∷◌, ◌++◌, refl, sym, ◌∙◌, ap, subst, inl, inr, append_assoc, arith}
-use Rattle.std.specs.Prelude.{◌&&◌, not, Option, Some, None, IfSome, IfNone, slice_index}
+use Rattle.std.proofs.Common.{◌≡◌, ◌≢◌, ◌⊎◌, ℕ, ◌+◌, ◌<◌, ◌≤◌, true, List, [], ◌∷◌, ◌++◌, refl, sym, ◌∙◌, ap, subst, inl, inr, append_assoc, arith}
+use Rattle.std.specs.Prelude.{not, Option, Some, None, IfSome, IfNone}
 use Rattle.std.proofs.lemmas.Bool.{and_parts, not-true}
 use Rattle.mk_geom.specs.Headers.{header_of}
 use Rattle.mk_core.specs.declared.config.Config.{Config}
 use Rattle.mk_core.specs.declared.events.Seat.{Seat}
 use Rattle.mk_core.specs.declared.events.Seat.TheVariants.{Caller, Marker, Host}
-use Rattle.mk_core.specs.declared.events.Word.{Word}
 use Rattle.mk_core.specs.declared.events.Word.TheVariants as word
 use Rattle.mk_core.specs.declared.events.Step.{Step}
 use Rattle.mk_core.specs.declared.events.Step.TheVariants as step
@@ -16,7 +15,7 @@ use Rattle.mk_core.specs.Bits.{has_bit, without}
 use Rattle.mk_core.specs.Cells.{cells_under}
 use Rattle.mk_core.specs.Effects.{marker_behind}
 use Rattle.mk_core.specs.Growing.{Finding}
-use Rattle.mk_core.specs.History.{IsHistory, left}
+use Rattle.mk_core.specs.History.{IsHistory}
 use Rattle.mk_core.specs.Moments.{Moment, marker_at}
 use Rattle.mk_core.specs.StopConditions.{is_attending}
 use Rattle.mk_core.specs.Words.{named_word, header_at}
@@ -25,13 +24,12 @@ use Rattle.mk_protocol.proofs.Known.{Known, known_left}
 use Rattle.mk_guard.specs.Guard.{IsMarking}
 use Rattle.mk_words.specs.States.{PassState, now_of}
 use Rattle.mk_words.specs.Markers.{marker_in}
-use Rattle.mk_turns.specs.Doing.{are_of}
 use Rattle.mk_turns.proofs.Doing.{of_kinds_in_parts}
 use Rattle.mk_marker.specs.declared.cells.MarkedCell.{MarkedCell}
 use Rattle.mk_marker.specs.Markers.{IsBetweenScans, between_scans, attends}
 use Rattle.mk_marker.specs.Doing.{Did, finding, looking, is_look}
 use Rattle.mk_marker.specs.Working.{SeesNoWork, SeesACell}
-use Rattle.mk_marker.specs.Steps.{Moves, MarksGrow, IsMarkedIn, LooksInVain, SeesCell}
+use Rattle.mk_marker.specs.Steps.{Moves, IsMarkedIn, LooksInVain, SeesCell}
 use Rattle.mk_marker.proofs.Did.{did_then, did_nothing, seat_kept}
 use Rattle.mk_marker.proofs.MarkedCells.{marks_are_of_cells}
 
@@ -51,8 +49,8 @@ seen_before s page xs ys h =
       marks = h.marks;
       blacks = h.blacks;
       is =
-        ap (λ (zs : List Finding). zs ++ ys) h.is
-        ∙ append_assoc h.before (looking s (word.Mark page) h.marks ∷ looking s (word.Black page) h.blacks ∷ h.behind) ys;
+          ap (λ (zs : List Finding). zs ++ ys) h.is
+          ∙ append_assoc h.before (looking s (word.Mark page) h.marks ∷ looking s (word.Black page) h.blacks ∷ h.behind) ys;
       no_work = elim h.no_work [ inl none ↦ inl none | inr free ↦ inr (free.0 ++ ys, ap (λ (zs : List Finding). zs ++ ys) free.1) ];
     }
 
@@ -64,8 +62,8 @@ seen_behind s page xs ys h =
       marks = h.marks;
       blacks = h.blacks;
       is =
-        ap (λ (zs : List Finding). xs ++ zs) h.is
-        ∙ sym (append_assoc xs h.before (looking s (word.Mark page) h.marks ∷ looking s (word.Black page) h.blacks ∷ h.behind));
+          ap (λ (zs : List Finding). xs ++ zs) h.is
+          ∙ sym (append_assoc xs h.before (looking s (word.Mark page) h.marks ∷ looking s (word.Black page) h.blacks ∷ h.behind));
       no_work = h.no_work;
     }
 
@@ -83,7 +81,7 @@ looked_on p a b q d e r first end one two all =
       pages = λ page le lt. elim (all page le lt) [
         | inl there ↦ seen_before p.seat page one.steps two.steps (one.pages page there.0 there.1)
         | inr there ↦ seen_behind p.seat page one.steps two.steps
-          (subst (λ (s : Seat). SeesNoWork s page two.steps) (seat_kept p one.steps q one.did) (two.pages page there.0 there.1))
+            (subst (λ (s : Seat). SeesNoWork s page two.steps) (seat_kept p one.steps q one.did) (two.pages page there.0 there.1))
       ];
       between = two.between;
     }
@@ -91,7 +89,7 @@ looked_on p a b q d e r first end one two all =
 pub sees_then : (p : PassState) (a b : ℕ) (q : PassState) (cell : MarkedCell) (r : PassState) → LooksInVain p a b q → SeesCell q cell r → SeesCell p cell r
 sees_then p a b q cell r one two =
     let sees : SeesACell p.seat cell.page cell.index cell.header two.steps =
-      subst (λ (s : Seat). SeesACell s cell.page cell.index cell.header two.steps) (seat_kept p one.steps q one.did) two.sees in
+    subst (λ (s : Seat). SeesACell s cell.page cell.index cell.header two.steps) (seat_kept p one.steps q one.did) two.sees in
     record {
       steps = one.steps ++ two.steps;
       did = did_then p one.steps q two.steps r one.did two.did;
@@ -100,8 +98,8 @@ sees_then p a b q cell r one two =
         marks = sees.marks;
         blacks = sees.blacks;
         is =
-          ap (λ (zs : List Finding). one.steps ++ zs) sees.is
-          ∙ sym (append_assoc one.steps sees.looks
+            ap (λ (zs : List Finding). one.steps ++ zs) sees.is
+            ∙ sym (append_assoc one.steps sees.looks
             (looking p.seat (word.Mark cell.page) sees.marks ∷ looking p.seat (word.Black cell.page) sees.blacks ∷ looking p.seat (word.Head cell.page) cell.header ∷ []));
         are_looks = of_kinds_in_parts is_look one.steps sees.looks one.looks sees.are_looks;
         marked = sees.marked;
@@ -127,7 +125,7 @@ pub two_looks : (p : PassState) (page n : ℕ) (a : PassState) (m : ℕ) (b : Pa
     → Moves a (step.Mlook (word.Black page)) m b → TwoLooks p page n m b
 two_looks p page n a m b between one two =
     let at : marker_in a ≡ between_scans None =
-      one.marker ∙ ap (λ (x : MarkerState). marker_behind p.table.config n (step.Mlook (word.Mark page)) x) between.1 in
+    one.marker ∙ ap (λ (x : MarkerState). marker_behind p.table.config n (step.Mlook (word.Mark page)) x) between.1 in
     record {
       did = did_more p (looking p.seat (word.Mark page) n ∷ []) a (step.Mlook (word.Black page)) m b one.did two;
       marker = two.marker ∙ ap (λ (x : MarkerState). marker_behind a.table.config m (step.Mlook (word.Black page)) x) at;
@@ -140,9 +138,9 @@ nothing_to_scan p page n m b two none =
       did = two.did;
       looks = refl;
       pages = λ other le lt.
-        let same : page ≡ other = omega arith in
-        subst (λ (i : ℕ). SeesNoWork p.seat i (looking p.seat (word.Mark page) n ∷ looking p.seat (word.Black page) m ∷ [])) same
-        (record { before = []; behind = []; marks = n; blacks = m; is = refl; no_work = inl none });
+          let same : page ≡ other = omega arith in
+          subst (λ (i : ℕ). SeesNoWork p.seat i (looking p.seat (word.Mark page) n ∷ looking p.seat (word.Black page) m ∷ [])) same
+          (record { before = []; behind = []; marks = n; blacks = m; is = refl; no_work = inl none });
       between = (None, two.marker);
     }
 
@@ -153,13 +151,13 @@ no_cell_yet p page n m b h d two head free =
     record {
       steps = looking p.seat (word.Mark page) n ∷ looking p.seat (word.Black page) m ∷ looking p.seat (word.Head page) 0 ∷ [];
       did =
-        subst (λ (i : ℕ). Did p (looking p.seat (word.Mark page) n ∷ looking p.seat (word.Black page) m ∷ looking p.seat (word.Head page) i ∷ []) d) free
-        (did_more p (looking p.seat (word.Mark page) n ∷ looking p.seat (word.Black page) m ∷ []) b (step.Mlook (word.Head page)) h d two.did head);
+          subst (λ (i : ℕ). Did p (looking p.seat (word.Mark page) n ∷ looking p.seat (word.Black page) m ∷ looking p.seat (word.Head page) i ∷ []) d) free
+          (did_more p (looking p.seat (word.Mark page) n ∷ looking p.seat (word.Black page) m ∷ []) b (step.Mlook (word.Head page)) h d two.did head);
       looks = refl;
       pages = λ other le lt.
-        let same : page ≡ other = omega arith in
-        subst (λ (i : ℕ). SeesNoWork p.seat i (looking p.seat (word.Mark page) n ∷ looking p.seat (word.Black page) m ∷ looking p.seat (word.Head page) 0 ∷ [])) same
-        (record { before = []; behind = looking p.seat (word.Head page) 0 ∷ []; marks = n; blacks = m; is = refl; no_work = inr ([], refl) });
+          let same : page ≡ other = omega arith in
+          subst (λ (i : ℕ). SeesNoWork p.seat i (looking p.seat (word.Mark page) n ∷ looking p.seat (word.Black page) m ∷ looking p.seat (word.Head page) 0 ∷ [])) same
+          (record { before = []; behind = looking p.seat (word.Head page) 0 ∷ []; marks = n; blacks = m; is = refl; no_work = inr ([], refl) });
       between = (Some (record { page = page; header = h }), head.marker ∙ behind_look b.table.config h page (marker_in b) None two.marker);
     }
 
@@ -178,18 +176,18 @@ pub a_cell : (p : PassState) (page n : ℕ) (a : PassState) (m : ℕ) (b : PassS
 a_cell p page n a m b h d k between one marks two head shows history some bit =
     let looks = two_looks p page n a m b between one two in
     let at : marker_in a ≡ between_scans None =
-      one.marker ∙ ap (λ (x : MarkerState). marker_behind p.table.config n (step.Mlook (word.Mark page)) x) between.1 in
+    one.marker ∙ ap (λ (x : MarkerState). marker_behind p.table.config n (step.Mlook (word.Mark page)) x) between.1 in
     let now : marker_in d ≡ between_scans (Some (record { page = page; header = h })) =
-      head.marker ∙ behind_look b.table.config h page (marker_in b) None looks.marker in
+    head.marker ∙ behind_look b.table.config h page (marker_in b) None looks.marker in
     let parts = and_parts (has_bit n k) (not (has_bit m k)) (sym (has_bit_without n m k) ∙ bit) in
     let here : IsMarkedIn a page k = subst (λ (i : ℕ). has_bit i k ≡ true) marks parts.0 in
     let there : IsMarkedIn b page k = two.marks (ap (λ (x : MarkerState). is_attending x.presence) at) page k here in
     let still : IsMarkedIn d page k = head.marks (ap (λ (x : MarkerState). is_attending x.presence) looks.marker) page k there in
     let on : attends d ≡ true = ap (λ (x : MarkerState). is_attending x.presence) now in
     let early : IsMarking (now_of d).words =
-      marking_for d.table.config (now_of d) d.seat (known_left d.table.config d.seen history.within_limits history.enabled) on in
+    marking_for d.table.config (now_of d) d.seat (known_left d.table.config d.seen history.within_limits history.enabled) on in
     let cell : k < cells_under (header_of (header_at (now_of d).words page)) =
-      marks_are_of_cells d.table.config d.seen history early page k still (λ z. some (shows ∙ z)) in
+    marks_are_of_cells d.table.config d.seen history early page k still (λ z. some (shows ∙ z)) in
     record {
       steps = looking p.seat (word.Mark page) n ∷ looking p.seat (word.Black page) m ∷ looking p.seat (word.Head page) h ∷ [];
       did = did_more p (looking p.seat (word.Mark page) n ∷ looking p.seat (word.Black page) m ∷ []) b (step.Mlook (word.Head page)) h d looks.did head;

@@ -1,57 +1,42 @@
 -- What an event leaves of the marks while a cycle marks: each is of a cell, or of one that a New is to carve.
-use Rattle.std.proofs.Common.{◌≡◌, ◌≢◌, ◌⊎◌, ℕ, ◌+◌, ◌-◌, ◌*◌, ◌%◌, ◌^◌, ◌<◌, ◌≤◌, Bool, true, false, List, length, refl, sym, ◌∙◌, ap, subst, inl, inr, arith}
-use Rattle.std.specs.Prelude.{Option, Some, None, is_some, slice_index, slice_set, bit_or, ◌&&◌, ◌||◌, ◌==◌, if◌then◌else◌}
-use Rattle.std.proofs.lemmas.Bool.{cases_Bool, cases_eq, cases_lt, eqb-true, ne_eqb, true≢false, and_parts, or_cases}
-use Rattle.std.proofs.lemmas.List.{get_or-set_same, get_or-set_other, set_past, get_or_past}
-use Rattle.mk_geom.specs.declared.addresses.Cell.{Cell}
+use Rattle.std.proofs.Common.{◌≡◌, ◌⊎◌, ℕ, ◌+◌, ◌<◌, Bool, true, false, refl, sym, ◌∙◌, ap, subst, inl, inr, arith}
+use Rattle.std.specs.Prelude.{Option, slice_index, ◌&&◌, ◌==◌, if◌then◌else◌}
+use Rattle.std.proofs.lemmas.Bool.{eqb-true, ne_eqb, true≢false, and_parts}
 use Rattle.mk_geom.specs.declared.pages.Place.{Place}
-use Rattle.mk_geom.specs.Addresses.{cell_at, page_at_address}
 use Rattle.mk_geom.specs.Headers.{header_of}
 use Rattle.mk_core.specs.declared.config.Config.{Config}
 use Rattle.mk_core.specs.declared.events.Seat.{Seat}
-use Rattle.mk_core.specs.declared.events.Seat.TheVariants.{Caller, Marker, Host}
 use Rattle.mk_core.specs.declared.events.Step.{Step}
 use Rattle.mk_core.specs.declared.events.Step.TheVariants as step
-use Rattle.mk_core.specs.declared.seats.Flight.{Flight}
-use Rattle.mk_core.specs.declared.seats.Hand.{Hand}
 use Rattle.mk_core.specs.declared.seats.Holding.{Holding}
-use Rattle.mk_core.specs.declared.seats.Marker.{Marker as MarkerState}
 use Rattle.mk_core.specs.declared.seats.Object.{Object}
 use Rattle.mk_core.specs.declared.seats.Placing.{Placing}
 use Rattle.mk_core.specs.declared.seats.Placing.TheVariants.{Unplaced, Chosen, Used, Granted}
-use Rattle.mk_core.specs.declared.seats.SeenHeader.{SeenHeader}
 use Rattle.mk_core.specs.declared.seats.Stage.{Stage}
 use Rattle.mk_core.specs.declared.seats.Stage.TheVariants as stage
-use Rattle.mk_core.specs.Bits.{has_bit, bit_for}
+use Rattle.mk_core.specs.Bits.{has_bit}
 use Rattle.mk_core.specs.Config.{IsWithinLimits}
-use Rattle.mk_core.specs.Words.{Words, header_at, phase_of}
-use Rattle.mk_core.specs.Cells.{header_in, cells_under, pointed_cell}
-use Rattle.mk_core.specs.NewPlaces.{object_made, bits_made, header_made, is_run_gone, is_undecided_new}
+use Rattle.mk_core.specs.Words.{header_at, phase_of}
+use Rattle.mk_core.specs.Cells.{header_in, cells_under}
+use Rattle.mk_core.specs.NewPlaces.{object_made, header_made, is_run_gone}
 use Rattle.mk_core.specs.ObjectHeaders.{IsSized, cells_made}
 use Rattle.mk_core.specs.TurnConditions.{place_now, words_held, is_decided, is_used_once}
-use Rattle.mk_core.specs.StopConditions.{is_attending, may_mark, marks_by_hand, marks_place, is_bit_of}
-use Rattle.mk_core.specs.MarkerConditions.{cell_seen}
-use Rattle.mk_core.specs.Effects.{chosen, taken}
-use Rattle.mk_core.specs.Moments.{Moment, flight_of, marker_of, is_phase, nothing_done}
-use Rattle.mk_core.specs.Accesses.{seen_page, seen_bit}
+use Rattle.mk_core.specs.StopConditions.{marks_place}
+use Rattle.mk_core.specs.Effects.{chosen}
+use Rattle.mk_core.specs.Moments.{Moment, flight_of, is_phase, nothing_done}
 use Rattle.mk_core.specs.History.{World}
 use Rattle.mk_core.proofs.ObjectHeaders.{made_shows, part_cells}
 use Rattle.mk_core.proofs.PageSteps.{UsedStep, ItTakes, ItGivesBack, used_step}
-use Rattle.mk_core.proofs.PlacesNow.{IsPlaced, ByFit, AsChosen, AsUsed, PlacedNow, placed_now, NewAtTurn, undecided_new}
-use Rattle.mk_core.proofs.ServingSteps.{TakesCell, MarksPlace, marks_is}
+use Rattle.mk_core.proofs.PlacesNow.{IsPlaced, ByFit, AsChosen, AsUsed, placed_now, undecided_new}
 use Rattle.mk_core.proofs.Sizes.{pages_some}
-use Rattle.mk_core.proofs.WordBits.{has_bit_or, bit_of_power, bit_of_cell}
 use Rattle.mk_protocol.specs.Protocol.{has_place}
 use Rattle.mk_protocol.proofs.Actors.{Meets}
 use Rattle.mk_protocol.proofs.Known.{Known}
 use Rattle.mk_protocol.proofs.OthersMoves.{WorldBehind}
-use Rattle.mk_protocol.proofs.SameWords.{Behind}
-use Rattle.mk_guard.specs.Guard.{GoesOn, Guard, IsMarking}
-use Rattle.mk_guard.proofs.Changes.{Table, reg_table, tally_table}
-use Rattle.mk_layout.specs.Terrain.{IsLaidOut, object_now, plot_of, claims_placed, claims_of}
+use Rattle.mk_guard.specs.Guard.{GoesOn, IsMarking}
+use Rattle.mk_layout.specs.Terrain.{object_now}
 use Rattle.mk_layout.proofs.Behind.{object_kind}
-use Rattle.mk_layout.proofs.Holders.{new_has_turn, giver_has_turn, holding_flight, holding_object, placed_undecided, made_sized}
-use Rattle.mk_marker.proofs.PointedCells.{pointed_is_cell}
+use Rattle.mk_layout.proofs.Holders.{new_has_turn, giver_has_turn, holding_object, placed_undecided, made_sized}
 
 -- the cell of a place whose first page is to be carved
 pub record IsToCarve (c : Config) (m : Moment) (p k : ℕ) : Type 0 where
@@ -115,7 +100,7 @@ module _ (c : Config) (w : World) (seat : Seat) (limits : IsWithinLimits c) (kno
       let t = giver_has_turn c w.now seat known h in
       let new = placed_undecided c w.now seat known t (ap (λ (x : Placing). has_place x) is) in
       let a = and_parts (is_decided (flight_of w.now seat).stage && is_run_gone w.now.words w.now.seats.holding.freed && (w.now.words.held == words_held w.now.words))
-              (w.now.words.fresh == w.now.fresh_words) h.holder in
+      (w.now.words.fresh == w.now.fresh_words) h.holder in
       let b = and_parts (is_decided (flight_of w.now seat).stage && is_run_gone w.now.words w.now.seats.holding.freed) (w.now.words.held == words_held w.now.words) a.0 in
       let d = and_parts (is_decided (flight_of w.now seat).stage) (is_run_gone w.now.words w.now.seats.holding.freed) b.0 in
       undecided (flight_of w.now seat).stage (undecided_new (flight_of w.now seat) new).stage d.0
@@ -130,8 +115,10 @@ module _ (c : Config) (w : World) (seat : Seat) (limits : IsWithinLimits c) (kno
       let some = pages_some o sized in
       let stands : header_at w.now.words (t.place.page + 0) ≡ header_made o 0 = t.taken.headers 0 (omega arith) in
       let first : t.place.page + 0 ≡ place.page = let e = ap (λ (x : Place). x.page) there in omega arith in
-      inr (subst (λ (y : Object). header_at w.now.words place.page ≡ header_made y 0) (sym same) (subst (λ (q : ℕ). header_at w.now.words q ≡ header_made o 0) first stands),
-        subst (λ (y : Object). IsSized y) (sym same) sized)
+      inr (
+        subst (λ (y : Object). header_at w.now.words place.page ≡ header_made y 0) (sym same) (subst (λ (q : ℕ). header_at w.now.words q ≡ header_made o 0) first stands),
+        subst (λ (y : Object). IsSized y) (sym same) sized,
+      )
     where
       by : (x : Placing) → x ≡ Chosen place → IsPlaced c.resident w.now.words.pages (object_made c (flight_of w.now seat).op) t.place x → t.place ≡ place
       by Unplaced e (ByFit f) = cc

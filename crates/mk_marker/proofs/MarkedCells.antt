@@ -1,5 +1,5 @@
 -- While a cycle marks, each mark on a page that has a header is of a cell.
-use Rattle.std.proofs.Common.{◌≡◌, ◌≢◌, ◌⊎◌, ℕ, ◌+◌, ◌-◌, ◌<◌, ◌≤◌, Bool, true, false, List, [], ◌∷◌, ◌++◌, refl, sym, ◌∙◌, ap, subst, inl, inr, arith, append-nil, append_assoc}
+use Rattle.std.proofs.Common.{◌≡◌, ◌≢◌, ◌⊎◌, ℕ, ◌+◌, ◌<◌, true, false, List, [], ◌∷◌, ◌++◌, refl, sym, ◌∙◌, subst, inl, inr, arith, append-nil, append_assoc}
 use Rattle.std.specs.Prelude.{slice_index, ◌&&◌, ◌==◌}
 use Rattle.std.proofs.lemmas.Bool.{cases_lt, eqb-true, true≢false, and_parts}
 use Rattle.std.proofs.lemmas.List.{get_or_past}
@@ -33,9 +33,9 @@ use Rattle.mk_guard.proofs.Headers.{head_keeps}
 use Rattle.mk_guard.proofs.KeptGuard.{goes_equal}
 use Rattle.mk_guard.proofs.Phases.{is_phase_step, phase_stays, over_phase}
 use Rattle.mk_invariant.proofs.Joined.{told_to_guard}
-use Rattle.mk_layout.specs.Scene.{Plot, Plotted, PlotStands, IsPlotShown}
+use Rattle.mk_layout.specs.Scene.{PlotStands, IsPlotShown}
 use Rattle.mk_layout.specs.Terrain.{IsLaidOut, object_now, plot_of}
-use Rattle.mk_frames.proofs.LastEvents.{Stands, stands, ComesLast, comes_last}
+use Rattle.mk_frames.proofs.LastEvents.{stands, comes_last}
 use Rattle.mk_marker.proofs.MarkBits.{MarksAreOfCells, IsCell, IsToCarve, made_has, marking_not_four, still_a_cell}
 use Rattle.mk_marker.proofs.NewMarks.{new_mark}
 
@@ -108,9 +108,9 @@ along c done (e ∷ es) h all =
     let last = comes_last c done e (earlier_part_is_history c (done ++ e ∷ []) es parts) in
     let st = stands c done last.before in
     let next : MarksAreOfCells c (left c (done ++ e ∷ [])).now =
-      subst (λ (v : World). MarksAreOfCells c v.now) (sym last.leaves)
-      (marks_behind c (left c done) e.seat e.step st.known.limits st.known.now st.known.lengths st.all.order.laid
-      (told_to_guard c (left c done) (never_behind c done) st.known st.all) st.all.marks last.meets all) in
+    subst (λ (v : World). MarksAreOfCells c v.now) (sym last.leaves)
+    (marks_behind c (left c done) e.seat e.step st.known.limits st.known.now st.known.lengths st.all.order.laid
+    (told_to_guard c (left c done) (never_behind c done) st.known st.all) st.all.marks last.meets all) in
     subst (λ (xs : List Event). MarksAreOfCells c (left c xs).now) (sym split) (along c (done ++ e ∷ []) es parts next)
 
 none_at_first : (c : Config) → MarksAreOfCells c (left c []).now
@@ -121,7 +121,7 @@ none_at_first c early p k is = absurd (elim early [ inl e ↦ omega arith | inr 
 to_carve_shown : (c : Config) (w : World) (p k : ℕ) → IsLaidOut c w → IsToCarve c w.now p k → header_at w.now.words p ≢ 0 → k < cells_under (header_in w.now.words p)
 to_carve_shown c w p k laid t some =
     let plot : IsPlotShown w.now.words.pages t.place.page (object_now c w.now) =
-      subst (λ (y : Placing). PlotStands w.now.words.pages (plot_of (object_now c w.now) y)) t.chosen laid.scene.plot in
+    subst (λ (y : Placing). PlotStands w.now.words.pages (plot_of (object_now c w.now) y)) t.chosen laid.scene.plot in
     let pages = pages_some (object_now c w.now) plot.sized in
     let first : t.place.page + 0 ≡ p = let at = t.page in omega arith in
     elim (plot.headers 0 (omega arith)) [

@@ -1,5 +1,5 @@
 -- One step of a marker: what it leaves.
-use Rattle.std.proofs.Common.{◌≡◌, ◌⊎◌, ℕ, ◌+◌, ◌-◌, ◌*◌, ◌<◌, ◌≤◌, Bool, true, false, List, [], ◌∷◌, ◌++◌, refl, sym, ◌∙◌, ap, subst, append_assoc, arith}
+use Rattle.std.proofs.Common.{◌≡◌, ℕ, ◌+◌, ◌-◌, ◌*◌, ◌<◌, Bool, true, List, [], ◌∷◌, ◌++◌, refl, sym, ◌∙◌, ap, subst, append_assoc, arith}
 use Rattle.std.specs.Prelude.{slice_index, if◌then◌else◌, Some, None, ◌&&◌, nat_lt}
 use Rattle.std.proofs.lemmas.Bool.{lt-ltb, eq-eqb}
 use Rattle.mk_geom.specs.Headers.{header_of}
@@ -18,9 +18,9 @@ use Rattle.mk_core.specs.Enabled.{failing, marker_may}
 use Rattle.mk_core.proofs.Conditions.{meets_enabled}
 use Rattle.mk_core.specs.Effects.{marker_behind, scan_begun}
 use Rattle.mk_core.specs.Bits.{has_bit}
-use Rattle.mk_core.specs.Frames.{Attends, OnlyGrow, ScanIsLeft}
-use Rattle.mk_core.specs.Growing.{Finding, own_from, is_same_seat, is_one_of}
-use Rattle.mk_core.specs.History.{IsHistory, World, world_behind, left}
+use Rattle.mk_core.specs.Frames.{Attends, ScanIsLeft}
+use Rattle.mk_core.specs.Growing.{Finding, own_from}
+use Rattle.mk_core.specs.History.{IsHistory, World, left}
 use Rattle.mk_core.specs.Moments.{Moment, marker_at}
 use Rattle.mk_core.specs.StopConditions.{is_attending}
 use Rattle.mk_core.specs.Words.{named_word}
@@ -29,7 +29,7 @@ use Rattle.mk_words.specs.Seats.{Has}
 use Rattle.mk_words.specs.States.{WordsState, PassState, now_of, event_of}
 use Rattle.mk_words.specs.Steps.{Makes, Finds, found_by, IsEnabledTo}
 use Rattle.mk_words.specs.Markers.{marker_in, Marks}
-use Rattle.mk_words.proofs.Made.{Made, made}
+use Rattle.mk_words.proofs.Made.{made}
 use Rattle.mk_words.proofs.Seats.{same_self}
 use Rattle.mk_turns.specs.Doing.{AreOwnOrOfOthers, done_in}
 use Rattle.mk_turns.proofs.Doing.{done_in_parts, own_or_others_in_parts, others_are_so, none_own}
@@ -58,14 +58,14 @@ did_step p s n q has f =
       more = others ++ e ∷ [];
       is = f.makes.is ∙ ap (λ (es : List Event). record p { seen = es }) (append_assoc p.seen others (e ∷ []));
       own_or_others =
-        own_or_others_in_parts p.seat p.seats others (e ∷ [])
-        (others_are_so p.seats p.seat others has f.makes.of_others) (itself p.seat p.seats s has);
+          own_or_others_in_parts p.seat p.seats others (e ∷ [])
+          (others_are_so p.seats p.seat others has f.makes.of_others) (itself p.seat p.seats s has);
       done =
-        done_in_parts p others (e ∷ [])
-        ∙ ap (λ (zs : List Finding). zs ++ done_in v (e ∷ []))
+          done_in_parts p others (e ∷ [])
+          ∙ ap (λ (zs : List Finding). zs ++ done_in v (e ∷ []))
           (none_own p.table.config p.seats p.seat (left p.table.config p.seen) others has f.makes.of_others)
-        ∙ one_own p.table.config p.seat (left p.table.config v.seen) s
-        ∙ ap (λ (i : ℕ). finding p.seat s i ∷ []) (sym f.finds);
+          ∙ one_own p.table.config p.seat (left p.table.config v.seen) s
+          ∙ ap (λ (i : ℕ). finding p.seat s i ∷ []) (sym f.finds);
     }
 
 -- who attends is a marker
@@ -120,7 +120,7 @@ claimed p cell n q has history at is m =
     let marked = still_marked p cell.page cell.index n q has history on is m.finds in
     let x : MarkerState = record { presence = Attending; scan = Some (scan_begun cell.page cell.index cell.header); hand = None; seen = Some (record { page = cell.page; header = cell.header }) } in
     let now : marker_in q ≡ x =
-      m.marker ∙ ap (λ (y : MarkerState). marker_behind p.table.config n (step.Claim cell.page cell.index) y) at ∙ scan_of p.table.config cell.page cell.index cell.header n marked in (
+    m.marker ∙ ap (λ (y : MarkerState). marker_behind p.table.config n (step.Claim cell.page cell.index) y) at ∙ scan_of p.table.config cell.page cell.index cell.header n marked in (
       record { found = n; moves = moves p (step.Claim cell.page cell.index) n q has history m; marked = marked },
       record { scan = scan_begun cell.page cell.index cell.header; seen = Some (record { page = cell.page; header = cell.header }); is = now; next = omega arith },
       ap (λ (y : MarkerState). words_left y) now ∙ begun_left (64 * cell.page + cell.index * words_under (header_of cell.header)) (words_scanned cell.header),
@@ -135,10 +135,10 @@ may_claim_seen w p cell of at page index few =
     let s : Step = step.Claim cell.page cell.index in
     let c : Config = p.table.config in
     let page_in : (nat_lt cell.page c.pages && nat_lt cell.index 32) ≡ true =
-      ap (λ (b : Bool). b && nat_lt cell.index 32) (lt-ltb cell.page c.pages (subst (λ (t : WordsState). cell.page < t.config.pages) (sym of.one_table) page)) ∙ lt-ltb cell.index 32 few in
+    ap (λ (b : Bool). b && nat_lt cell.index 32) (lt-ltb cell.page c.pages (subst (λ (t : WordsState). cell.page < t.config.pages) (sym of.one_table) page)) ∙ lt-ltb cell.index 32 few in
     let may : marker_may c (marker_in p) s ≡ true =
-      ap (λ (x : MarkerState). marker_may c x s) at
-      ∙ ap (λ (b : Bool). b && nat_lt cell.index (cells_under (header_of cell.header))) (eq-eqb cell.page cell.page refl) ∙ lt-ltb cell.index (cells_under (header_of cell.header)) index in
+    ap (λ (x : MarkerState). marker_may c x s) at
+    ∙ ap (λ (b : Bool). b && nat_lt cell.index (cells_under (header_of cell.header))) (eq-eqb cell.page cell.page refl) ∙ lt-ltb cell.index (cells_under (header_of cell.header)) index in
     subst (λ (seat : Seat). failing c (now_of p) (record { seat = seat; step = s }) ≡ 0) (sym of.marker.seat)
     (meets_enabled c (now_of p) (record { seat = Marker of.marker.number; step = s })
     (record {

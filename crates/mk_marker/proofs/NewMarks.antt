@@ -1,6 +1,6 @@
 -- The marks that an event adds are of cells, or of those that a New is to carve.
-use Rattle.std.proofs.Common.{◌≡◌, ◌≢◌, ◌⊎◌, ℕ, ◌+◌, ◌-◌, ◌^◌, ◌<◌, ◌≤◌, Bool, true, false, List, length, refl, sym, ◌∙◌, ap, subst, inl, inr, arith}
-use Rattle.std.specs.Prelude.{Option, Some, None, is_some, slice_index, slice_set, bit_or, ◌&&◌, ◌||◌, ◌==◌, if◌then◌else◌}
+use Rattle.std.proofs.Common.{◌≡◌, ◌⊎◌, ℕ, ◌+◌, ◌-◌, ◌^◌, ◌<◌, Bool, true, false, List, length, refl, sym, ◌∙◌, ap, subst, inl, inr, arith}
+use Rattle.std.specs.Prelude.{Option, Some, None, is_some, slice_index, slice_set, bit_or, ◌==◌, if◌then◌else◌}
 use Rattle.std.proofs.lemmas.Bool.{cases_Bool, cases_eq, cases_lt, eqb-true, true≢false, and_parts, or_cases}
 use Rattle.std.proofs.lemmas.List.{get_or-set_same, get_or-set_other, set_past}
 use Rattle.std.proofs.lemmas.Nat.Bits.{bit_at_ones_above}
@@ -8,26 +8,24 @@ use Rattle.mk_geom.specs.declared.addresses.Cell.{Cell}
 use Rattle.mk_geom.specs.declared.pages.Place.{Place}
 use Rattle.mk_geom.specs.Addresses.{cell_at, page_at_address}
 use Rattle.mk_geom.specs.Classes.{cells_of}
-use Rattle.mk_geom.specs.Headers.{header_of}
 use Rattle.mk_core.specs.declared.config.Config.{Config}
 use Rattle.mk_core.specs.declared.events.Seat.{Seat}
 use Rattle.mk_core.specs.declared.events.Seat.TheVariants.{Caller, Marker, Host}
 use Rattle.mk_core.specs.declared.events.Step.{Step}
 use Rattle.mk_core.specs.declared.events.Step.TheVariants as step
 use Rattle.mk_core.specs.declared.seats.Hand.{Hand}
-use Rattle.mk_core.specs.declared.seats.Marker.{Marker as MarkerState}
 use Rattle.mk_core.specs.declared.seats.Object.{Object}
 use Rattle.mk_core.specs.declared.seats.Placing.{Placing}
 use Rattle.mk_core.specs.declared.seats.Placing.TheVariants.{Unplaced, Chosen, Used, Granted}
 use Rattle.mk_core.specs.declared.seats.SeenHeader.{SeenHeader}
-use Rattle.mk_core.specs.Bits.{has_bit, bit_for}
+use Rattle.mk_core.specs.Bits.{has_bit}
 use Rattle.mk_core.specs.Config.{IsWithinLimits}
-use Rattle.mk_core.specs.Words.{Words, header_at, phase_of}
+use Rattle.mk_core.specs.Words.{header_at, phase_of}
 use Rattle.mk_core.specs.Cells.{header_in, cells_under, pointed_cell}
 use Rattle.mk_core.specs.NewPlaces.{object_made, bits_made, header_made, is_small_object, class_made}
-use Rattle.mk_core.specs.ObjectHeaders.{IsSized, cells_made}
+use Rattle.mk_core.specs.ObjectHeaders.{cells_made}
 use Rattle.mk_core.specs.TurnConditions.{place_now}
-use Rattle.mk_core.specs.StopConditions.{is_attending, may_mark, marks_by_hand, marks_place, is_bit_of}
+use Rattle.mk_core.specs.StopConditions.{is_attending, marks_by_hand, marks_place, is_bit_of}
 use Rattle.mk_core.specs.MarkerConditions.{cell_seen}
 use Rattle.mk_core.specs.Effects.{chosen}
 use Rattle.mk_core.specs.Moments.{Moment, flight_of, marker_of, marker_at, is_phase}
@@ -36,21 +34,21 @@ use Rattle.mk_core.specs.History.{World}
 use Rattle.mk_core.proofs.PlacesNow.{IsPlaced, ByFit, AsChosen, AsUsed, PlacedNow, placed_now}
 use Rattle.mk_core.proofs.ServingSteps.{MarksPlace, marks_is}
 use Rattle.mk_core.proofs.Sizes.{pages_some}
-use Rattle.mk_core.proofs.WordBits.{has_bit_or, bit_of_power, bit_of_cell, no_bit, bit_is_one}
+use Rattle.mk_core.proofs.WordBits.{has_bit_or, bit_of_power, bit_of_cell, bit_is_one}
 use Rattle.mk_protocol.specs.Protocol.{has_place}
 use Rattle.mk_protocol.proofs.Actors.{Meets}
 use Rattle.mk_protocol.proofs.Known.{Known}
 use Rattle.mk_protocol.proofs.OthersMoves.{WorldBehind}
 use Rattle.mk_guard.specs.Guard.{GoesOn, MarkerStands, IsMarking}
 use Rattle.mk_guard.proofs.Changes.{Table, reg_table, tally_table}
-use Rattle.mk_layout.specs.Scene.{IsShown, Among}
+use Rattle.mk_layout.specs.Scene.{Among}
 use Rattle.mk_layout.specs.Terrain.{IsLaidOut, object_now, place_claim, claims_placed}
 use Rattle.mk_protocol.specs.Ground.{ground_of}
 use Rattle.mk_layout.proofs.Serving.{placed_claim}
 use Rattle.mk_layout.proofs.Behind.{object_kind}
-use Rattle.mk_layout.proofs.Holders.{new_has_turn, holding_object, made_sized, first_header}
+use Rattle.mk_layout.proofs.Holders.{new_has_turn, holding_object, first_header}
 use Rattle.mk_marker.proofs.PointedCells.{pointed_is_cell, found_is_cell}
-use Rattle.mk_marker.proofs.MarkBits.{IsToCarve, IsCell, made_has}
+use Rattle.mk_marker.proofs.MarkBits.{IsCell}
 
 -- a bit behind an `or`
 or_bits : (xs : List ℕ) (q b p k : ℕ) → has_bit (slice_index (slice_set xs q (bit_or (slice_index xs q) b)) p) k ≡ true
@@ -61,7 +59,7 @@ or_bits xs q b p k is = elim (cases_eq p q) [
     | inr past ↦ inl (subst (λ (ys : List ℕ). has_bit (slice_index ys p) k ≡ true) (set_past xs q (bit_or (slice_index xs q) b) past) is)
     | inl lt ↦
         let word : slice_index (slice_set xs q (bit_or (slice_index xs q) b)) p ≡ bit_or (slice_index xs q) b =
-          ap (λ i. slice_index (slice_set xs q (bit_or (slice_index xs q) b)) i) e ∙ get_or-set_same xs q (bit_or (slice_index xs q) b) 0 lt in
+        ap (λ i. slice_index (slice_set xs q (bit_or (slice_index xs q) b)) i) e ∙ get_or-set_same xs q (bit_or (slice_index xs q) b) 0 lt in
         elim (has_bit_or (slice_index xs q) b k (subst (λ (n : ℕ). has_bit n k ≡ true) word is)) [
           | inl old ↦ inl (subst (λ (i : ℕ). has_bit (slice_index xs i) k ≡ true) (sym e) old)
           | inr new ↦ inr (e, new)
@@ -178,7 +176,7 @@ module _ (c : Config) (w : World) (seat : Seat) (limits : IsWithinLimits c) (kno
       used e =
           let o : Object = object_now c w.now in
           let there : Among (place_claim o m.place) (claims_placed o w.now.seats.holding.placing) =
-            subst (λ (y : Placing). Among (place_claim o m.place) (claims_placed o y)) (sym e) (inl refl) in
+          subst (λ (y : Placing). Among (place_claim o m.place) (claims_placed o y)) (sym e) (inl refl) in
           let shown = laid.scene.shown (place_claim o m.place) (placed_claim c o (ground_of w) (place_claim o m.place) there) in
           let some = pages_some o shown.sized in
           let header : header_at w.now.words (m.place.page + 0) ≡ header_made o 0 = shown.headers 0 (omega arith) in
@@ -209,7 +207,7 @@ module _ (c : Config) (w : World) (seat : Seat) (limits : IsWithinLimits c) (kno
       by true here (Some cell) is some page bit =
           let now : cell_at c.pages (header_at w.now.words s.page) value ≡ Some cell = (goes s refl).cell value cell is in
           let there : cell_at c.pages (header_at w.now.words (page_at_address value)) value ≡ Some cell =
-            subst (λ (q : ℕ). cell_at c.pages (header_at w.now.words q) value ≡ Some cell) (eqb-true s.page (page_at_address value) here) now in
+          subst (λ (q : ℕ). cell_at c.pages (header_at w.now.words q) value ≡ Some cell) (eqb-true s.page (page_at_address value) here) now in
           let same : k ≡ cell.index = bit_of_cell cell.index k bit in
           subst (λ (i : ℕ). i < cells_under (header_in w.now.words p)) (sym same)
           (subst (λ (q : ℕ). cell.index < cells_under (header_in w.now.words q)) (sym page) (found_is_cell c w laid on value cell there))
@@ -224,7 +222,7 @@ module _ (c : Config) (w : World) (seat : Seat) (limits : IsWithinLimits c) (kno
     | inl old ↦ inl old
     | inr new ↦
         let may = or_cases (marks_by_hand c.pages w.now.words w.now.seats.holding.hand q n)
-          (marks_place w.now.words (object_made c (flight_of w.now seat).op) (place_now c w.now (flight_of w.now seat)) q n) h.holder in
+        (marks_place w.now.words (object_made c (flight_of w.now seat).op) (place_now c w.now (flight_of w.now seat)) q n) h.holder in
         subst (λ (i : ℕ). (has_bit (slice_index w.now.words.marks p) k ≡ true) ⊎ IsCell c (WorldBehind c w seat (step.Mark q n)).now i k) (sym new.0)
         (elim may [
           | inl hand ↦ inr (inl (by_hand w.now.seats.holding.hand q n k hand new.1))

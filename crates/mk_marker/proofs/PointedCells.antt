@@ -1,22 +1,21 @@
 -- Outside the phase of releasing, what a value points into is one of its page's cells.
-use Rattle.std.proofs.Common.{◌≡◌, ◌≢◌, ℕ, ◌-◌, ◌<◌, ◌≤◌, Bool, true, false, refl, sym, ◌∙◌, ap, subst, inl, inr, arith}
+use Rattle.std.proofs.Common.{◌≡◌, ℕ, ◌-◌, ◌<◌, Bool, true, false, sym, ◌∙◌, ap, subst, inl, inr, arith}
 use Rattle.std.specs.Prelude.{Option, Some, None, nat_le, if◌then◌else◌}
 use Rattle.std.proofs.lemmas.Bool.{true≢false}
 use Rattle.mk_geom.specs.declared.addresses.Cell.{Cell}
 use Rattle.mk_geom.specs.declared.headers.Header.{Header}
 use Rattle.mk_geom.specs.declared.headers.Header.TheVariants.{Free, Block, Run, Later, LeafBlock, LeafRun}
 use Rattle.mk_geom.specs.Addresses.{cell_at, cell_under, page_at_address, word_at_address, run_of_page}
-use Rattle.mk_geom.specs.Classes.{cells_of}
-use Rattle.mk_geom.specs.Headers.{header_of, IsInRange}
+use Rattle.mk_geom.specs.Headers.{IsInRange}
 use Rattle.mk_geom.proofs.ClassTable.{some_cells}
 use Rattle.mk_geom.proofs.HeaderLemmas.{word_of-header_of}
 use Rattle.mk_core.specs.declared.config.Config.{Config}
-use Rattle.mk_core.specs.Words.{Words, header_at}
+use Rattle.mk_core.specs.Words.{header_at}
 use Rattle.mk_core.specs.Cells.{cells_under, header_in, pointed_cell}
 use Rattle.mk_core.specs.History.{World}
 use Rattle.mk_core.specs.Moments.{is_phase}
 use Rattle.mk_core.proofs.PointedPages.{LiesUnder, lies_under, found_under}
-use Rattle.mk_layout.specs.Scene.{run_count, HasItsHead}
+use Rattle.mk_layout.specs.Scene.{run_count}
 use Rattle.mk_layout.specs.Terrain.{IsLaidOut}
 
 -- a header that heads a run has one cell

@@ -1,13 +1,12 @@
 -- The steps of a scan, one behind the other.
-use Rattle.std.proofs.Common.{◌≡◌, ℕ, ◌+◌, Bool, true, false, List, [], ◌∷◌, ◌++◌, refl, sym, ◌∙◌, ap, subst, append-nil, append_assoc, arith}
-use Rattle.std.specs.Prelude.{count_by, ◌&&◌, cond}
+use Rattle.std.proofs.Common.{◌≡◌, ℕ, ◌+◌, Bool, true, false, List, [], ◌∷◌, ◌++◌, refl, ◌∙◌, ap, subst}
+use Rattle.std.specs.Prelude.{◌&&◌, cond}
 use Rattle.std.proofs.lemmas.List.Sums.{sum_by-append}
 use Rattle.mk_core.specs.declared.events.Step.{Step}
 use Rattle.mk_core.specs.declared.events.Step.TheVariants as step
 use Rattle.mk_core.specs.declared.events.Seat.{Seat}
 use Rattle.mk_core.specs.Growing.{Finding}
 use Rattle.mk_words.specs.States.{PassState}
-use Rattle.mk_turns.specs.Doing.{are_of}
 use Rattle.mk_turns.proofs.Doing.{of_kinds_in_parts}
 use Rattle.mk_marker.specs.declared.cells.MarkedCell.{MarkedCell}
 use Rattle.mk_marker.specs.Doing.{Did, finding, is_of_scan, is_load, count_loads}
@@ -51,8 +50,8 @@ scanned p cell a count b q claims goes is black =
     record {
       steps = finding p.seat (step.Claim cell.page cell.index) claims.found ∷ (goes.steps ++ finding p.seat step.Mblack black.0 ∷ []);
       did =
-        did_then p (finding p.seat (step.Claim cell.page cell.index) claims.found ∷ []) a (goes.steps ++ finding p.seat step.Mblack black.0 ∷ []) q claims.moves.did
-        (did_then a goes.steps b (finding p.seat step.Mblack black.0 ∷ []) q goes.did last);
+          did_then p (finding p.seat (step.Claim cell.page cell.index) claims.found ∷ []) a (goes.steps ++ finding p.seat step.Mblack black.0 ∷ []) q claims.moves.did
+          (did_then a goes.steps b (finding p.seat step.Mblack black.0 ∷ []) q goes.did last);
       scans = record {
         marks = claims.found;
         blacks = black.0;

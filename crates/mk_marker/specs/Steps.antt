@@ -1,6 +1,5 @@
 -- A marker's pass on its way through a call: what one step leaves, and what a marker is at.
-use Rattle.std.specs.Prelude.{◌≡◌, ℕ, ◌-◌, ◌<◌, ◌≤◌, true, false, List, [], ◌∷◌, Option, Some, None, slice_index}
-use Rattle.mk_geom.specs.Headers.{header_of}
+use Rattle.std.specs.Prelude.{◌≡◌, ℕ, ◌-◌, ◌<◌, ◌≤◌, true, List, [], ◌∷◌, Option, Some, None, slice_index}
 use Rattle.mk_core.specs.declared.events.Step.{Step}
 use Rattle.mk_core.specs.declared.events.Step.TheVariants as step
 use Rattle.mk_core.specs.declared.seats.Marker.{Marker as MarkerState}
@@ -8,7 +7,6 @@ use Rattle.mk_core.specs.declared.seats.Presence.TheVariants.{Attending}
 use Rattle.mk_core.specs.declared.seats.Scan.{Scan}
 use Rattle.mk_core.specs.declared.seats.SeenHeader.{SeenHeader}
 use Rattle.mk_core.specs.Bits.{has_bit}
-use Rattle.mk_core.specs.Cells.{cells_under}
 use Rattle.mk_core.specs.Effects.{marker_behind}
 use Rattle.mk_core.specs.Frames.{OnlyGrow}
 use Rattle.mk_core.specs.Growing.{Finding}

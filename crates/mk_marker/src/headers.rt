@@ -18,10 +18,12 @@ pub(crate) fn words_scanned(header: u64) -> u64
 {
     match decode(header) {
         Some(Header::Block(class)) => class_words(class),
-        Some(Header::Run {
-            pages,
-            mapped: true,
-        }) => PAGE_WORDS * pages,
+        Some(
+            Header::Run {
+                pages,
+                mapped: true,
+            },
+        ) => PAGE_WORDS * pages,
         _ => 0,
     }
 }

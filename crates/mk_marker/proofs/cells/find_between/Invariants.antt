@@ -1,4 +1,3 @@
-use Rattle.std.proofs.Common.{◌≡◌, ◌+◌}
 use Rattle.mk_marker.specs.Steps.{LooksInVain}
 use Rattle.mk_marker.proofs.cells.find_between.Given as goal
 

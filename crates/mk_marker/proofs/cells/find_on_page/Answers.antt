@@ -1,4 +1,4 @@
-use Rattle.std.proofs.Common.{◌∙◌, sym, subst, ℕ, ◌≡◌, ◌≢◌, true}
+use Rattle.std.proofs.Common.{◌∙◌, sym, subst, ℕ, ◌≡◌, true}
 use Rattle.mk_core.specs.Bits.{has_bit}
 use Rattle.mk_marker.proofs.Looking.{two_looks, nothing_to_scan, no_cell_yet, a_cell}
 use Rattle.mk_marker.proofs.cells.find_on_page.Goals as goal

@@ -1,4 +1,4 @@
-use Rattle.std.proofs.Common.{◌≡◌, ◌<◌, ◌^◌, w64, arith, ap, ◌∙◌, ℕ}
+use Rattle.std.proofs.Common.{◌<◌, ◌^◌, w64, arith, ap, ◌∙◌, ℕ}
 use Rattle.std.proofs.Math.Facts.{Fits-lt-pow}
 use Rattle.std.specs.Int.{bit_at}
 use Rattle.std.proofs.lemmas.Bool.{eq-eqb}

@@ -1,4 +1,4 @@
-use Rattle.std.proofs.Common.{◌+◌, arith}
+use Rattle.std.proofs.Common.{arith}
 use Rattle.mk_marker.proofs.Did.{still_of}
 use Rattle.mk_marker.proofs.Scanned.{goes_nowhere, goes_then}
 use Rattle.mk_marker.proofs.scans.scan_words.Goals as goal

@@ -1,4 +1,3 @@
-use Rattle.std.proofs.Common.{refl}
 use Rattle.mk_core.specs.declared.events.Step.TheVariants as step
 use Rattle.mk_marker.proofs.Moving.{moved}
 use Rattle.mk_marker.proofs.steps.blacken.Goals as goal

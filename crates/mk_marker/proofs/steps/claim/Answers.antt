@@ -1,5 +1,3 @@
-use Rattle.std.proofs.Common.{ℕ, ◌<◌, arith, subst, sym}
-use Rattle.mk_core.specs.declared.events.Step.TheVariants as step
 use Rattle.mk_marker.proofs.FewCells.{few_cells}
 use Rattle.mk_marker.proofs.Moving.{claimed, may_claim_seen}
 use Rattle.mk_marker.proofs.steps.claim.Goals as goal
