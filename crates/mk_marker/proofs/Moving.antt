@@ -1,6 +1,6 @@
 -- One step of a marker: what it leaves.
 use Rattle.std.proofs.Common.{◌≡◌, ℕ, ◌+◌, ◌-◌, ◌*◌, ◌<◌, Bool, true, List, [], ◌∷◌, ◌++◌, refl, sym, ◌∙◌, ap, subst, append_assoc, arith}
-use Rattle.std.specs.Prelude.{slice_index, if◌then◌else◌, Some, None, ◌&&◌, nat_lt}
+use Rattle.std.specs.Prelude.{slice_index, if◌then◌else◌, Some, None, ◌&&◌, nat_lt, slice_set, bit_or}
 use Rattle.std.proofs.lemmas.Bool.{lt-ltb, eq-eqb}
 use Rattle.mk_geom.specs.Headers.{header_of}
 use Rattle.mk_core.specs.declared.config.Config.{Config}
@@ -12,19 +12,22 @@ use Rattle.mk_core.specs.declared.events.Word.{Word}
 use Rattle.mk_core.specs.declared.events.Event.{Event}
 use Rattle.mk_core.specs.declared.seats.Marker.{Marker as MarkerState}
 use Rattle.mk_core.specs.declared.seats.Presence.TheVariants.{Attending}
-use Rattle.mk_core.specs.Accesses.{found}
+use Rattle.mk_core.specs.Accesses.{found, scan_page, scan_bit}
 use Rattle.mk_core.specs.Cells.{words_under, cells_under}
 use Rattle.mk_core.specs.Enabled.{failing, marker_may}
 use Rattle.mk_core.proofs.Conditions.{meets_enabled}
 use Rattle.mk_core.specs.Effects.{marker_behind, scan_begun}
-use Rattle.mk_core.specs.Bits.{has_bit}
+use Rattle.mk_core.specs.Bits.{has_bit, bit_for}
 use Rattle.mk_core.specs.Frames.{Attends, ScanIsLeft}
 use Rattle.mk_core.specs.Growing.{Finding, own_from}
-use Rattle.mk_core.specs.History.{IsHistory, World, left}
+use Rattle.mk_core.specs.History.{IsHistory, World, left, world_behind}
 use Rattle.mk_core.specs.Moments.{Moment, marker_at}
 use Rattle.mk_core.specs.StopConditions.{is_attending}
 use Rattle.mk_core.specs.Words.{named_word}
+use Rattle.mk_core.proofs.Lengths.{histories_keep_lengths}
+use Rattle.mk_core.proofs.WordBits.{bits_added, bit_for_has}
 use Rattle.mk_guard.proofs.Changes.{marks_kind}
+use Rattle.mk_marker.specs.Working.{IsBlackIn}
 use Rattle.mk_words.specs.Seats.{Has}
 use Rattle.mk_words.specs.States.{WordsState, PassState, now_of, event_of}
 use Rattle.mk_words.specs.Steps.{Makes, Finds, found_by, IsEnabledTo}
@@ -37,7 +40,7 @@ use Rattle.mk_marker.specs.declared.cells.MarkedCell.{MarkedCell}
 use Rattle.mk_marker.specs.Markers.{attends, between_scans}
 use Rattle.mk_marker.specs.Doing.{Did, finding}
 use Rattle.mk_marker.specs.Scanning.{words_scanned}
-use Rattle.mk_marker.specs.Steps.{IsOf, Moves, Moved, MarksGrow, IsMarkedIn, IsScanning, ClaimsMarked, words_left}
+use Rattle.mk_marker.specs.Steps.{IsOf, Moves, Moved, MarksGrow, IsMarkedIn, IsScanning, IsScanOf, ClaimsMarked, words_left}
 
 -- one own event
 one_own : (c : Config) (s : Seat) (w : World) (x : Step)
@@ -114,7 +117,7 @@ scan_of c page k header n is =
 pub claimed : (p : PassState) (cell : MarkedCell) (n : ℕ) (q : PassState) → Has p.seats p.seat → IsHistory q.table.config q.seen
     → marker_in p ≡ between_scans (Some (record { page = cell.page; header = cell.header })) → IsMarkedIn p cell.page cell.index
     → Marks p (step.Claim cell.page cell.index) n q
-    → ClaimsMarked p cell q × IsScanning (marker_in q) × (words_left (marker_in q) ≡ words_scanned cell.header)
+    → ClaimsMarked p cell q × IsScanning (marker_in q) × IsScanOf (marker_in q) cell.page cell.index × (words_left (marker_in q) ≡ words_scanned cell.header)
 claimed p cell n q has history at is m =
     let on : attends p ≡ true = ap (λ (x : MarkerState). is_attending x.presence) at in
     let marked = still_marked p cell.page cell.index n q has history on is m.finds in
@@ -123,6 +126,7 @@ claimed p cell n q has history at is m =
     m.marker ∙ ap (λ (y : MarkerState). marker_behind p.table.config n (step.Claim cell.page cell.index) y) at ∙ scan_of p.table.config cell.page cell.index cell.header n marked in (
       record { found = n; moves = moves p (step.Claim cell.page cell.index) n q has history m; marked = marked },
       record { scan = scan_begun cell.page cell.index cell.header; seen = Some (record { page = cell.page; header = cell.header }); is = now; next = omega arith },
+      record { on_page = ap (λ (y : MarkerState). scan_page y.scan) now; bit = ap (λ (y : MarkerState). scan_bit y.scan) now },
       ap (λ (y : MarkerState). words_left y) now ∙ begun_left (64 * cell.page + cell.index * words_under (header_of cell.header)) (words_scanned cell.header),
     )
   where
@@ -151,3 +155,20 @@ may_claim_seen w p cell of at page index few =
       marker = subst (λ (seat : Seat). marker_may c (marker_at (now_of p) seat) s ≡ true) of.marker.seat may;
       holder = refl;
     }))
+
+-- behind its `mblack` the cell is black
+pub blackened : (p : PassState) (page k : ℕ) (q : PassState) → Has p.seats p.seat → IsHistory q.table.config q.seen → Makes p step.Mblack q
+    → IsScanOf (marker_in p) page k → page < p.table.config.pages → k < 64 → IsBlackIn q page k
+blackened p page k q has history makes of lt few =
+    let d = made p step.Mblack q makes has history in
+    let c : Config = p.table.config in
+    let w : World = left c (p.seen ++ makes.others) in
+    let at : scan_page (marker_at w.now p.seat).scan ≡ page = ap (λ (y : MarkerState). scan_page y.scan) d.frame.own.marker ∙ of.on_page in
+    let bit : scan_bit (marker_at w.now p.seat).scan ≡ bit_for k = ap (λ (y : MarkerState). scan_bit y.scan) d.frame.own.marker ∙ of.bit in
+    let len = histories_keep_lengths c (p.seen ++ makes.others) in
+    let there : has_bit (slice_index (slice_set w.now.words.blacks page (bit_or (slice_index w.now.words.blacks page) (bit_for k))) page) k ≡ true =
+      bits_added w.now.words.blacks page (bit_for k) k (omega (arith, len.blacks, lt)) (bit_for_has k few) in
+    let black : has_bit (slice_index (world_behind c w (event_of p step.Mblack)).now.words.blacks page) k ≡ true =
+      subst (λ (i : ℕ). has_bit (slice_index (slice_set w.now.words.blacks i (bit_or (slice_index w.now.words.blacks i) (scan_bit (marker_at w.now p.seat).scan))) page) k ≡ true) (sym at)
+      (subst (λ (i : ℕ). has_bit (slice_index (slice_set w.now.words.blacks page (bit_or (slice_index w.now.words.blacks page) i)) page) k ≡ true) (sym bit) there) in
+    subst (λ (v : World). has_bit (slice_index v.now.words.blacks page) k ≡ true) (sym d.world) black

@@ -34,7 +34,7 @@ use Rattle.mk_core.specs.History.{World}
 use Rattle.mk_core.proofs.PlacesNow.{IsPlaced, ByFit, AsChosen, AsUsed, PlacedNow, placed_now}
 use Rattle.mk_core.proofs.ServingSteps.{MarksPlace, marks_is}
 use Rattle.mk_core.proofs.Sizes.{pages_some}
-use Rattle.mk_core.proofs.WordBits.{has_bit_or, bit_of_power, bit_of_cell, bit_is_one}
+use Rattle.mk_core.proofs.WordBits.{more_bits, bit_of_power, bit_of_cell, bit_is_one}
 use Rattle.mk_protocol.specs.Protocol.{has_place}
 use Rattle.mk_protocol.proofs.Actors.{Meets}
 use Rattle.mk_protocol.proofs.Known.{Known}
@@ -49,23 +49,6 @@ use Rattle.mk_layout.proofs.Behind.{object_kind}
 use Rattle.mk_layout.proofs.Holders.{new_has_turn, holding_object, first_header}
 use Rattle.mk_marker.proofs.PointedCells.{pointed_is_cell, found_is_cell}
 use Rattle.mk_marker.proofs.MarkBits.{IsCell}
-
--- a bit behind an `or`
-or_bits : (xs : List ℕ) (q b p k : ℕ) → has_bit (slice_index (slice_set xs q (bit_or (slice_index xs q) b)) p) k ≡ true
-    → (has_bit (slice_index xs p) k ≡ true) ⊎ ((p ≡ q) × (has_bit b k ≡ true))
-or_bits xs q b p k is = elim (cases_eq p q) [
-  | inr ne ↦ inl (subst (λ (n : ℕ). has_bit n k ≡ true) (get_or-set_other xs q p (bit_or (slice_index xs q) b) 0 ne) is)
-  | inl e ↦ elim (cases_lt q (length xs)) [
-    | inr past ↦ inl (subst (λ (ys : List ℕ). has_bit (slice_index ys p) k ≡ true) (set_past xs q (bit_or (slice_index xs q) b) past) is)
-    | inl lt ↦
-        let word : slice_index (slice_set xs q (bit_or (slice_index xs q) b)) p ≡ bit_or (slice_index xs q) b =
-        ap (λ i. slice_index (slice_set xs q (bit_or (slice_index xs q) b)) i) e ∙ get_or-set_same xs q (bit_or (slice_index xs q) b) 0 lt in
-        elim (has_bit_or (slice_index xs q) b k (subst (λ (n : ℕ). has_bit n k ≡ true) word is)) [
-          | inl old ↦ inl (subst (λ (i : ℕ). has_bit (slice_index xs i) k ≡ true) (sym e) old)
-          | inr new ↦ inr (e, new)
-        ]
-  ]
-]
 
 -- no other kind changes the marks while a cycle marks
 abbrev pub is_marking_step : Step → Bool
@@ -218,7 +201,7 @@ module _ (c : Config) (w : World) (seat : Seat) (limits : IsWithinLimits c) (kno
       → ((p : ℕ) → GoesOn c.pages (header_at w.now.words p) (header_at (WorldBehind c w seat x).now.words p))
       → has_bit (slice_index (WorldBehind c w seat x).now.words.marks p) k ≡ true
       → (has_bit (slice_index w.now.words.marks p) k ≡ true) ⊎ IsCell c (WorldBehind c w seat x).now p k
-  new_mark (step.Mark q n) p k h early markers goes is = elim (or_bits w.now.words.marks q n p k is) [
+  new_mark (step.Mark q n) p k h early markers goes is = elim (more_bits w.now.words.marks q n p k is) [
     | inl old ↦ inl old
     | inr new ↦
         let may = or_cases (marks_by_hand c.pages w.now.words w.now.seats.holding.hand q n)
@@ -230,7 +213,7 @@ module _ (c : Config) (w : World) (seat : Seat) (limits : IsWithinLimits c) (kno
         ])
   ]
   new_mark step.Mmark p k h early markers goes is =
-      elim (or_bits w.now.words.marks (seen_page (cell_seen c (marker_at w.now seat).seen (marker_at w.now seat).hand)) (seen_bit (cell_seen c (marker_at w.now seat).seen (marker_at w.now seat).hand)) p k is) [
+      elim (more_bits w.now.words.marks (seen_page (cell_seen c (marker_at w.now seat).seen (marker_at w.now seat).hand)) (seen_bit (cell_seen c (marker_at w.now seat).seen (marker_at w.now seat).hand)) p k is) [
         | inl old ↦ inl old
         | inr new ↦
             inr (inl (seen_is (marker_at w.now seat).seen (marker_at w.now seat).hand (seen_header_goes_on c w.now seat known markers h.marker) p k h.marker new.0 new.1))

@@ -9,7 +9,7 @@ use Rattle.mk_words.specs.States.{PassState}
 use Rattle.mk_marker.specs.declared.cells.MarkedCell.{MarkedCell}
 use Rattle.mk_marker.specs.Doing.{finding, looking}
 use Rattle.mk_marker.specs.Scanning.{Scans}
-use Rattle.mk_marker.specs.Working.{FindsPhase, SeesNoWork, SeesACell, FindsNoWork, ScansACell}
+use Rattle.mk_marker.specs.Working.{FindsPhase, SeesNoWork, SeesACell, FindsNoWork, ScansACell, IsBlackIn}
 use Rattle.mk_marker.specs.Steps.{Moves, Moved, LooksInVain, SeesCell, ScansCell}
 use Rattle.mk_marker.proofs.Did.{did_then, seat_kept}
 use Rattle.mk_marker.proofs.Looking.{did_more}
@@ -40,8 +40,8 @@ finds_no_work p n a q pages looks unwanted is vain =
     }
 
 pub scans_a_cell : (p : PassState) (n : ℕ) (a b q : PassState) (cell : MarkedCell) → Moves p (step.Mlook word.Phase) n a → n % 8 ≢ 2
-    → SeesCell a cell b → ScansCell b cell q → ScansACell p q
-scans_a_cell p n a b q cell looks unwanted sees scans =
+    → SeesCell a cell b → ScansCell b cell q → IsBlackIn q cell.page cell.index → ScansACell p q
+scans_a_cell p n a b q cell looks unwanted sees scans black =
     let first : a.seat ≡ p.seat = seat_kept p (looking p.seat word.Phase n ∷ []) a looks.did in
     let second : b.seat ≡ p.seat = seat_kept a sees.steps b sees.did ∙ first in
     record {
@@ -57,4 +57,5 @@ scans_a_cell p n a b q cell looks unwanted sees scans =
       not_wanted = unwanted;
       sees = subst (λ (s : Seat). SeesACell s cell.page cell.index cell.header sees.steps) first sees.sees;
       scans = subst (λ (s : Seat). Scans s cell.page cell.index cell.header scans.steps) second scans.scans;
+      black = black;
     }

@@ -6,7 +6,8 @@ use Rattle.mk_core.specs.declared.seats.Marker.{Marker as MarkerState}
 use Rattle.mk_core.specs.declared.seats.Presence.TheVariants.{Attending}
 use Rattle.mk_core.specs.declared.seats.Scan.{Scan}
 use Rattle.mk_core.specs.declared.seats.SeenHeader.{SeenHeader}
-use Rattle.mk_core.specs.Bits.{has_bit}
+use Rattle.mk_core.specs.Accesses.{scan_page, scan_bit}
+use Rattle.mk_core.specs.Bits.{has_bit, bit_for}
 use Rattle.mk_core.specs.Effects.{marker_behind}
 use Rattle.mk_core.specs.Frames.{OnlyGrow}
 use Rattle.mk_core.specs.Growing.{Finding}
@@ -56,6 +57,16 @@ pub record IsScanning (x : MarkerState) : Type 0 where
   pub seen : Option SeenHeader
   pub is : x ≡ record { presence = Attending; scan = Some scan; hand = None; seen = seen }
   pub next : scan.next ≤ scan.end
+
+-- It scans this cell.
+pub record IsScanOf (x : MarkerState) (page index : ℕ) : Type 0 where
+  pub on_page : scan_page x.scan ≡ page
+  pub bit : scan_bit x.scan ≡ bit_for index
+
+-- It scans the same cell.
+pub record SameScan (x y : MarkerState) : Type 0 where
+  pub page : scan_page y.scan ≡ scan_page x.scan
+  pub bit : scan_bit y.scan ≡ scan_bit x.scan
 
 -- It has this value in its hand.
 pub record IsHolding (x : MarkerState) (value : ℕ) : Type 0 where

@@ -1,5 +1,5 @@
 -- Why `attend` and `work` answer so: what the marker did in the call, and what its steps found.
-use Rattle.std.specs.Prelude.{◌≡◌, ◌≢◌, ◌⊎◌, ℕ, ◌<◌, ◌%◌, true, false, List, [], ◌∷◌, ◌++◌}
+use Rattle.std.specs.Prelude.{◌≡◌, ◌≢◌, ◌⊎◌, ℕ, ◌<◌, ◌%◌, true, false, List, [], ◌∷◌, ◌++◌, slice_index}
 use Rattle.mk_geom.specs.Headers.{header_of}
 use Rattle.mk_core.specs.declared.events.Seat.{Seat}
 use Rattle.mk_core.specs.declared.events.Word.TheVariants as word
@@ -7,7 +7,7 @@ use Rattle.mk_core.specs.declared.events.Step.TheVariants as step
 use Rattle.mk_core.specs.Bits.{has_bit, without}
 use Rattle.mk_core.specs.Cells.{cells_under}
 use Rattle.mk_core.specs.Growing.{Finding}
-use Rattle.mk_words.specs.States.{PassState}
+use Rattle.mk_words.specs.States.{PassState, now_of}
 use Rattle.mk_turns.specs.Doing.{are_of}
 use Rattle.mk_marker.specs.declared.markers.Work.{Work}
 use Rattle.mk_marker.specs.declared.markers.Work.TheVariants.{Worked, Idle, Wanted}
@@ -61,7 +61,11 @@ pub record SeesACell (s : Seat) (page index header : ℕ) (xs : List Finding) : 
   pub not_black : has_bit blacks index ≡ false
   pub cell : index < cells_under (header_of header)
 
--- The call found the phase not wanted, saw a cell that is marked and not black, and scanned it.
+-- The cell is black behind what the pass has seen.
+abbrev pub IsBlackIn : PassState → ℕ → ℕ → Type 0
+IsBlackIn p page index = has_bit (slice_index (now_of p).words.blacks page) index ≡ true
+
+-- The call found the phase not wanted, saw a cell that is marked and not black, and scanned it; it is black then.
 pub record ScansACell (p q : PassState) : Type 0 where
   pub phase : ℕ
   pub page : ℕ
@@ -73,6 +77,7 @@ pub record ScansACell (p q : PassState) : Type 0 where
   pub not_wanted : phase % 8 ≢ 2
   pub sees : SeesACell p.seat page index header search
   pub scans : Scans p.seat page index header scan
+  pub black : IsBlackIn q page index
 
 -- The call's one step found the phase wanted for closing.
 pub record FindsWanted (p q : PassState) : Type 0 where

@@ -6,7 +6,8 @@ ghost use Rattle.mk_core.specs.Cells.{cells_under};
 ghost use Rattle.mk_words.specs.Markers.{marker_in};
 ghost use Rattle.mk_marker.specs.Markers.{between_scans, IsBetweenScans};
 ghost use Rattle.mk_marker.specs.Scanning.{words_scanned};
-ghost use Rattle.mk_marker.specs.Steps.{IsOf, IsMarkedIn, IsScanning, IsHolding, GoesOn, ScansCell, words_left};
+ghost use Rattle.mk_marker.specs.Working.{IsBlackIn};
+ghost use Rattle.mk_marker.specs.Steps.{IsOf, IsMarkedIn, IsScanning, IsHolding, SameScan, GoesOn, ScansCell, words_left};
 
 use crate::cells::MarkedCell;
 use crate::headers::{page_of, words_scanned};
@@ -22,6 +23,7 @@ fn mark_target(words: &Words, pass: &mut Pass, page: u64, value: u64)
     requires page { page ≡ page_at_address value }
     requires within { page < words.now.config.pages }
     ensures scanning { IsScanning (marker_in pass.new) }
+    ensures cell { SameScan (marker_in pass.old) (marker_in pass.new) }
     ensures left { words_left (marker_in pass.new) ≡ words_left (marker_in pass.old) }
     ensures goes { GoesOn pass.old 0 pass.new }
 {
@@ -38,6 +40,7 @@ fn scan_word(words: &Words, pass: &mut Pass)
     requires scanning { IsScanning (marker_in pass.old) }
     requires more { 0 < words_left (marker_in pass.old) }
     ensures scanning { IsScanning (marker_in pass.new) }
+    ensures cell { SameScan (marker_in pass.old) (marker_in pass.new) }
     ensures left { words_left (marker_in pass.new) + 1 ≡ words_left (marker_in pass.old) }
     ensures goes { GoesOn pass.old 1 pass.new }
 {
@@ -54,6 +57,7 @@ fn scan_words(words: &Words, pass: &mut Pass, count: u64)
     requires scanning { IsScanning (marker_in pass.old) }
     requires left { words_left (marker_in pass.old) ≡ count }
     ensures scanning { IsScanning (marker_in pass.new) }
+    ensures cell { SameScan (marker_in pass.old) (marker_in pass.new) }
     ensures none_left { words_left (marker_in pass.new) ≡ 0 }
     ensures goes { GoesOn pass.old count pass.new }
 {
@@ -70,9 +74,10 @@ pub(crate) fn scan_cell(words: &Words, pass: &mut Pass, cell: MarkedCell)
     requires index { cell.index < cells_under (header_of cell.header) }
     requires marked { IsMarkedIn pass.old cell.page cell.index }
     ensures scans { ScansCell pass.old cell pass.new }
+    ensures black { IsBlackIn pass.new cell.page cell.index }
     ensures between { IsBetweenScans pass.new }
 {
     claim(words, pass, cell);
     scan_words(words, pass, words_scanned(cell.header));
-    blacken(words, pass);
+    blacken(words, pass, cell);
 }

@@ -10,7 +10,8 @@ ghost use Rattle.mk_words.specs.States.{now_of};
 ghost use Rattle.mk_words.specs.Markers.{marker_in};
 ghost use Rattle.mk_marker.specs.Markers.{IsOut, attends, between_scans};
 ghost use Rattle.mk_marker.specs.Scanning.{words_scanned};
-ghost use Rattle.mk_marker.specs.Steps.{IsOf, Moves, Moved, IsMarkedIn, IsScanning, ClaimsMarked, words_left};
+ghost use Rattle.mk_marker.specs.Working.{IsBlackIn};
+ghost use Rattle.mk_marker.specs.Steps.{IsOf, Moves, Moved, IsMarkedIn, IsScanning, IsScanOf, ClaimsMarked, words_left};
 
 use crate::cells::MarkedCell;
 use mk_core::Word;
@@ -66,6 +67,7 @@ pub(crate) fn claim(words: &Words, pass: &mut Pass, cell: MarkedCell)
     requires marked { IsMarkedIn pass.old cell.page cell.index }
     ensures claims { ClaimsMarked pass.old cell pass.new }
     ensures scanning { IsScanning (marker_in pass.new) }
+    ensures cell { IsScanOf (marker_in pass.new) cell.page cell.index }
     ensures left { words_left (marker_in pass.new) ≡ words_scanned cell.header }
 {
     pass.is_in_order();
@@ -101,10 +103,14 @@ pub(crate) fn mark(words: &Words, pass: &mut Pass)
 
 /// Blackens the cell that it has scanned.
 #[inline(always)]
-pub(crate) fn blacken(words: &Words, pass: &mut Pass)
+pub(crate) fn blacken(words: &Words, pass: &mut Pass, cell: MarkedCell)
     requires marker { IsOf words.now pass.old }
     requires scanned { may_mblack (marker_in pass.old) ≡ true }
-    ensures { Moved pass.old step.Mblack pass.new }
+    requires cell { IsScanOf (marker_in pass.old) cell.page cell.index }
+    requires page { cell.page < words.now.config.pages }
+    requires index { cell.index < 64 }
+    ensures moves { Moved pass.old step.Mblack pass.new }
+    ensures black { IsBlackIn pass.new cell.page cell.index }
 {
     pass.is_in_order();
     pass.marker_black(words);

@@ -1,10 +1,10 @@
-use Rattle.std.proofs.Common.{arith}
+use Rattle.std.proofs.Common.{refl, ◌∙◌, arith}
 use Rattle.mk_marker.proofs.Did.{still_of}
 use Rattle.mk_marker.proofs.Scanned.{goes_nowhere, goes_then}
 use Rattle.mk_marker.proofs.scans.scan_words.Goals as goal
 
 pub words-init : goal.words-init
-words-init c = record { marker = c.requires.marker; scanning = c.requires.scanning; left = omega (arith, c.requires.left); goes = goes_nowhere c.args.pass.now }
+words-init c = record { marker = c.requires.marker; scanning = c.requires.scanning; cell = record { page = refl; bit = refl }; left = omega (arith, c.requires.left); goes = goes_nowhere c.args.pass.now }
 
 pub words-preserved : goal.words-preserved
 words-preserved c =
@@ -14,6 +14,7 @@ words-preserved c =
     record {
       marker = still_of c.args.words.now c.args.pass.now goes.steps s.new.pass c.requires.marker goes.did;
       scanning = s.ensures.scanning;
+      cell = record { page = s.ensures.cell.page ∙ before.cell.page; bit = s.ensures.cell.bit ∙ before.cell.bit };
       left = omega (arith, s.ensures.left, before.left);
       goes = goes;
     }
