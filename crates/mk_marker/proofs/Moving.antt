@@ -167,8 +167,8 @@ blackened p page k q has history makes of lt few =
     let bit : scan_bit (marker_at w.now p.seat).scan ≡ bit_for k = ap (λ (y : MarkerState). scan_bit y.scan) d.frame.own.marker ∙ of.bit in
     let len = histories_keep_lengths c (p.seen ++ makes.others) in
     let there : has_bit (slice_index (slice_set w.now.words.blacks page (bit_or (slice_index w.now.words.blacks page) (bit_for k))) page) k ≡ true =
-      bits_added w.now.words.blacks page (bit_for k) k (omega (arith, len.blacks, lt)) (bit_for_has k few) in
+    bits_added w.now.words.blacks page (bit_for k) k (omega (arith, len.blacks, lt)) (bit_for_has k few) in
     let black : has_bit (slice_index (world_behind c w (event_of p step.Mblack)).now.words.blacks page) k ≡ true =
-      subst (λ (i : ℕ). has_bit (slice_index (slice_set w.now.words.blacks i (bit_or (slice_index w.now.words.blacks i) (scan_bit (marker_at w.now p.seat).scan))) page) k ≡ true) (sym at)
-      (subst (λ (i : ℕ). has_bit (slice_index (slice_set w.now.words.blacks page (bit_or (slice_index w.now.words.blacks page) i)) page) k ≡ true) (sym bit) there) in
+    subst (λ (i : ℕ). has_bit (slice_index (slice_set w.now.words.blacks i (bit_or (slice_index w.now.words.blacks i) (scan_bit (marker_at w.now p.seat).scan))) page) k ≡ true) (sym at)
+    (subst (λ (i : ℕ). has_bit (slice_index (slice_set w.now.words.blacks page (bit_or (slice_index w.now.words.blacks page) i)) page) k ≡ true) (sym bit) there) in
     subst (λ (v : World). has_bit (slice_index v.now.words.blacks page) k ≡ true) (sym d.world) black

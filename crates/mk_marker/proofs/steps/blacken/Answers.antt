@@ -1,4 +1,4 @@
-use Rattle.std.proofs.Common.{◌<◌, subst, sym, ℕ, ap}
+use Rattle.std.proofs.Common.{◌<◌, subst, sym}
 use Rattle.mk_core.specs.declared.events.Step.TheVariants as step
 use Rattle.mk_words.specs.States.{WordsState}
 use Rattle.mk_marker.proofs.Moving.{moved, blackened}
