@@ -2,6 +2,7 @@
 #![tactic(auto)]
 
 mod cells;
+mod clients;
 mod headers;
 mod markers;
 mod scans;

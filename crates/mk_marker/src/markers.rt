@@ -79,6 +79,7 @@ impl<'h> Marker<'h> {
         requires out { attends self.old ≡ false }
         ensures comes_in { OnOk result (ComesIn self.old self.new) }
         ensures not_marking { IfErr result (λ e. FindsPhase self.old e.phase self.new) }
+        ensures pass { self.new ≡ record self.old { seen = self.new.seen } }
     {
         let phase = attend(self.words, &mut self.pass) % 8;
         if phase == 1 {
@@ -94,6 +95,7 @@ impl<'h> Marker<'h> {
         requires attends { attends self.old ≡ true }
         ensures cause { WorksSo result self.old self.new }
         ensures attends { attends self.new ≡ true }
+        ensures pass { self.new ≡ record self.old { seen = self.new.seen } }
     {
         let words = self.words;
         if look(words, &mut self.pass, Word::Phase) % 8 == 2 {
@@ -112,7 +114,8 @@ impl<'h> Marker<'h> {
     /// Goes out.
     pub fn quit(&mut self)
         requires attends { attends self.old ≡ true }
-        ensures { GoesOut self.old self.new }
+        ensures out { GoesOut self.old self.new }
+        ensures pass { self.new ≡ record self.old { seen = self.new.seen } }
     {
         quit(self.words, &mut self.pass);
     }
