@@ -9,7 +9,8 @@ use Rattle.mk_turns.proofs.Doing.{done_in_parts, own_or_others_in_parts}
 use Rattle.mk_marker.specs.Doing.{Did}
 use Rattle.mk_marker.specs.Steps.{IsOf}
 
-then_at : (p : PassState) (more : List Event) (xs ys : List Finding) → AreOwnOrOfOthers p.seat p.seats more → done_in p more ≡ xs
+then_at : (p : PassState) (more : List Event) (xs ys : List Finding) → AreOwnOrOfOthers p.seat p.seats more
+    → done_in p more ≡ xs
     → (r : PassState) → Did (record p { seen = p.seen ++ more }) ys r → Did p (xs ++ ys) r
 then_at p more xs ys own done r d =
     record {
@@ -22,8 +23,10 @@ then_at p more xs ys own done r d =
           ∙ ap (λ (zs : List Finding). xs ++ zs) d.done;
     }
 
-pub did_then : (p : PassState) (xs : List Finding) (q : PassState) (ys : List Finding) (r : PassState) → Did p xs q → Did q ys r → Did p (xs ++ ys) r
-did_then p xs q ys r d e = then_at p d.more xs ys d.own_or_others d.done r (subst (λ (x : PassState). Did x ys r) d.is e)
+pub did_then : (p : PassState) (xs : List Finding) (q : PassState) (ys : List Finding) (r : PassState) → Did p xs q
+    → Did q ys r → Did p (xs ++ ys) r
+did_then p xs q ys r d e = then_at p d.more xs ys d.own_or_others d.done r
+    (subst (λ (x : PassState). Did x ys r) d.is e)
 
 pub seat_kept : (p : PassState) (xs : List Finding) (q : PassState) → Did p xs q → q.seat ≡ p.seat
 seat_kept p xs q d = ap (λ (x : PassState). x.seat) d.is
@@ -40,13 +43,26 @@ still_of w p xs q o d =
 
 pub did_nothing : (p : PassState) → Did p [] p
 unfolding AreOwnOrOfOthers own_from
-did_nothing p = record { more = []; is = sym (ap (λ (es : List Event). record p { seen = es }) (append-nil p.seen)); own_or_others = tt; done = refl }
+did_nothing p = record {
+  more = [];
+  is = sym
+      (ap (λ (es : List Event). record p { seen = es }) (append-nil p.seen));
+  own_or_others = tt;
+  done = refl;
+}
 
 -- but for what it has seen the pass is the same
 pub pass_kept : (p : PassState) (xs : List Finding) (q : PassState) → Did p xs q → q ≡ record p { seen = q.seen }
 pass_kept p xs q d = d.is ∙ ap (λ (es : List Event). record p { seen = es }) (sym (ap (λ (x : PassState). x.seen) d.is))
 
 -- where all steps are of these kinds, that is what was done
-pub did_only : (kinds : Step → Bool) (p : PassState) (xs : List Finding) (q : PassState) → Did p xs q → are_of kinds xs ≡ true → Does kinds p q
+pub did_only : (kinds : Step → Bool) (p : PassState) (xs : List Finding) (q : PassState) → Did p xs q
+    → are_of kinds xs ≡ true → Does kinds p q
 did_only kinds p xs q d of =
-    record { more = d.more; is = d.is; own_or_others = d.own_or_others; of_kinds = ap (λ (ys : List Finding). are_of kinds ys) d.done ∙ of }
+    record {
+      more = d.more;
+      is = d.is;
+      own_or_others = d.own_or_others;
+      of_kinds = ap
+          (λ (ys : List Finding). are_of kinds ys) d.done ∙ of;
+    }

@@ -20,16 +20,19 @@ count_in_parts xs ys = sum_by-append (λ (x : Finding). cond (is_load x.event.st
 pub goes_nowhere : (p : PassState) → GoesOn p 0 p
 goes_nowhere p = record { steps = []; did = did_nothing p; of_scan = refl; has_loads = refl }
 
-pub goes_then : (p : PassState) (i : ℕ) (q : PassState) (j : ℕ) (r : PassState) → GoesOn p i q → GoesOn q j r → GoesOn p (i + j) r
+pub goes_then : (p : PassState) (i : ℕ) (q : PassState) (j : ℕ) (r : PassState) → GoesOn p i q → GoesOn q j r
+    → GoesOn p (i + j) r
 goes_then p i q j r a b =
     record {
       steps = a.steps ++ b.steps;
       did = did_then p a.steps q b.steps r a.did b.did;
       of_scan = of_kinds_in_parts is_of_scan a.steps b.steps a.of_scan b.of_scan;
-      has_loads = count_in_parts a.steps b.steps ∙ ap (λ (n : ℕ). n + count_loads b.steps) a.has_loads ∙ ap (λ (n : ℕ). i + n) b.has_loads;
+      has_loads = count_in_parts a.steps b.steps ∙ ap (λ (n : ℕ). n + count_loads b.steps) a.has_loads
+          ∙ ap (λ (n : ℕ). i + n) b.has_loads;
     }
 
-pub goes_once : (p : PassState) (s : Step) (n : ℕ) (q : PassState) → is_of_scan s ≡ true → is_load s ≡ false → Moves p s n q → GoesOn p 0 q
+pub goes_once : (p : PassState) (s : Step) (n : ℕ) (q : PassState) → is_of_scan s ≡ true → is_load s ≡ false
+    → Moves p s n q → GoesOn p 0 q
 goes_once p s n q allowed silent m =
     record {
       steps = finding p.seat s n ∷ [];
@@ -41,16 +44,21 @@ goes_once p s n q allowed silent m =
 pub loads_once : (p : PassState) (n : ℕ) (q : PassState) → Moves p step.Mload n q → GoesOn p 1 q
 loads_once p n q m = record { steps = finding p.seat step.Mload n ∷ []; did = m.did; of_scan = refl; has_loads = refl }
 
-pub scanned : (p : PassState) (cell : MarkedCell) (a : PassState) (count : ℕ) (b q : PassState) → ClaimsMarked p cell a → GoesOn a count b
+pub scanned : (p : PassState) (cell : MarkedCell) (a : PassState) (count : ℕ) (b q : PassState)
+    → ClaimsMarked p cell a → GoesOn a count b
     → count ≡ words_scanned cell.header → Moved b step.Mblack q → ScansCell p cell q
 scanned p cell a count b q claims goes is black =
     let one = goes.did in
-    let at : b.seat ≡ p.seat = seat_kept a goes.steps b goes.did ∙ seat_kept p (finding p.seat (step.Claim cell.page cell.index) claims.found ∷ []) a claims.moves.did in
-    let last : Did b (finding p.seat step.Mblack black.0 ∷ []) q = subst (λ (s : Seat). Did b (finding s step.Mblack black.0 ∷ []) q) at black.1.did in
+    let at : b.seat ≡ p.seat = seat_kept a goes.steps b goes.did
+    ∙ seat_kept p (finding p.seat (step.Claim cell.page cell.index) claims.found ∷ []) a claims.moves.did in
+    let last : Did b (finding p.seat step.Mblack black.0 ∷ []) q = subst
+    (λ (s : Seat). Did b (finding s step.Mblack black.0 ∷ []) q) at black.1.did in
     record {
-      steps = finding p.seat (step.Claim cell.page cell.index) claims.found ∷ (goes.steps ++ finding p.seat step.Mblack black.0 ∷ []);
+      steps = finding p.seat (step.Claim cell.page cell.index) claims.found ∷
+          (goes.steps ++ finding p.seat step.Mblack black.0 ∷ []);
       did =
-          did_then p (finding p.seat (step.Claim cell.page cell.index) claims.found ∷ []) a (goes.steps ++ finding p.seat step.Mblack black.0 ∷ []) q claims.moves.did
+          did_then p (finding p.seat (step.Claim cell.page cell.index) claims.found ∷ []) a
+          (goes.steps ++ finding p.seat step.Mblack black.0 ∷ []) q claims.moves.did
           (did_then a goes.steps b (finding p.seat step.Mblack black.0 ∷ []) q goes.did last);
       scans = record {
         marks = claims.found;

@@ -55,7 +55,8 @@ pub record SeesACell (s : Seat) (page index header : ℕ) (xs : List Finding) : 
   pub looks : List Finding
   pub marks : ℕ
   pub blacks : ℕ
-  pub is : xs ≡ looks ++ looking s (word.Mark page) marks ∷ looking s (word.Black page) blacks ∷ looking s (word.Head page) header ∷ []
+  pub is : xs ≡ looks ++ looking s (word.Mark page) marks ∷ looking s (word.Black page) blacks ∷ looking s
+      (word.Head page) header ∷ []
   pub are_looks : are_of is_look looks ≡ true
   pub marked : has_bit marks index ≡ true
   pub not_black : has_bit blacks index ≡ false

@@ -9,5 +9,6 @@ returns-in-Some-clause-goes c =
     let p = c.args.pass.now in
     let q = c.look-header.new.pass in
     let r = c.mark.new.pass in
-    goes_then p 0 q 0 r (goes_once p (step.Mlook (word.Head c.args.page)) c.look-header.result q refl refl c.look-header.ensures.moves)
+    goes_then p 0 q 0 r (goes_once p (step.Mlook
+    (word.Head c.args.page)) c.look-header.result q refl refl c.look-header.ensures.moves)
     (goes_once q step.Mmark c.mark.ensures.0 r refl refl c.mark.ensures.1)
