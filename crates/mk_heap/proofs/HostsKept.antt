@@ -1,0 +1,106 @@
+-- What always holds of the host holds of the first, and is kept where a caller or a marker is made or joined.
+use Rattle.std.proofs.Common.{◌≡◌, ◌⊎◌, ℕ, ◌+◌, ◌<◌, ◌≤◌, true, false, List, [], ◌∷◌, ◌++◌, get_or, replicate, refl, sym, ◌∙◌, ap, subst, inl, inr, ⊎_elim, arith}
+use Rattle.std.proofs.lemmas.Bool.{ne_eqb, lt-ltb, cases_lt, ltb-true}
+use Rattle.std.proofs.lemmas.List.{get_or-replicate, get_or_past, length-replicate}
+use Rattle.mk_core.specs.declared.config.Config.{Config}
+use Rattle.mk_core.specs.declared.events.Event.{Event}
+use Rattle.mk_core.specs.declared.events.Seat.{Seat}
+use Rattle.mk_core.specs.declared.events.Seat.TheVariants.{Caller, Marker, Host}
+use Rattle.mk_core.specs.Calls.{at_rest}
+use Rattle.mk_core.specs.Growing.{Grows, is_same_seat}
+use Rattle.mk_core.specs.History.{left, left_from, IsHistory}
+use Rattle.mk_core.specs.Moments.{first_moment, outside}
+use Rattle.mk_core.specs.Order.{seat_exists, host_has_turn}
+use Rattle.mk_words.specs.Seats.{Has, HasAll, all_seats, without_seat}
+use Rattle.mk_words.specs.States.{WordsState, PassState, now_of}
+use Rattle.mk_words.proofs.Seats.{has_all, has_either, has_left, has_right, only_one, without_keeps, without_less}
+use Rattle.mk_caller.specs.States.{IsIdleCaller}
+use Rattle.mk_heap.specs.Hosts.{HostState, pass_for, first_host, with_caller_made, with_marker_made, with_joined, AllAreJoined, Rests, IsDone, IsHost}
+use Rattle.mk_heap.proofs.Joining.{still_rests, still_no_turn}
+
+all_same : {A : Type 0} (n k : ℕ) (x : A) → get_or (replicate n x) k x ≡ x
+all_same n k x =
+    ⊎_elim (λ (t : k < n). get_or-replicate n k x x t)
+    (λ (t : n ≤ k). get_or_past (replicate n x) k x (subst (λ (i : ℕ). i ≤ k) (sym (length-replicate n x)) t)) (cases_lt k n)
+
+first_rests : (c : Config) (s : Seat) → Rests (first_moment c) s
+first_rests c (Caller k) = record { call = all_same c.callers k at_rest; out = refl }
+first_rests c (Marker k) = record { call = refl; out = all_same 8 k outside }
+first_rests c Host = record { call = refl; out = refl }
+
+pub first_is_host : (w : WordsState) → IsHost (first_host w)
+unfolding left_from
+first_is_host w =
+    record {
+      seat = refl;
+      no_turn = ne_eqb 0 (1 + w.config.callers) (λ e. omega arith);
+      rests = λ s has. first_rests w.config s;
+      callers = λ k le lt. has_all w.config (Caller k) (lt-ltb k w.config.callers lt);
+      markers = λ k le lt. has_all w.config (Marker k) (lt-ltb k 8 lt);
+    }
+
+pub caller_made_is_host : (h : HostState) → IsHost h → IsHost (with_caller_made h)
+caller_made_is_host h is =
+    record {
+      seat = is.seat;
+      no_turn = is.no_turn;
+      rests = λ s has. is.rests s (without_less (Caller h.callers) h.pass.seats s has);
+      callers = λ k le lt.
+          without_keeps (Caller h.callers) h.pass.seats (Caller k) (ne_eqb h.callers k (λ e. omega arith))
+          (is.callers k (omega arith) lt);
+      markers = λ k le lt. without_keeps (Caller h.callers) h.pass.seats (Marker k) refl (is.markers k le lt);
+    }
+
+pub marker_made_is_host : (h : HostState) → IsHost h → IsHost (with_marker_made h)
+marker_made_is_host h is =
+    record {
+      seat = is.seat;
+      no_turn = is.no_turn;
+      rests = λ s has. is.rests s (without_less (Marker h.markers) h.pass.seats s has);
+      callers = λ k le lt. without_keeps (Marker h.markers) h.pass.seats (Caller k) refl (is.callers k le lt);
+      markers = λ k le lt.
+          without_keeps (Marker h.markers) h.pass.seats (Marker k) (ne_eqb h.markers k (λ e. omega arith))
+          (is.markers k (omega arith) lt);
+    }
+
+pub joined_is_host : (h : HostState) (p : PassState) (seen : List Event) → IsHost h → Has h.pass.seats h.pass.seat
+    → IsDone p → p.table ≡ h.pass.table → IsHistory h.pass.table.config seen → Grows h.pass.seats h.pass.seen seen
+    → Grows p.seats p.seen seen → IsHost (with_joined h p seen)
+joined_is_host h p seen is own done table history mine theirs =
+    let c : Config = h.pass.table.config in
+    record {
+      seat = is.seat;
+      no_turn = still_no_turn h.pass.table.id c h.pass.seats h.pass.seen seen history mine
+          (subst (λ (s : Seat). Has h.pass.seats s) is.seat own) is.no_turn;
+      rests = λ s has.
+          ⊎_elim (λ (t : Has h.pass.seats s). still_rests c h.pass.seats h.pass.seen seen s history mine t (is.rests s t))
+          (λ (t : Has p.seats s). still_rests c p.seats p.seen seen s history theirs t (came s t))
+          (has_either h.pass.seats p.seats s has);
+      callers = λ k le lt. has_left h.pass.seats p.seats (Caller k) (is.callers k le lt);
+      markers = λ k le lt. has_left h.pass.seats p.seats (Marker k) (is.markers k le lt);
+    }
+  where
+    came : (s : Seat) → Has p.seats s → Rests (left h.pass.table.config p.seen).now s
+    came s has =
+        let same : s ≡ p.seat = only_one p.seat s (subst (λ (l : List Seat). Has l s) done.alone has) in
+        subst (λ (w : WordsState). Rests (left w.config p.seen).now s) table
+        (subst (λ (x : Seat). Rests (now_of p) x) (sym same) done.rests)
+
+-- Where all are joined, every seat is home.
+pub all_home : (h : HostState) → IsHost h → Has h.pass.seats h.pass.seat → AllAreJoined h → HasAll h.pass.table.config h.pass.seats
+all_home h is own joined (Caller k) exists =
+    ⊎_elim (λ (t : k < h.callers). joined.callers k t)
+    (λ (t : h.callers ≤ k). is.callers k t (ltb-true k h.pass.table.config.callers exists)) (cases_lt k h.callers)
+all_home h is own joined (Marker k) exists =
+    ⊎_elim (λ (t : k < h.markers). joined.markers k t) (λ (t : h.markers ≤ k). is.markers k t (ltb-true k 8 exists))
+    (cases_lt k h.markers)
+all_home h is own joined Host exists = subst (λ (s : Seat). Has h.pass.seats s) is.seat own
+
+-- The next caller has no call in flight.
+pub next_is_idle : (h : HostState) → IsHost h → h.callers < h.pass.table.config.callers → IsIdleCaller (pass_for h (Caller h.callers))
+next_is_idle h is lt =
+    record {
+      caller = h.callers;
+      seat = refl;
+      rest = (is.rests (Caller h.callers) (is.callers h.callers (omega arith) lt)).call;
+    }

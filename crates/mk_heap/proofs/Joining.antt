@@ -1,0 +1,75 @@
+-- What the host knows still holds behind the events of others.
+use Rattle.std.proofs.Common.{◌≡◌, ◌⊎◌, ℕ, ◌+◌, ◌<◌, ◌≤◌, Bool, true, false, not, List, [], ◌∷◌, ◌++◌, refl, sym, ◌∙◌, ap, subst, inl, inr, ⊎_elim, arith}
+use Rattle.std.specs.Prelude.{None, ◌==◌}
+use Rattle.std.proofs.lemmas.Bool.{cases_eq}
+use Rattle.atomic_table.specs.Seated.{TableId}
+use Rattle.mk_core.specs.declared.config.Config.{Config}
+use Rattle.mk_core.specs.declared.events.Event.{Event}
+use Rattle.mk_core.specs.declared.events.Seat.{Seat}
+use Rattle.mk_core.specs.declared.events.Seat.TheVariants.{Caller, Marker, Host}
+use Rattle.mk_core.specs.declared.events.Step.TheVariants as step
+use Rattle.mk_core.specs.Enabled.{IsEnabled}
+use Rattle.mk_core.specs.Growing.{Grows, AreOfOthers, is_same_seat}
+use Rattle.mk_core.specs.History.{first_world, left, IsHistory}
+use Rattle.mk_core.specs.Moments.{Moment}
+use Rattle.mk_core.specs.Order.{host_has_turn, comes_next_to_host}
+use Rattle.mk_core.proofs.Conditions.{enabled_meets, meets_enabled}
+use Rattle.mk_core.proofs.Histories.{last_enabled}
+use Rattle.mk_core.proofs.HistoryParts.{earlier_part_is_history}
+use Rattle.mk_protocol.proofs.Frames.{others_leave}
+use Rattle.mk_words.specs.Seats.{Has, without_seat}
+use Rattle.mk_words.specs.States.{PassState, now_of}
+use Rattle.mk_words.specs.Steps.{IsEnabledTo}
+use Rattle.mk_words.proofs.LongerLists.{longer_lists}
+use Rattle.mk_words.proofs.Owed.{history_more}
+use Rattle.mk_words.proofs.Seats.{has_either, has_first, has_left, only_one, others_own, without_keeps, without_less}
+use Rattle.mk_heap.specs.Hosts.{Rests}
+
+abbrev take_of_host : Event
+take_of_host = record { seat = Host; step = step.Take None }
+
+-- The host may take the turn, where it hasn't it.
+pub host_may_take : (c : Config) (m : Moment) → host_has_turn c m ≡ false → IsEnabled c m (record { seat = Host; step = step.Take None })
+host_may_take c m no_turn =
+    meets_enabled c m (record { seat = Host; step = step.Take None }) (record {
+      seat = refl;
+      kind = refl;
+      order = ap not no_turn;
+      range = refl;
+      gates = refl;
+      phase = refl;
+      marker = refl;
+      holder = refl;
+    })
+
+from_not : (b : Bool) → not b ≡ true → b ≡ false
+from_not true h = sym h
+from_not false h = refl
+
+-- a history's beginning is one
+begins : (c : Config) (seats : List Seat) (es fs : List Event) → IsHistory c fs → (g : Grows seats es fs) → IsHistory c (es ++ g.more)
+begins c seats es fs h g = subst (λ (l : List Event). IsHistory c l) g.is h
+
+-- A seat that rests still does, behind the events of others,
+pub still_rests : (c : Config) (seats : List Seat) (es fs : List Event) (s : Seat) → IsHistory c fs → Grows seats es fs
+    → Has seats s → Rests (left c es).now s → Rests (left c fs).now s
+still_rests c seats es fs s h g has rests =
+    let whole = begins c seats es fs h g in
+    let kept = others_leave c es g.more s whole.within_limits whole.enabled (others_own seats s g.more has g.of_others) in
+    subst (λ (l : List Event). Rests (left c l).now s) (sym g.is)
+    (record { call = kept.own.flight ∙ rests.call; out = kept.own.marker ∙ rests.out })
+
+-- and the host hasn't got the turn by them.
+pub still_no_turn : (id : TableId) (c : Config) (seats : List Seat) (es fs : List Event) → IsHistory c fs → Grows seats es fs → Has seats Host
+    → host_has_turn c (left c es).now ≡ false → host_has_turn c (left c fs).now ≡ false
+still_no_turn id c seats es fs h g has no_turn =
+    let whole = begins c seats es fs h g in
+    let before = earlier_part_is_history c es g.more whole in
+    let p : PassState = record { table = record { id = id; config = c }; seat = Host; seats = seats; seen = es } in
+    let short = history_more p (step.Take None) before
+    (record { enabled = host_may_take c (left c es).now no_turn; admitted = λ e. cc; tidy = λ e. cc }) in
+    let long = longer_lists c es g.more take_of_host short whole (others_own seats Host g.more has g.of_others) in
+    let on = last_enabled c (first_world c) (es ++ g.more) take_of_host long.history.enabled in
+    let meets = enabled_meets c (left c (es ++ g.more)).now take_of_host on in
+    subst (λ (l : List Event). host_has_turn c (left c l).now ≡ false) (sym g.is)
+    (from_not (host_has_turn c (left c (es ++ g.more)).now) meets.order)

@@ -1,0 +1,5 @@
+pub mod Counting
+pub mod Joining
+pub mod HostsKept
+pub mod Quarantine
+pub mod Ended

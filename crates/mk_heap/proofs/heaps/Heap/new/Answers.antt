@@ -1,0 +1,16 @@
+use Rattle.std.proofs.Common.{◌≡◌, ◌∙◌, sym, ap, subst}
+use Rattle.mk_core.specs.declared.config.Config.{Config}
+use Rattle.mk_core.specs.declared.events.Seat.TheVariants.{Host}
+use Rattle.std.specs.Prelude.{[]}
+use Rattle.mk_words.specs.Seats.{all_seats}
+use Rattle.mk_words.specs.States.{WordsState, PassState}
+use Rattle.mk_heap.specs.Hosts.{IsHost}
+use Rattle.mk_heap.proofs.HostsKept.{first_is_host}
+use Rattle.mk_heap.proofs.heaps.Heap.new.Goals as goal
+
+pub invariant_of-result : goal.invariant_of-result
+invariant_of-result c =
+    let w : WordsState = c.in_ok-words.words in
+    let pass = c.in_ok-words.ensures.pass
+    ∙ ap (λ (x : Config). record { table = w; seat = Host; seats = all_seats x; seen = [] }) (sym c.in_ok-words.ensures.config) in
+    subst (λ (p : PassState). IsHost (record { pass = p; callers = 0; markers = 0 })) (sym pass) (first_is_host w)

@@ -1,0 +1,67 @@
+-- What contracts see of the host, and what always holds of it.
+use Rattle.std.specs.Prelude.{◌≡◌, ℕ, ◌+◌, ◌<◌, ◌≤◌, Bool, true, false, List, [], ◌∷◌, ◌++◌, None}
+use Rattle.mk_core.specs.declared.config.Config.{Config}
+use Rattle.mk_core.specs.declared.events.Event.{Event}
+use Rattle.mk_core.specs.declared.events.Seat.{Seat}
+use Rattle.mk_core.specs.declared.events.Seat.TheVariants.{Caller, Marker, Host}
+use Rattle.mk_core.specs.Calls.{at_rest}
+use Rattle.mk_core.specs.Moments.{Moment, flight_of, marker_at, outside}
+use Rattle.mk_core.specs.Order.{seat_exists, host_has_turn}
+use Rattle.mk_words.specs.Seats.{Has, HasAll, all_seats, without_seat}
+use Rattle.mk_words.specs.States.{WordsState, PassState, now_of}
+
+-- Its pass, and how many callers and markers were made.
+pub record HostState : Type 0 where
+  pub pass : PassState
+  pub callers : ℕ
+  pub markers : ℕ
+
+abbrev pub first_host : WordsState → HostState
+first_host w =
+    record { pass = record { table = w; seat = Host; seats = all_seats w.config; seen = [] }; callers = 0; markers = 0 }
+
+-- the pass of a seat, cut from the host's, and what stays
+
+abbrev pub pass_for : HostState → Seat → PassState
+pass_for h s = record { table = h.pass.table; seat = s; seats = s ∷ []; seen = h.pass.seen }
+
+abbrev pub pass_without : HostState → Seat → PassState
+pass_without h s = record h.pass { seats = without_seat s h.pass.seats }
+
+-- a caller is made, or a marker
+
+abbrev pub with_caller_made : HostState → HostState
+with_caller_made h =
+    record { pass = pass_without h (Caller h.callers); callers = h.callers + 1; markers = h.markers }
+
+abbrev pub with_marker_made : HostState → HostState
+with_marker_made h =
+    record { pass = pass_without h (Marker h.markers); callers = h.callers; markers = h.markers + 1 }
+
+-- It has the seats of another pass besides, and has seen these events.
+abbrev pub with_joined : HostState → PassState → List Event → HostState
+with_joined h p seen =
+    record h { pass = record h.pass { seats = h.pass.seats ++ p.seats; seen = seen } }
+
+-- All callers and markers that were made are joined.
+pub record AllAreJoined (h : HostState) : Type 0 where
+  pub callers : (k : ℕ) → k < h.callers → Has h.pass.seats (Caller k)
+  pub markers : (k : ℕ) → k < h.markers → Has h.pass.seats (Marker k)
+
+-- The seat has no call in flight, and as a marker it is out.
+pub record Rests (m : Moment) (s : Seat) : Type 0 where
+  pub call : flight_of m s ≡ at_rest
+  pub out : marker_at m s ≡ outside
+
+-- A pass of one seat, which rests.
+pub record IsDone (p : PassState) : Type 0 where
+  pub alone : p.seats ≡ p.seat ∷ []
+  pub rests : Rests (now_of p) p.seat
+
+-- It hasn't the turn. Who isn't made is home in its pass, and who is home rests.
+pub record IsHost (h : HostState) : Type 0 where
+  pub seat : h.pass.seat ≡ Host
+  pub no_turn : host_has_turn h.pass.table.config (now_of h.pass) ≡ false
+  pub rests : (s : Seat) → Has h.pass.seats s → Rests (now_of h.pass) s
+  pub callers : (k : ℕ) → h.callers ≤ k → k < h.pass.table.config.callers → Has h.pass.seats (Caller k)
+  pub markers : (k : ℕ) → h.markers ≤ k → k < 8 → Has h.pass.seats (Marker k)

@@ -1,0 +1,40 @@
+-- What a report tells of the history of a heap that is closed.
+use Rattle.std.specs.Prelude.{◌≡◌, ℕ, true, List, count_by}
+use Rattle.mk_core.specs.declared.config.Config.{Config}
+use Rattle.mk_core.specs.declared.events.Event.{Event}
+use Rattle.mk_core.specs.declared.events.Seat.{Seat}
+use Rattle.mk_core.specs.Order.{seat_exists}
+use Rattle.mk_core.specs.Allocations.{PlacedAllocation, held_words, fresh_words_of}
+use Rattle.mk_core.specs.Counts.{IsTidy, ends, releases, fulls, in_a_word}
+use Rattle.mk_core.specs.Cycles.{is_quarantined}
+use Rattle.mk_core.specs.History.{left, IsHistory}
+use Rattle.mk_words.specs.Finals as final
+use Rattle.mk_heap.specs.declared.reports.Report.{Report}
+use Rattle.mk_heap.specs.Hosts.{Rests}
+
+-- the history of the heap, and what it was made for
+
+abbrev pub history_of : Report → List Event
+history_of r = final.history_of r.last
+
+abbrev pub config_of : Report → Config
+config_of r = final.config_of r.last
+
+-- how many allocations are freed and unreleased
+abbrev pub quarantined : List PlacedAllocation → ℕ
+quarantined xs = count_by is_quarantined xs
+
+-- Its numbers are the counts of the history.
+pub record HasCounts (c : Config) (es : List Event) (r : Report) : Type 0 where
+  pub held : r.held ≡ held_words c (left c es).allocations
+  pub fresh : r.fresh ≡ in_a_word (fresh_words_of c (left c es).allocations)
+  pub quarantined : r.quarantined ≡ quarantined (left c es).allocations
+  pub released : r.released ≡ in_a_word (releases (left c es).allocations)
+  pub cycles : r.cycles ≡ in_a_word (ends es)
+  pub full : r.full ≡ in_a_word (fulls c es)
+
+-- The history is one of the heap's, and tidy; no call of it is in flight, and no marker is in.
+pub record IsWhole (c : Config) (es : List Event) : Type 0 where
+  pub history : IsHistory c es
+  pub tidy : IsTidy c es
+  pub rests : (s : Seat) → seat_exists c s ≡ true → Rests (left c es).now s

@@ -1,0 +1,70 @@
+//! A heap: the words that callers and markers share.
+ghost use Rattle.std.specs.Prelude.{◌≡◌, IfOk};
+ghost use Rattle.mk_core.specs.Config.{IsWithinLimits};
+ghost use Rattle.mk_heap.specs.Hosts.{first_host, AllAreJoined};
+ghost use Rattle.mk_heap.specs.Reports.{history_of, config_of, IsWhole, HasCounts};
+
+use crate::hosts::Host;
+use crate::reports::Report;
+use mk_core::Config;
+use mk_never::NoMemory;
+use mk_words::Words;
+use std::alloc::Global;
+use std::marker::Model;
+
+/// A heap. It is seen as its words are.
+#[derive(Drop)]
+pub struct Heap {
+    pub(crate) words: Words,
+}
+
+impl Model for Heap {
+    ghost use Rattle.mk_words.specs.States.{WordsState};
+
+    ghost Value = { WordsState };
+
+    ghost view = { λ h. h.words };
+}
+
+impl Heap {
+    /// A heap that nobody has used, and its host.
+    pub fn new(alloc: Global, config: &Config) -> Result<(Heap, Host), NoMemory>
+        requires { IsWithinLimits config.now }
+        ensures config { IfOk result (λ made. made.0.config ≡ config.now) }
+        ensures host { IfOk result (λ made. made.1 ≡ first_host made.0) }
+    {
+        let (words, pass) = Words::new(alloc, config)?;
+        Ok((
+            Heap { words },
+            Host {
+                pass,
+                callers: 0,
+                markers: 0,
+            },
+        ))
+    }
+
+    /// Ends the heap. All that happened to it is what the host has seen.
+    pub fn close(self, host: Host) -> Report
+        requires one_table { host.pass.table ≡ self }
+        requires joined { AllAreJoined host }
+        ensures history { history_of result ≡ host.pass.seen }
+        ensures config { config_of result ≡ self.config }
+        ensures whole { IsWhole (config_of result) (history_of result) }
+        ensures counts { HasCounts (config_of result) (history_of result) result }
+    {
+        let Heap { words } = self;
+        let Host { pass, .. } = host;
+        pass.is_in_order();
+        let last = Words::close(words, pass);
+        Report {
+            held: last.held,
+            fresh: last.fresh,
+            quarantined: last.quarantined,
+            released: last.released,
+            cycles: last.cycles,
+            full: last.full,
+            last,
+        }
+    }
+}

@@ -1,0 +1,10 @@
+//! A heap, and its host: who makes callers and markers, joins them, and closes the heap.
+#![tactic(auto)]
+
+mod heaps;
+mod hosts;
+mod reports;
+
+pub use heaps::Heap;
+pub use hosts::Host;
+pub use reports::Report;
