@@ -7,3 +7,5 @@ pub mod Owed
 pub mod Made
 pub mod CallSteps
 pub mod TurnSteps
+pub mod Closing
+pub mod Markers

@@ -5,3 +5,5 @@ pub mod Passes
 pub mod Steps
 pub mod CallSteps
 pub mod TurnSteps
+pub mod Finals
+pub mod Markers

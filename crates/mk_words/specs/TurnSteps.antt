@@ -64,7 +64,6 @@ gates_stay (step.Hold j) = false
 gates_stay (step.Open j) = false
 gates_stay s = turn_stays s
 
--- The seat holds the turn, and all gates but its own.
-pub record IsStopped (t : TurnState) : Type 0 where
-  pub turn : IsTurn t.pass t.op
-  pub gates : others_are_held t.pass.table.config.callers (now_of t.pass).words t.pass.seat ≡ true
+-- all gates but that of the turn's holder are held
+abbrev pub IsStopped : TurnState → Type 0
+IsStopped t = others_are_held t.pass.table.config.callers (now_of t.pass).words t.pass.seat ≡ true

@@ -57,7 +57,8 @@ impl Stopped {
         ensures history { IsHistory self.now.pass.table.config self.now.pass.seen }
         ensures gates { others_are_held self.now.pass.table.config.callers (now_of self.now.pass).words self.now.pass.seat ≡ true }
     {
-        self.turn.is_in_order();
+        let turn = &self.turn;
+        turn.is_in_order();
     }
 
     /// Makes a step that opens no gate.
@@ -78,6 +79,7 @@ impl Stopped {
         ensures op { self.new.op ≡ self.old.op }
         ensures acts { Acts self.old.pass step self.new.pass }
     {
+        self.turn.is_in_order();
         self.turn.perform(words, step, word, by)
     }
 

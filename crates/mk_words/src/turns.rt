@@ -7,6 +7,7 @@ ghost use Rattle.mk_core.specs.Counts.{TalliesAreTidy};
 ghost use Rattle.mk_core.specs.History.{IsHistory};
 ghost use Rattle.mk_core.specs.Moments.{holder_number};
 ghost use Rattle.mk_core.specs.Order.{seat_exists};
+ghost use Rattle.mk_words.specs.Seats.{Has};
 ghost use Rattle.mk_words.specs.States.{now_of, call_of, event_of};
 ghost use Rattle.mk_words.specs.Steps.{IsEnabledTo, May, Makes, Finds, Tells};
 ghost use Rattle.mk_words.specs.TurnSteps.{IsTurn, IsFresh, turn_stays, Acts};
@@ -126,6 +127,8 @@ impl Turn {
         ensures told { Tells self.old.pass step result self.new.pass }
         ensures op { self.new.op ≡ self.old.op }
         ensures acts { Acts self.old.pass step self.new.pass }
+        ensures own { Has self.old.pass.seats self.old.pass.seat }
+        ensures history { IsHistory self.new.pass.table.config self.new.pass.seen }
     {
         self.pass.perform(words, step, word, by)
     }
