@@ -1,0 +1,3 @@
+pub mod NewSteps
+pub mod Unchanged
+pub mod Serving

@@ -1,0 +1,2 @@
+//! Placing and freeing objects under the turn.
+#![tactic(auto)]
