@@ -1,3 +1,4 @@
 pub mod NewSteps
 pub mod Unchanged
 pub mod Serving
+pub mod Granting

@@ -1,7 +1,7 @@
 -- What the holder of an undecided New may do, whatever the moment.
 use Rattle.std.proofs.Common.{◌≡◌, ℕ, ◌+◌, ◌<◌, Bool, true, false, refl, sym, ap, subst, ◌∙◌, ◌⊎◌, inl, inr}
 use Rattle.std.specs.Prelude.{◌&&◌, ◌||◌, not, nat_lt, ◌==◌, Option, Some, None}
-use Rattle.std.proofs.lemmas.Bool.{lt-ltb, eq-eqb}
+use Rattle.std.proofs.lemmas.Bool.{lt-ltb, eq-eqb, or_left, or_right}
 use Rattle.mk_never.specs.declared.operations.Op.{Op}
 use Rattle.mk_never.specs.declared.operations.Op.TheVariants as op
 use Rattle.mk_geom.specs.declared.pages.Place.{Place}
@@ -52,14 +52,6 @@ any_may_decide _ x h = h
 new_may_grant : (s : Stage) (o : Op) → is_new_at s o ≡ true → may_decide o step.Grant ≡ true
 new_may_grant stage.Turn (op.New d ty full) h = refl
 new_may_grant _ _ h = cc
-
-or_left : (a b : Bool) → a ≡ true → (a || b) ≡ true
-or_left true b h = refl
-or_left false b h = cc
-
-or_right : (a b : Bool) → b ≡ true → (a || b) ≡ true
-or_right true b h = refl
-or_right false b h = h
 
 -- The phase is none or marking.
 abbrev pub IsLow : Moment → Type 0

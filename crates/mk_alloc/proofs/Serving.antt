@@ -1,7 +1,7 @@
 -- A New while it is served: how far its pages are, step by step.
 use Rattle.std.proofs.Common.{◌≡◌, ◌≢◌, ℕ, ◌+◌, ◌-◌, ◌<◌, ◌≤◌, ◌^◌, ◌%◌, Bool, true, false, List, length, refl, sym, ap, subst, ◌∙◌, ◌⊎◌, inl, inr, arith}
 use Rattle.std.specs.Prelude.{◌&&◌, not, nat_le, nat_lt, ◌==◌, Option, Some, None, slice_index, slice_index_or, slice_set}
-use Rattle.std.proofs.lemmas.Bool.{cases_eq, cases_lt, eq-eqb, ne_eqb, le-leb, lt-ltb}
+use Rattle.std.proofs.lemmas.Bool.{and_from, cases_eq, cases_lt, eq-eqb, ne_eqb, le-leb, lt-ltb}
 use Rattle.std.proofs.lemmas.List.{get_or-set_same, get_or-set_other, length-set, set_past}
 use Rattle.mk_geom.specs.declared.pages.Page.{Page}
 use Rattle.mk_geom.specs.declared.pages.Place.{Place}
@@ -46,11 +46,6 @@ pub record Carving (c : Config) (s : Seat) (o : Object) (place : Place) (w v : W
   pub stand : (d : ℕ) → d < n → header_at v.now.words (place.page + d) ≡ header_made o d
   pub free : (d : ℕ) → n ≤ d → d < pages_made o → header_at v.now.words (place.page + d) ≡ 0
   pub marked : is_marked_first v.now.words o place ≡ true
-
-both : (a b : Bool) → a ≡ true → b ≡ true → (a && b) ≡ true
-both true true one two = refl
-both true false one two = cc
-both false b one two = cc
 
 -- What others do leaves it so.
 
@@ -111,7 +106,7 @@ new_placed c m f place new placed once =
     under : is_undecided_new f ≡ true → place_now c m f ≡ place_in c.resident m.words.pages (object_made c f.op) m.seats.holding.placing
     under is = rw is refl
 
-chosen_now : (c : Config) (m : Moment) (f : Flight) (place : Place) → is_undecided_new f ≡ true → m.seats.holding.placing ≡ Chosen place
+pub chosen_now : (c : Config) (m : Moment) (f : Flight) (place : Place) → is_undecided_new f ≡ true → m.seats.holding.placing ≡ Chosen place
     → place_now c m f ≡ Some place
 chosen_now c m f place new is = rw (new, is) refl
 
@@ -172,9 +167,9 @@ next_is : (w : Words) (first count : ℕ) (wanted : ℕ → ℕ) (n : ℕ) → n
 next_is w first count wanted n near not_yet before =
     let e : first + n - first ≡ n = omega arith in
     rw e
-    (both _ _
-    (both _ _
-    (both _ _ (both _ _ (le-leb first (first + n) (omega arith)) (lt-ltb n count near))
+    (and_from _ _
+    (and_from _ _
+    (and_from _ _ (and_from _ _ (le-leb first (first + n) (omega arith)) (lt-ltb n count near))
     (ap not (ne_eqb (header_at w (first + n)) (wanted n) not_yet)))
     (all_below_from n (stands w first wanted) (λ d lt. eq-eqb (header_at w (first + d)) (wanted d) (before d lt))))
     (eq-eqb (wanted n) (wanted n) refl))
@@ -185,7 +180,7 @@ pub carving_carves : (c : Config) (s : Seat) (o : Object) (place : Place) (w v :
 carving_carves c s o place w v n sized at within =
     ap (λ (x : Object). carves v.now.words x (place_now c v.now (flight_of v.now s)) (place.page + n) (header_made o n)) at.serving.object
     ∙ ap (λ (x : Option Place). carves v.now.words o x (place.page + n) (header_made o n)) at.serving.placed
-    ∙ both _ _
+    ∙ and_from _ _
     (next_is v.now.words place.page (pages_made o) (header_made o) n within
     (λ e. part_not_free o n (header_made o n) (made_shows o n sized within) (sym e ∙ at.free n (omega arith) within))
     at.stand)
@@ -216,8 +211,8 @@ ready_takes c s o place w v used at known unused =
     let value = used + 2 ^ place.index in
     ap (λ (x : Object). takes_cell v.now.words x (place_now c v.now (flight_of v.now s)) place.page value) at.serving.object
     ∙ ap (λ (x : Option Place). takes_cell v.now.words o x place.page value) at.serving.placed
-    ∙ both _ _
-    (both _ _ (both _ _ (eq-eqb place.page place.page refl)
+    ∙ and_from _ _
+    (and_from _ _ (and_from _ _ (eq-eqb place.page place.page refl)
     (all_below_from (pages_made o) (stands v.now.words place.page (header_made o))
     (λ d lt. eq-eqb (header_at v.now.words (place.page + d)) (header_made o d) (at.stand d lt))))
     (ap (λ n. not (has_bit n place.index)) same ∙ ap not unused))
