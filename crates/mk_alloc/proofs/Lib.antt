@@ -2,3 +2,5 @@ pub mod NewSteps
 pub mod Unchanged
 pub mod Serving
 pub mod Granting
+pub mod FoundPlaces
+pub mod HeldMore

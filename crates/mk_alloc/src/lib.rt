@@ -1,2 +1,4 @@
 //! Placing and freeing objects under the turn.
 #![tactic(auto)]
+
+mod objects;
