@@ -36,7 +36,8 @@ use Rattle.mk_frames.proofs.Tests.{without_on}
 use Rattle.mk_alloc.specs.Unchanged.{IsAsLeft}
 use Rattle.mk_alloc.proofs.NewSteps.{IsLow, off_four}
 use Rattle.mk_alloc.proofs.Unchanged.{HasCall, OfCaller, call_behind}
-use Rattle.mk_alloc.proofs.Serving.{Carving, IsTakenAt, Serving, chosen_now, new_placed}
+use Rattle.mk_alloc.specs.Serving.{Carving, Serving}
+use Rattle.mk_alloc.proofs.Serving.{IsTakenAt, chosen_now, new_placed}
 
 -- `mark` before the first header: all cells of the place's first page get their marks.
 

@@ -26,26 +26,10 @@ use Rattle.mk_core.specs.TurnConditions.{carves, is_marked_first, is_used_once, 
 use Rattle.mk_core.specs.Words.{Words, header_at, page_of, used_at}
 use Rattle.mk_core.proofs.ObjectHeaders.{made_shows, part_not_free}
 use Rattle.mk_frames.proofs.Tests.{all_below_from, or_on, without_on}
+use Rattle.mk_alloc.specs.Serving.{Carving, IsReady, Serving}
 use Rattle.mk_alloc.specs.Unchanged.{IsAsLeft}
 use Rattle.mk_alloc.proofs.NewSteps.{IsLow, off_four}
 use Rattle.mk_alloc.proofs.Unchanged.{HasCall, OfCaller, call_behind}
-
--- Between the first world and this one the New was served up to its cell: its call, and all but the pages, is as it was.
-pub record Serving (c : Config) (s : Seat) (o : Object) (place : Place) (w v : World) : Type 0 where
-  pub call : flight_of v.now s ≡ flight_of w.now s
-  pub object : object_made c (flight_of v.now s).op ≡ o
-  pub steady : steady_of v ≡ record (steady_of w) { pages = v.now.words.pages }
-  pub placed : place_now c v.now (flight_of v.now s) ≡ Some place
-  pub once : is_used_once v.now.seats.holding.placing ≡ false
-  pub used : used_at v.now.words place.page ≡ used_at w.now.words place.page
-  pub pages : length v.now.words.pages ≡ c.pages
-
--- So many of the place's pages have their headers, the others none.
-pub record Carving (c : Config) (s : Seat) (o : Object) (place : Place) (w v : World) (n : ℕ) : Type 0 where
-  pub serving : Serving c s o place w v
-  pub stand : (d : ℕ) → d < n → header_at v.now.words (place.page + d) ≡ header_made o d
-  pub free : (d : ℕ) → n ≤ d → d < pages_made o → header_at v.now.words (place.page + d) ≡ 0
-  pub marked : is_marked_first v.now.words o place ≡ true
 
 -- What others do leaves it so.
 
@@ -185,11 +169,6 @@ carving_carves c s o place w v n sized at within =
     (λ e. part_not_free o n (header_made o n) (made_shows o n sized within) (sym e ∙ at.free n (omega arith) within))
     at.stand)
     at.marked
-
--- Once all have it, or where its page was a block already, its cell may be taken,
-pub record IsReady (c : Config) (s : Seat) (o : Object) (place : Place) (w v : World) : Type 0 where
-  pub serving : Serving c s o place w v
-  pub stand : (d : ℕ) → d < pages_made o → header_at v.now.words (place.page + d) ≡ header_made o d
 
 pub ready_left : (c : Config) (s : Seat) (o : Object) (place : Place) (w u v : World) → IsReady c s o place w u → IsAsLeft s u v
     → IsReady c s o place w v

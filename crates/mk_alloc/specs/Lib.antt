@@ -1,2 +1,3 @@
 pub mod Unchanged
 pub mod Shapes
+pub mod Serving
