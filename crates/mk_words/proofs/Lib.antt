@@ -9,3 +9,4 @@ pub mod CallSteps
 pub mod TurnSteps
 pub mod Closing
 pub mod Markers
+pub mod Opening

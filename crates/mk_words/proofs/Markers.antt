@@ -68,16 +68,18 @@ behind_own c m (Marker j) k s is lt = let same : j ≡ k = cc in get_or-set_same
 behind_own c m (Caller j) k s is lt = cc
 behind_own c m Host k s is lt = cc
 
+-- a step of another kind leaves nothing of a marker
+no_marker : (p : PassState) (s : Step) (q : PassState) (m : Makes p s q) → Has p.seats p.seat → IsHistory q.table.config q.seen → is_markers (group_of s) ≡ false
+    → marker_in q ≡ marker_in p
+no_marker p s q m own history kind =
+    let d = made p s q m own history in
+    ap (λ (x : Seat). marker_at (now_of q) x) d.seat
+    ∙ other_steps p.table.config (now_of p) p.seat s kind d.meets.kind (now_of q)
+    ∙ sym (other_steps p.table.config (now_of p) p.seat s kind d.meets.kind (now_of p))
+
 module _ (p : PassState) (s : Step) (n : ℕ) (q : PassState) (t : Tells p s n q) (own : Has p.seats p.seat) (history : IsHistory q.table.config q.seen) where
   d : Made p s q t.makes
   d = made p s q t.makes own history
-
-  -- a step of another kind leaves nothing of a marker
-  pub no_marker : is_markers (group_of s) ≡ false → marker_in q ≡ marker_in p
-  no_marker kind =
-      ap (λ (x : Seat). marker_at (now_of q) x) d.seat
-      ∙ other_steps p.table.config (now_of p) p.seat s kind d.meets.kind (now_of q)
-      ∙ sym (other_steps p.table.config (now_of p) p.seat s kind d.meets.kind (now_of p))
 
   pub marks : is_markers (group_of s) ≡ true → Marks p s n q
   marks kind =
@@ -137,10 +139,14 @@ joined_pass me n seat marker pass config_is grows order =
           ∙ ap (λ (c : Config). marker_at (left c n.0.own.seen).now seat) (sym config_is);
     }
 
+pub other_pass_made : (tid qid : TableId) (me n : Mine) (seat : Seat) (marker : MarkerState) (s : Step) → IsPass me seat marker → IsInOrder n seat
+    → Makes (state_of tid me seat) s (state_of qid n seat) → is_markers (group_of s) ≡ false → IsPass n seat marker
+other_pass_made tid qid me n seat marker s pass order m kind =
+    record { order = order; keeps = pass.keeps ∙ sym (no_marker (state_of tid me seat) s (state_of qid n seat) m pass.order.own order.history kind) }
+
 pub other_pass : (tid qid : TableId) (me n : Mine) (seat : Seat) (marker : MarkerState) (s : Step) (k : ℕ) → IsPass me seat marker → IsInOrder n seat
     → Tells (state_of tid me seat) s k (state_of qid n seat) → is_markers (group_of s) ≡ false → IsPass n seat marker
-other_pass tid qid me n seat marker s k pass order t kind =
-    record { order = order; keeps = pass.keeps ∙ sym (no_marker (state_of tid me seat) s k (state_of qid n seat) t pass.order.own order.history kind) }
+other_pass tid qid me n seat marker s k pass order t kind = other_pass_made tid qid me n seat marker s pass order t.makes kind
 
 pub marking_pass : (tid qid : TableId) (me n : Mine) (seat : Seat) (marker behind : MarkerState) (s : Step) (k : ℕ) → IsPass me seat marker → IsInOrder n seat
     → Tells (state_of tid me seat) s k (state_of qid n seat) → is_markers (group_of s) ≡ true → behind ≡ marker_behind me.0.config k s marker → IsPass n seat behind

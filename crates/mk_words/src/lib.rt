@@ -3,6 +3,7 @@
 
 mod call_steps;
 mod finals;
+mod granting;
 mod indexes;
 mod marker_steps;
 mod passes;
