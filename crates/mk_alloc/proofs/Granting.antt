@@ -34,8 +34,9 @@ use Rattle.mk_core.specs.Words.{Words, header_at, phase_of, register_word, used_
 use Rattle.mk_core.proofs.WordBits.{bits_added}
 use Rattle.mk_frames.proofs.Tests.{without_on}
 use Rattle.mk_alloc.specs.Unchanged.{IsAsLeft}
-use Rattle.mk_alloc.proofs.NewSteps.{IsLow, off_four}
+use Rattle.mk_alloc.proofs.NewSteps.{off_four}
 use Rattle.mk_alloc.proofs.Unchanged.{HasCall, OfCaller, call_behind}
+use Rattle.mk_alloc.specs.Placing.{IsGrantedAt, object_at_place}
 use Rattle.mk_alloc.specs.Serving.{Carving, Serving}
 use Rattle.mk_alloc.proofs.Serving.{IsTakenAt, chosen_now, new_placed}
 
@@ -100,18 +101,7 @@ carving_unmarked c s o place w v at none free =
       marked = or_left (not (is_phase v.now.words 1)) _ (ap (λ n. not (n == 1)) none);
     }
 
--- The object that a place's grant adds to the allocations.
-abbrev pub object_at_place : Config → Flight → Place → PlacedAllocation
-object_at_place c f place = record { base = base_made (object_made c f.op) place; ty = type_made f.op; freed = false; fresh = false; released = false }
-
--- Behind the grant the New is decided, its object stands in its place, and its address in the register.
-pub record IsGrantedAt (c : Config) (s : Seat) (place : Place) (w v : World) : Type 0 where
-  pub call : flight_of v.now s ≡ record (flight_of w.now s) { stage = stage.Give }
-  pub placing : v.now.seats.holding.placing ≡ Granted
-  pub steady : steady_of v
-      ≡ record (steady_of w) { pages = v.now.words.pages; held = v.now.words.held; allocations = w.allocations ++ object_at_place c (flight_of w.now s) place ∷ [] }
-  pub register : (k : ℕ) → s ≡ Caller k → register_word v.now.words k (d_of (flight_of w.now s).op)
-      ≡ address_of (base_made (object_made c (flight_of w.now s).op) place) % 2 ^ 64
+-- the grant, the tally, and what others do behind them
 
 pub granted_left : (c : Config) (s : Seat) (place : Place) (w u v : World) → d_of (flight_of w.now s).op < 8 → IsGrantedAt c s place w u
     → IsAsLeft s u v → IsGrantedAt c s place w v

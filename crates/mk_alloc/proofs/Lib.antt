@@ -4,3 +4,5 @@ pub mod Serving
 pub mod Granting
 pub mod FoundPlaces
 pub mod HeldMore
+pub mod OwnCalls
+pub mod Reaching

@@ -26,6 +26,7 @@ use Rattle.mk_core.specs.Ranges.{is_in_range, has_gates, has_phase}
 use Rattle.mk_core.specs.StopConditions.{marks_by_hand, marks_place}
 use Rattle.mk_core.specs.TurnConditions.{carves, is_used_once, place_now, takes_cell, unmaps}
 use Rattle.mk_core.proofs.Conditions.{meets_enabled}
+use Rattle.mk_alloc.specs.Placing.{IsOutOfStop}
 
 -- An undecided New is a caller's,
 open_to_new : (m : Moment) (s : Seat) → is_undecided_new (flight_of m s) ≡ true → is_open_to s group.Turn ≡ true
@@ -53,10 +54,6 @@ new_may_grant : (s : Stage) (o : Op) → is_new_at s o ≡ true → may_decide o
 new_may_grant stage.Turn (op.New d ty full) h = refl
 new_may_grant _ _ h = cc
 
--- The phase is none or marking.
-abbrev pub IsLow : Moment → Type 0
-IsLow m = (phase_of m.words ≡ 0) ⊎ (phase_of m.words ≡ 1)
-
 low_phase : (n : ℕ) → (n ≡ 0) ⊎ (n ≡ 1) → ((n == 0) || (n == 1)) ≡ true
 low_phase n (inl none) = or_left (n == 0) (n == 1) (eq-eqb n 0 none)
 low_phase n (inr one) = or_right (n == 0) (n == 1) (eq-eqb n 1 one)
@@ -64,7 +61,7 @@ low_phase n (inr one) = or_right (n == 0) (n == 1) (eq-eqb n 1 one)
 low_or_more : (n k : ℕ) → (n ≡ 0) ⊎ (n ≡ 1) → ((n == 0) || (n == 1) || (n == k)) ≡ true
 low_or_more n k low = or_left ((n == 0) || (n == 1)) (n == k) (low_phase n low)
 
-pub off_four : (m : Moment) → IsLow m → is_phase m.words 4 ≡ false
+pub off_four : (m : Moment) → IsOutOfStop m → is_phase m.words 4 ≡ false
 off_four m (inl none) = ap (λ (n : ℕ). n == 4) none
 off_four m (inr one) = ap (λ (n : ℕ). n == 4) one
 
@@ -109,7 +106,7 @@ module _ (c : Config) (m : Moment) (s : Seat) (there : seat_exists c s ≡ true)
       (ap (λ (n : ℕ). (n == 1) || (n == 2)) one) refl
       (or_right (marks_by_hand c.pages m.words m.seats.holding.hand p v) _ places)
 
-  pub may_carve : (p v : ℕ) → p < c.pages → IsLow m → is_unmapped_header (header_of v) ≡ false
+  pub may_carve : (p v : ℕ) → p < c.pages → IsOutOfStop m → is_unmapped_header (header_of v) ≡ false
       → carves m.words (object_made c (flight_of m s).op) (place_now c m (flight_of m s)) p v ≡ true
       → IsEnabled c m (record { seat = s; step = step.Head p v })
   may_carve p v within low mapped carve =
@@ -117,7 +114,7 @@ module _ (c : Config) (m : Moment) (s : Seat) (there : seat_exists c s ≡ true)
       (ap (λ b. not b || others_are_held c.callers m.words s) mapped) (low_or_more (phase_of m.words) 4 low) refl
       (rw (off_four m low) (or_left _ (unmaps m.words m.seats.holding.freed p v) carve))
 
-  pub may_take : (p v : ℕ) → p < c.pages → IsLow m → is_used_once m.seats.holding.placing ≡ false
+  pub may_take : (p v : ℕ) → p < c.pages → IsOutOfStop m → is_used_once m.seats.holding.placing ≡ false
       → takes_cell m.words (object_made c (flight_of m s).op) (place_now c m (flight_of m s)) p v ≡ true
       → IsEnabled c m (record { seat = s; step = step.Used p v })
   may_take p v within low once takes =
@@ -125,6 +122,6 @@ module _ (c : Config) (m : Moment) (s : Seat) (there : seat_exists c s ≡ true)
       refl (low_or_more (phase_of m.words) 4 low) refl
       (rw (off_four m low, once) takes)
 
-  pub may_grant : IsLow m → is_used_once m.seats.holding.placing ≡ true → IsEnabled c m (record { seat = s; step = step.Grant })
+  pub may_grant : IsOutOfStop m → is_used_once m.seats.holding.placing ≡ true → IsEnabled c m (record { seat = s; step = step.Grant })
   may_grant low once =
       new_may step.Grant refl (new_may_grant (flight_of m s).stage (flight_of m s).op new) refl refl (low_phase (phase_of m.words) low) refl once

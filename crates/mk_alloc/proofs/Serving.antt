@@ -26,9 +26,10 @@ use Rattle.mk_core.specs.TurnConditions.{carves, is_marked_first, is_used_once, 
 use Rattle.mk_core.specs.Words.{Words, header_at, page_of, used_at}
 use Rattle.mk_core.proofs.ObjectHeaders.{made_shows, part_not_free}
 use Rattle.mk_frames.proofs.Tests.{all_below_from, or_on, without_on}
+use Rattle.mk_alloc.specs.Placing.{IsOutOfStop}
 use Rattle.mk_alloc.specs.Serving.{Carving, IsReady, Serving}
 use Rattle.mk_alloc.specs.Unchanged.{IsAsLeft}
-use Rattle.mk_alloc.proofs.NewSteps.{IsLow, off_four}
+use Rattle.mk_alloc.proofs.NewSteps.{off_four}
 use Rattle.mk_alloc.proofs.Unchanged.{HasCall, OfCaller, call_behind}
 
 -- What others do leaves it so.
@@ -117,7 +118,7 @@ used_kept ps p q h = elim (cases_eq q p) [
 
 -- the next page gets its header
 pub carving_more : (c : Config) (s : Seat) (o : Object) (place : Place) (w v : World) (n : ℕ) → Carving c s o place w v n → HasCall c v.now s
-    → is_undecided_new (flight_of v.now s) ≡ true → IsLow v.now → n < pages_made o → place.page + n < c.pages
+    → is_undecided_new (flight_of v.now s) ≡ true → IsOutOfStop v.now → n < pages_made o → place.page + n < c.pages
     → Carving c s o place w (world_behind c v (record { seat = s; step = step.Head (place.page + n) (header_made o n) })) (n + 1)
 carving_more c s o place w v n at (OfCaller k lt) new low within room =
     let p = place.page + n in
@@ -216,7 +217,7 @@ taken_left c s o place w u v at left =
     }
 
 pub taken_behind : (c : Config) (s : Seat) (o : Object) (place : Place) (w v : World) (p value : ℕ) → Serving c s o place w v → HasCall c v.now s
-    → IsLow v.now → IsTakenAt c s o place w (world_behind c v (record { seat = s; step = step.Used p value }))
+    → IsOutOfStop v.now → IsTakenAt c s o place w (world_behind c v (record { seat = s; step = step.Used p value }))
 taken_behind c s o place w v p value at (OfCaller k lt) low =
     let call = call_behind c v.now k (step.Used p value) lt in
     let u : World = world_behind c v (record { seat = s; step = step.Used p value }) in

@@ -1,3 +1,5 @@
 pub mod Unchanged
 pub mod Shapes
 pub mod Serving
+pub mod Entries
+pub mod Placing
