@@ -34,7 +34,7 @@ use Rattle.mk_core.specs.Words.{Words, header_at, phase_of, register_word, used_
 use Rattle.mk_core.proofs.WordBits.{bits_added}
 use Rattle.mk_frames.proofs.Tests.{without_on}
 use Rattle.mk_alloc.specs.Unchanged.{IsAsLeft}
-use Rattle.mk_alloc.proofs.NewSteps.{off_four}
+use Rattle.mk_alloc.proofs.MayAct.{off_four}
 use Rattle.mk_alloc.proofs.Unchanged.{HasCall, OfCaller, call_behind}
 use Rattle.mk_alloc.specs.Placing.{IsGrantedAt, object_at_place}
 use Rattle.mk_alloc.specs.Serving.{Carving, Serving}

@@ -1,4 +1,4 @@
-pub mod NewSteps
+pub mod MayAct
 pub mod Unchanged
 pub mod Serving
 pub mod Granting
@@ -6,3 +6,6 @@ pub mod FoundPlaces
 pub mod HeldMore
 pub mod OwnCalls
 pub mod Reaching
+pub mod Looks
+pub mod JoinedLooks
+pub mod FilledBooks

@@ -29,7 +29,7 @@ use Rattle.mk_frames.proofs.Tests.{all_below_from, or_on, without_on}
 use Rattle.mk_alloc.specs.Placing.{IsOutOfStop}
 use Rattle.mk_alloc.specs.Serving.{Carving, IsReady, Serving}
 use Rattle.mk_alloc.specs.Unchanged.{IsAsLeft}
-use Rattle.mk_alloc.proofs.NewSteps.{off_four}
+use Rattle.mk_alloc.proofs.MayAct.{off_four}
 use Rattle.mk_alloc.proofs.Unchanged.{HasCall, OfCaller, call_behind}
 
 -- What others do leaves it so.

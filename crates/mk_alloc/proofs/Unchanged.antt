@@ -22,7 +22,9 @@ use Rattle.mk_core.specs.Moments.{Moment, flight_of}
 use Rattle.mk_core.specs.NewPlaces.{is_undecided_new}
 use Rattle.mk_core.specs.Order.{seat_exists}
 use Rattle.mk_protocol.proofs.Growth.{grows_same, grows_joined}
+use Rattle.mk_alloc.specs.Looking.{is_acting, is_steady_word}
 use Rattle.mk_alloc.specs.Unchanged.{IsAsLeft}
+use Rattle.mk_alloc.proofs.MayAct.{IsActing}
 
 pub left_same : (s : Seat) (w : World) → IsAsLeft s w w
 left_same s w = record { call = refl; holding = refl; steady = refl; marks = grows_same w.now.words.marks; registers = λ k r is lt. refl }
@@ -43,17 +45,19 @@ pub call_behind : (c : Config) (m : Moment) (k : ℕ) (x : Step) → k < length 
     ≡ (progress c m (flight_of m (Caller k)) (found c m (record { seat = Caller k; step = x })) x).flight
 call_behind c m k x lt = get_or-set_same m.seats.flights k (progress c m (flight_of m (Caller k)) (found c m (record { seat = Caller k; step = x })) x).flight at_rest lt
 
--- A seat with an undecided New has a call.
+-- A seat that is acting has a call.
 pub data HasCall (c : Config) (m : Moment) : Seat → Type 0 where
   OfCaller : (k : ℕ) → k < length m.seats.flights → HasCall c m (Caller k)
 
-pub new_has_call : (c : Config) (m : Moment) (s : Seat) → length m.seats.flights ≡ c.callers → seat_exists c s ≡ true
-    → is_undecided_new (flight_of m s) ≡ true → HasCall c m s
-new_has_call c m (Caller k) all there new = OfCaller k (subst (λ n. k < n) (sym all) (ltb-true k c.callers there))
-new_has_call c m (Marker k) all there new = cc
-new_has_call c m Host all there new = cc
+pub acting_has_call : (c : Config) (m : Moment) (s : Seat) → length m.seats.flights ≡ c.callers → IsActing c m s → HasCall c m s
+acting_has_call c m s all at = by s at.there at.acts
+  where
+    by : (s : Seat) → seat_exists c s ≡ true → is_acting (flight_of m s).stage ≡ true → HasCall c m s
+    by (Caller k) there acts = OfCaller k (subst (λ n. k < n) (sym all) (ltb-true k c.callers there))
+    by (Marker k) there acts = cc
+    by Host there acts = cc
 
--- Looks at words of pages and at tallies leave all as it was.
+-- Looks at steady words and at the phase leave all as it was.
 
 pub data IsPlain : Word → Type 0 where
   OfHead : (p : ℕ) → IsPlain (word.Head p)
@@ -61,6 +65,13 @@ pub data IsPlain : Word → Type 0 where
   OfHeld : IsPlain word.Held
   OfFresh : IsPlain word.Fresh
   OfPhase : IsPlain word.Phase
+
+pub steady_is_plain : (x : Word) → is_steady_word x ≡ true → IsPlain x
+steady_is_plain (word.Head p) h = OfHead p
+steady_is_plain (word.Used p) h = OfUsed p
+steady_is_plain word.Held h = OfHeld
+steady_is_plain word.Fresh h = OfFresh
+steady_is_plain _ h = cc
 
 pub look_leaves : (c : Config) (w : World) (s : Seat) (x : Word) → HasCall c w.now s → IsPlain x
     → IsAsLeft s w (world_behind c w (record { seat = s; step = step.Look x }))

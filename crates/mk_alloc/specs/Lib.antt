@@ -3,3 +3,4 @@ pub mod Shapes
 pub mod Serving
 pub mod Entries
 pub mod Placing
+pub mod Looking

@@ -1,4 +1,5 @@
 //! Placing and freeing objects under the turn.
 #![tactic(auto)]
 
+mod looking;
 mod objects;
