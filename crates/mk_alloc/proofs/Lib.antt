@@ -9,3 +9,5 @@ pub mod Reaching
 pub mod Looks
 pub mod JoinedLooks
 pub mod FilledBooks
+pub mod AdmittedNews
+pub mod Serves

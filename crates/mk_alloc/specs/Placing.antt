@@ -25,7 +25,9 @@ use Rattle.mk_core.specs.Placement.{place_for}
 use Rattle.mk_core.specs.Words.{phase_of, register_word}
 use Rattle.mk_words.specs.States.{PassState, call_of, now_of, world_of}
 use Rattle.mk_turns.specs.Doing.{Does}
+use Rattle.mk_core.specs.TurnConditions.{place_now}
 use Rattle.mk_alloc.specs.Entries.{own_calls}
+use Rattle.mk_alloc.specs.Serving.{Carving, IsReady}
 use Rattle.mk_alloc.specs.Unchanged.{IsAsLeft}
 
 -- No cycle is on, or one whose cells are being marked.
@@ -106,3 +108,16 @@ pub record IsPlaced (p q : PassState) : Type 0 where
 pub record FitsNowhere (p q : PassState) : Type 0 where
   pub nowhere : place_now_for p ≡ None
   pub looks : OnlyLooks p q
+
+-- The New's object goes to this place.
+pub record GoesTo (p : PassState) (place : Place) : Type 0 where
+  pub unplaced : IsUnplaced p
+  pub goes : place_now p.table.config (now_of p) (call_of p) ≡ Some place
+
+-- So many pages of the place have their headers; its cell may be taken.
+
+abbrev pub HasCarved : PassState → Place → ℕ → PassState → Type 0
+HasCarved p place n q = Reaches is_placing p (λ w. Carving p.table.config p.seat (object_for p) place (world_of p) w n) [] q
+
+abbrev pub MayTake : PassState → Place → PassState → Type 0
+MayTake p place q = Reaches is_placing p (IsReady p.table.config p.seat (object_for p) place (world_of p)) [] q
