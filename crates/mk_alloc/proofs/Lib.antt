@@ -11,3 +11,5 @@ pub mod JoinedLooks
 pub mod FilledBooks
 pub mod AdmittedNews
 pub mod Serves
+pub mod Takes
+pub mod CarvedPages

@@ -140,15 +140,15 @@ place_unused p place k = elim (cases_eq (header_at (now_of p).words place.page) 
 phase_kept : (s : Seat) (o : Object) (place : Place) (c : Config) (w u v : World) → Serving c s o place w u → IsAsLeft s u v → phase_of v.now.words ≡ phase_of w.now.words
 phase_kept s o place c w u v at kept = ap (λ (x : Steady). x.phase) kept.steady ∙ ap (λ (x : Steady). x.phase) at.steady
 
-out_of_stop : (m n : Moment) → phase_of n.words ≡ phase_of m.words → IsOutOfStop m → IsOutOfStop n
+pub out_of_stop : (m n : Moment) → phase_of n.words ≡ phase_of m.words → IsOutOfStop m → IsOutOfStop n
 out_of_stop m n same (inl none) = inl (same ∙ none)
 out_of_stop m n same (inr one) = inr (same ∙ one)
 
-served_acting : (p : PassState) (place : Place) (v : World) → KnowsPlace p place → Serving p.table.config p.seat (object_for p) place (world_of p) v
+pub served_acting : (p : PassState) (place : Place) (v : World) → KnowsPlace p place → Serving p.table.config p.seat (object_for p) place (world_of p) v
     → IsActing p.table.config v.now p.seat
 served_acting p place v k at = record { there = k.acting.there; acts = ap (λ (f : Flight). is_acting f.stage) at.call ∙ k.acting.acts }
 
-served_new : (p : PassState) (place : Place) (v : World) → GoesTo p place → Serving p.table.config p.seat (object_for p) place (world_of p) v
+pub served_new : (p : PassState) (place : Place) (v : World) → GoesTo p place → Serving p.table.config p.seat (object_for p) place (world_of p) v
     → is_undecided_new (flight_of v.now p.seat) ≡ true
 served_new p place v goes at = ap (λ (f : Flight). is_undecided_new f) at.call ∙ goes.unplaced.new
 

@@ -97,11 +97,14 @@ pub record IsGrantedAt (c : Config) (s : Seat) (place : Place) (w v : World) : T
 abbrev pub entry_for : PassState → Answer → List Decided
 entry_for p a = entry_of (caller_number p.seat) (call_of p).op (Some a)
 
+abbrev pub IsGranted : PassState → Place → PassState → Type 0
+IsGranted p place q = Reaches is_placing p (IsGrantedAt p.table.config p.seat place (world_of p)) (entry_for p answer.Done) q
+
 -- The object of the New was granted at its place, and the tally of held words is that of the allocations.
 pub record IsPlaced (p q : PassState) : Type 0 where
   pub place : Place
   pub fits : place_now_for p ≡ Some place
-  pub granted : Reaches is_placing p (IsGrantedAt p.table.config p.seat place (world_of p)) (entry_for p answer.Done) q
+  pub granted : IsGranted p place q
   pub held : HeldIsExact q
 
 -- There is no place, and the pass only looked.

@@ -3,3 +3,4 @@
 
 mod looking;
 mod objects;
+mod placing;
