@@ -65,3 +65,27 @@ fn make_ready(words: &Words, turn: &mut Turn, shape: Shape, place: Place, page: 
         carve(words, turn, shape, place, marking);
     }
 }
+
+/// Gives the object its place.
+fn serve(words: &Words, turn: &mut Turn, shape: Shape, place: Place, page: Page, marking: bool, held: u64)
+    requires one_table { turn.old.pass.table ≡ words.now }
+    requires shape { object_shaped shape ≡ object_for turn.old.pass }
+    requires goes { GoesTo turn.old.pass place }
+    requires page { page ≡ page_of (now_of turn.old.pass).words place.page }
+    requires marking { marking ≡ (phase_of (now_of turn.old.pass).words == 1) }
+    requires held { held ≡ (now_of turn.old.pass).words.held }
+    requires exact { HeldIsExact turn.old.pass }
+    ensures op { turn.new.op ≡ turn.old.op }
+    ensures granted { IsGranted turn.old.pass place turn.new.pass }
+    ensures held { HeldIsExact turn.new.pass }
+{
+    turn.is_in_order();
+    make_ready(words, turn, shape, place, page, marking);
+    turn.is_in_order();
+    turn.used(words, place.page, page.used | 1 << place.index);
+    turn.is_in_order();
+    turn.grant(words);
+    turn.is_in_order();
+    turn.tally(words, Tally::Held, held + shape.storage());
+    turn.is_in_order();
+}
