@@ -47,7 +47,7 @@ use Rattle.mk_words.specs.States.{PassState, call_of, event_of, now_of, world_of
 use Rattle.mk_words.specs.Steps.{IsAdmittedTo, IsEnabledTo}
 use Rattle.mk_words.specs.TurnSteps.{Acts}
 use Rattle.mk_alloc.specs.Looking.{is_acting}
-use Rattle.mk_alloc.specs.Placing.{GoesTo, HeldIsExact, IsGrantedAt, IsOutOfStop, MayTake, Reaches, entry_for, is_placing, object_at_place, object_for}
+use Rattle.mk_alloc.specs.Placing.{GoesTo, HeldIsExact, IsGrantedAt, IsOutOfStop, IsUnplaced, MayTake, Reaches, entry_for, is_placing, object_at_place, object_for}
 use Rattle.mk_alloc.specs.Serving.{IsReady, Serving}
 use Rattle.mk_alloc.specs.Unchanged.{IsAsLeft}
 use Rattle.mk_alloc.proofs.AdmittedNews.{grant_admitted, register_small}
@@ -90,16 +90,19 @@ small_index p place k = elim (cases_eq (header_at (now_of p).words place.page) 0
 ]
 
 -- The call is settled before it is served, so few words are held.
-pub few_held : (p : PassState) (place : Place) → KnowsPlace p place → GoesTo p place → IsHistory p.table.config p.seen
-    → held_words p.table.config (world_of p).allocations ≤ 64 * p.table.config.pages
-few_held p place k goes h =
-    held_is_little p.table.config p.seen h (settled p.seat k.caller.number k.caller.is k.acting.there goes.unplaced.new)
+pub unplaced_settled : (p : PassState) → IsActing p.table.config (now_of p) p.seat → IsCallers p → IsUnplaced p → IsHistory p.table.config p.seen
+    → IsSettled (world_of p)
+unplaced_settled p at caller unplaced h = settled p.seat caller.number caller.is at.there unplaced.new
   where
     settled : (s : Seat) (j : ℕ) → s ≡ Caller j → seat_exists p.table.config s ≡ true → is_undecided_new (flight_of (now_of p) s) ≡ true → IsSettled (world_of p)
     settled s j is there new =
         let here : nat_lt j p.table.config.callers ≡ true = ap (λ (x : Seat). seat_exists p.table.config x) (sym is) ∙ there in
         unplaced_settles p.table.config p.seen j h (ltb-true j p.table.config.callers here) (ap (λ (x : Seat). is_undecided_new (flight_of (now_of p) x)) (sym is) ∙ new)
-        (off_four (now_of p) goes.unplaced.phase) goes.unplaced.placing
+        (off_four (now_of p) unplaced.phase) unplaced.placing
+
+pub few_held : (p : PassState) (place : Place) → KnowsPlace p place → GoesTo p place → IsHistory p.table.config p.seen
+    → held_words p.table.config (world_of p).allocations ≤ 64 * p.table.config.pages
+few_held p place k goes h = held_is_little p.table.config p.seen h (unplaced_settled p k.acting k.caller goes.unplaced h)
 
 module _ (p : PassState) (place : Place) (goes : GoesTo p place) (k : KnowsPlace p place) where
   abbrev pub c : Config

@@ -4,3 +4,5 @@
 mod looking;
 mod objects;
 mod placing;
+
+pub use placing::place_object;

@@ -1,5 +1,8 @@
 //! Placing the object of a New.
-ghost use Rattle.std.specs.Prelude.{◌≡◌, ◌==◌, Some, None, true};
+ghost use Rattle.std.specs.Prelude.{◌≡◌, ◌==◌, Some, true, false, length};
+ghost use Rattle.mk_never.specs.declared.operations.Op.{Op};
+ghost use Rattle.mk_core.specs.Calls.{has_type};
+ghost use Rattle.mk_core.specs.NewPlaces.{object_made};
 ghost use Rattle.mk_core.specs.Words.{header_at, page_of, phase_of};
 ghost use Rattle.mk_words.specs.States.{now_of};
 ghost use Rattle.mk_alloc.specs.Placing.{GoesTo, HasCarved, HeldIsExact, MayTake, IsUnplaced, IsPlaced, FitsNowhere, IsGranted, object_for};
@@ -88,4 +91,58 @@ fn serve(words: &Words, turn: &mut Turn, shape: Shape, place: Place, page: Page,
     turn.is_in_order();
     turn.tally(words, Tally::Held, held + shape.storage());
     turn.is_in_order();
+}
+
+/// Gives the object its place, with what two looks more tell.
+fn serve_now(words: &Words, turn: &mut Turn, shape: Shape, place: Place, page: Page)
+    requires one_table { turn.old.pass.table ≡ words.now }
+    requires shape { object_shaped shape ≡ object_for turn.old.pass }
+    requires goes { GoesTo turn.old.pass place }
+    requires page { page ≡ page_of (now_of turn.old.pass).words place.page }
+    requires exact { HeldIsExact turn.old.pass }
+    ensures op { turn.new.op ≡ turn.old.op }
+    ensures granted { IsGranted turn.old.pass place turn.new.pass }
+    ensures held { HeldIsExact turn.new.pass }
+{
+    let held = look_at(words, turn, Word::Held);
+    let marking = look_at_phase(words, turn) == 1;
+    serve(words, turn, shape, place, page, marking, held);
+}
+
+/// The shape of the object that a New makes.
+fn shape_made(words: &Words, op: Option<Op>) -> Shape
+    requires { (o : Op) → op ≡ Some o → has_type words.now.config o ≡ true }
+    ensures { (o : Op) → op ≡ Some o → object_shaped result ≡ object_made words.now.config o }
+{
+    match op {
+        Some(Op::New { ty, .. }) => shape_of(words.types().kinds(ty)),
+        _ => Shape {
+            words: 0,
+            leaf: true,
+        },
+    }
+}
+
+/// Grants the object of a New at its place, or answers false where nothing fits. The book is filled by looks.
+pub fn place_object(words: &Words, turn: &mut Turn, book: &mut Book) -> bool
+    requires one_table { turn.old.pass.table ≡ words.now }
+    requires unplaced { IsUnplaced turn.old.pass }
+    requires exact { HeldIsExact turn.old.pass }
+    requires book { length book.old ≡ turn.old.pass.table.config.pages }
+    ensures op { turn.new.op ≡ turn.old.op }
+    ensures book { length book.new ≡ length book.old }
+    ensures placed { result ≡ true → IsPlaced turn.old.pass turn.new.pass }
+    ensures nowhere { result ≡ false → FitsNowhere turn.old.pass turn.new.pass }
+{
+    turn.is_in_order();
+    fill(words, turn, book);
+    let shape = shape_made(words, turn.op());
+    match first_fit(book.pages(), words.resident(), shape.words, shape.leaf) {
+        None => false,
+        Some(place) => {
+            let page = book.pages()[place.page as usize];
+            serve_now(words, turn, shape, place, page);
+            true
+        }
+    }
 }
