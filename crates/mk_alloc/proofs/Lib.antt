@@ -13,3 +13,4 @@ pub mod AdmittedNews
 pub mod Serves
 pub mod Takes
 pub mod CarvedPages
+pub mod PlacedNews

@@ -109,14 +109,28 @@ fn serve_now(words: &Words, turn: &mut Turn, shape: Shape, place: Place, page: P
     serve(words, turn, shape, place, page, marking, held);
 }
 
-/// The shape of the object that a New makes.
-fn shape_made(words: &Words, op: Option<Op>) -> Shape
+/// The shape of the object that the operation makes.
+fn shape_made(words: &Words, op: Op) -> Shape
+    requires { has_type words.now.config op ≡ true }
+    ensures { object_shaped result ≡ object_made words.now.config op }
+{
+    match op {
+        Op::New { ty, .. } => shape_of(words.types().kinds(ty)),
+        _ => Shape {
+            words: 0,
+            leaf: true,
+        },
+    }
+}
+
+/// The shape of the object that a turn for this operation makes.
+fn shape_asked(words: &Words, op: Option<Op>) -> Shape
     requires { (o : Op) → op ≡ Some o → has_type words.now.config o ≡ true }
     ensures { (o : Op) → op ≡ Some o → object_shaped result ≡ object_made words.now.config o }
 {
     match op {
-        Some(Op::New { ty, .. }) => shape_of(words.types().kinds(ty)),
-        _ => Shape {
+        Some(op) => shape_made(words, op),
+        None => Shape {
             words: 0,
             leaf: true,
         },
@@ -136,7 +150,7 @@ pub fn place_object(words: &Words, turn: &mut Turn, book: &mut Book) -> bool
 {
     turn.is_in_order();
     fill(words, turn, book);
-    let shape = shape_made(words, turn.op());
+    let shape = shape_asked(words, turn.op());
     match first_fit(book.pages(), words.resident(), shape.words, shape.leaf) {
         None => false,
         Some(place) => {
