@@ -1,25 +1,23 @@
 -- A New is admitted wherever its call is.
-use Rattle.std.proofs.Common.{◌≡◌, ◌≢◌, ℕ, ◌+◌, ◌*◌, ◌<◌, ◌≤◌, Bool, true, false, List, [], ◌∷◌, ◌++◌, length, replicate, refl, sym, ◌∙◌, ap, subst, arith}
-use Rattle.std.specs.Prelude.{◌&&◌, nat_lt, Option, Some}
+use Rattle.std.proofs.Common.{◌≡◌, ℕ, ◌*◌, ◌<◌, Bool, true, false, List, [], ◌∷◌, ◌++◌, length, sym, ◌∙◌, ap, subst, arith}
+use Rattle.std.specs.Prelude.{◌&&◌, nat_lt, Some}
 use Rattle.std.proofs.lemmas.Bool.{and_parts, ltb-true}
 use Rattle.mk_never.specs.declared.operations.Op.{Op}
 use Rattle.mk_never.specs.declared.operations.Op.TheVariants as op
 use Rattle.mk_never.specs.declared.values.Value.{Value}
 use Rattle.mk_never.specs.declared.values.Value.TheVariants.{Null}
 use Rattle.mk_never.specs.Admitted.{AreAdmitted, IsAdmitted}
-use Rattle.mk_never.specs.Laws.{Continues}
-use Rattle.mk_never.specs.NeverHeap.{Call, NeverState, after_calls}
+use Rattle.mk_never.specs.NeverHeap.{Call, after_calls}
 use Rattle.mk_never.proofs.Later.{calls_stay}
 use Rattle.mk_core.specs.declared.config.Config.{Config}
-use Rattle.mk_core.specs.declared.events.Answer.{Answer}
 use Rattle.mk_core.specs.declared.events.Answer.TheVariants as answer
 use Rattle.mk_core.specs.declared.events.Event.{Event}
 use Rattle.mk_core.specs.declared.events.Seat.TheVariants.{Caller}
 use Rattle.mk_core.specs.declared.events.Step.TheVariants as step
 use Rattle.mk_core.specs.declared.seats.Flight.{Flight}
-use Rattle.mk_core.specs.Calls.{d_of, g_of, has_operands, has_type, p_of, q_of, r_of}
+use Rattle.mk_core.specs.Calls.{d_of, has_operands}
 use Rattle.mk_core.specs.Decided.{Decided, asked, entry_of}
-use Rattle.mk_core.specs.History.{IsAdmittedBehind, IsHistory, call_decided, calls, first_world, left, never_behind, never_first}
+use Rattle.mk_core.specs.History.{IsAdmittedBehind, IsHistory, calls, first_world, left, never_first}
 use Rattle.mk_core.specs.Moments.{flight_of}
 use Rattle.mk_core.specs.NewPlaces.{is_undecided_new}
 use Rattle.mk_core.proofs.Histories.{calls_more}

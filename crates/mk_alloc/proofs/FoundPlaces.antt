@@ -1,29 +1,27 @@
 -- What the place that first fit finds says of its pages, and how many words are held.
-use Rattle.std.proofs.Common.{◌≡◌, ◌≢◌, ℕ, ◌+◌, ◌*◌, ◌/◌, ◌<◌, ◌≤◌, ◌^◌, Bool, true, false, List, [], ◌∷◌, ◌++◌, length, All, map, refl, sym, ap, subst, ◌∙◌, inl, inr, ◌⊎◌, arith}
-use Rattle.std.specs.Prelude.{◌==◌, Option, Some, None, slice_index_or, slice_get, sum_by, count_by}
+use Rattle.std.proofs.Common.{◌≡◌, ◌≢◌, ℕ, ◌*◌, ◌<◌, ◌≤◌, Bool, true, false, List, [], ◌∷◌, length, refl, sym, ap, subst, ◌∙◌, inl, inr, arith}
+use Rattle.std.specs.Prelude.{◌==◌, Option, Some, None, slice_index_or, slice_get, count_by}
 use Rattle.std.specs.Int.{bit_at}
-use Rattle.std.specs.List.{range_with_len}
-use Rattle.std.proofs.lemmas.Bool.{cases_Bool, false≢true, leb-false, leb-true}
+use Rattle.std.proofs.lemmas.Bool.{cases_Bool, leb-false, leb-true}
 use Rattle.std.proofs.lemmas.Option.{get_or_from_slice_get, slice_get_within}
 use Rattle.std.proofs.lemmas.List.FromFn.{get_or-map-range_with_len}
 use Rattle.std.proofs.lemmas.List.Sums.{sum_by-cons, count_by-le-length}
 use Rattle.std.proofs.Math.Nat.{mul-div-le, mul-le-mul_left}
-use Rattle.mk_never.specs.Types.{kinds_of}
 use Rattle.mk_geom.specs.declared.headers.Header.{Header}
 use Rattle.mk_geom.specs.declared.headers.Header.TheVariants.{Block, Free, Later, LeafBlock, LeafRun, Run}
 use Rattle.mk_geom.specs.declared.pages.Page.{Page}
 use Rattle.mk_geom.specs.declared.pages.Place.{Place}
 use Rattle.mk_geom.specs.Classes.{cells_of, class_words_of}
-use Rattle.mk_geom.specs.Headers.{header_of, word_of}
+use Rattle.mk_geom.specs.Headers.{header_of}
 use Rattle.mk_geom.specs.PageUses.{PageUse, is_free_page, words_held_among, words_held_by}
 use Rattle.mk_geom.specs.PageWords.{bits_of, use_of_page, use_under, uses_of_pages}
 use Rattle.mk_geom.specs.Places.{MayTakeCell}
-use Rattle.mk_geom.specs.Storages.{Storage, free_page}
+use Rattle.mk_geom.specs.Storages.{free_page}
 use Rattle.mk_geom.proofs.FirstFit.{cell_place_is, run_place_is}
 use Rattle.mk_geom.proofs.HeaderLemmas.{word_of-header_of}
 use Rattle.mk_core.specs.declared.seats.Object.{Object}
 use Rattle.mk_core.specs.Bits.{has_bit}
-use Rattle.mk_core.specs.NewPlaces.{class_made, is_small_object, pages_made, place_on_pages}
+use Rattle.mk_core.specs.NewPlaces.{class_made, is_small_object, place_on_pages}
 use Rattle.mk_core.specs.ObjectHeaders.{IsSized}
 use Rattle.mk_core.proofs.Sizes.{class_for_small, large_pages, pages_some}
 use Rattle.mk_layout.specs.Scene.{header_on, used_on}

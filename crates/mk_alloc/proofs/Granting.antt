@@ -1,13 +1,12 @@
 -- A New behind its mark, its grant and its tally.
-use Rattle.std.proofs.Common.{◌≡◌, ◌≢◌, ℕ, ◌+◌, ◌*◌, ◌<◌, ◌≤◌, ◌^◌, ◌%◌, Bool, true, false, List, [], ◌∷◌, ◌++◌, length, refl, sym, ap, subst, ◌∙◌, ◌⊎◌, inl, inr, arith}
-use Rattle.std.specs.Prelude.{◌&&◌, ◌||◌, not, ◌==◌, Option, Some, None, slice_index, slice_index_or, slice_set, bit_or}
-use Rattle.std.proofs.lemmas.Bool.{and_from, or_left, or_right, cases_eq, cases_lt, eq-eqb, ne_eqb, le-leb, lt-ltb}
+use Rattle.std.proofs.Common.{◌≡◌, ℕ, ◌+◌, ◌*◌, ◌<◌, ◌≤◌, ◌^◌, ◌%◌, true, false, List, [], ◌∷◌, ◌++◌, length, refl, sym, ap, ◌∙◌, arith}
+use Rattle.std.specs.Prelude.{not, ◌==◌, Option, Some, slice_index, slice_set, bit_or}
+use Rattle.std.proofs.lemmas.Bool.{and_from, or_left, or_right, eq-eqb}
 use Rattle.std.specs.Int.Bits.{and_self}
-use Rattle.std.proofs.lemmas.List.{get_or-set_same, get_or-set_other, length-set, set_past}
+use Rattle.std.proofs.lemmas.List.{get_or-set_same}
 use Rattle.mk_geom.specs.declared.pages.Page.{Page}
 use Rattle.mk_geom.specs.declared.pages.Place.{Place}
 use Rattle.mk_geom.specs.Addresses.{address_of}
-use Rattle.mk_geom.specs.Storages.{free_page}
 use Rattle.mk_core.specs.declared.config.Config.{Config}
 use Rattle.mk_core.specs.declared.events.Seat.{Seat}
 use Rattle.mk_core.specs.declared.events.Seat.TheVariants.{Caller}
@@ -17,24 +16,22 @@ use Rattle.mk_core.specs.declared.seats.Flight.{Flight}
 use Rattle.mk_core.specs.declared.seats.Holding.{Holding}
 use Rattle.mk_core.specs.declared.seats.Object.{Object}
 use Rattle.mk_core.specs.declared.seats.Placing.{Placing}
-use Rattle.mk_core.specs.declared.seats.Placing.TheVariants.{Unplaced, Chosen, Used, Granted}
+use Rattle.mk_core.specs.declared.seats.Placing.TheVariants.{Chosen}
 use Rattle.mk_core.specs.declared.seats.Stage.TheVariants as stage
 use Rattle.mk_core.specs.Accesses.{granted_base}
 use Rattle.mk_core.specs.Allocations.{PlacedAllocation, type_made}
-use Rattle.mk_core.specs.Bits.{has_bit, without}
+use Rattle.mk_core.specs.Bits.{without}
 use Rattle.mk_core.specs.Calls.{d_of}
-use Rattle.mk_core.specs.Effects.{chosen, taken}
 use Rattle.mk_core.specs.Frames.{Steady, steady_of}
 use Rattle.mk_core.specs.History.{World, world_behind}
-use Rattle.mk_core.specs.Moments.{Moment, flight_of, is_phase}
-use Rattle.mk_core.specs.NewPlaces.{base_made, bits_made, header_made, is_undecided_new, object_made, pages_made}
+use Rattle.mk_core.specs.Moments.{flight_of, is_phase}
+use Rattle.mk_core.specs.NewPlaces.{base_made, bits_made, is_undecided_new, object_made, pages_made}
 use Rattle.mk_core.specs.StopConditions.{marks_place}
-use Rattle.mk_core.specs.TurnConditions.{is_marked_first, is_used_once, place_now}
-use Rattle.mk_core.specs.Words.{Words, header_at, phase_of, register_word, used_at}
+use Rattle.mk_core.specs.TurnConditions.{is_used_once, place_now}
+use Rattle.mk_core.specs.Words.{Words, header_at, phase_of, register_word}
 use Rattle.mk_core.proofs.WordBits.{bits_added}
 use Rattle.mk_frames.proofs.Tests.{without_on}
 use Rattle.mk_alloc.specs.Unchanged.{IsAsLeft}
-use Rattle.mk_alloc.proofs.MayAct.{off_four}
 use Rattle.mk_alloc.proofs.Unchanged.{HasCall, OfCaller, call_behind}
 use Rattle.mk_alloc.specs.Placing.{IsGrantedAt, object_at_place}
 use Rattle.mk_alloc.specs.Serving.{Carving, Serving}
@@ -131,11 +128,11 @@ granted_behind c s o place w v at (OfCaller k lt) room =
       call = call ∙ ap (λ (g : Flight). record g { stage = stage.Give }) at.call;
       placing = refl;
       steady =
-        ap (λ (x : Steady). record x { allocations = u.allocations }) at.steady
-        ∙ ap (λ n. record (steady_of w) { pages = v.now.words.pages; allocations = v.allocations ++ record { base = n; ty = type_made (flight_of v.now (Caller k)).op; freed = false; fresh = false; released = false } ∷ [] }) base
-        ∙ ap (λ (g : Flight). record (steady_of w) { pages = v.now.words.pages; allocations = v.allocations ++ record { base = base_made (object_made c f.op) place; ty = type_made g.op; freed = false; fresh = false; released = false } ∷ [] }) at.call
-        ∙ ap (λ (xs : List PlacedAllocation). record (steady_of w) { pages = v.now.words.pages; allocations = xs ++ object_at_place c f place ∷ [] }) (ap (λ (x : Steady). x.allocations) at.steady)
-        ∙ ap (λ n. record (steady_of w) { pages = v.now.words.pages; held = n; allocations = w.allocations ++ object_at_place c f place ∷ [] }) (sym (ap (λ (x : Steady). x.held) at.steady));
+          ap (λ (x : Steady). record x { allocations = u.allocations }) at.steady
+          ∙ ap (λ n. record (steady_of w) { pages = v.now.words.pages; allocations = v.allocations ++ record { base = n; ty = type_made (flight_of v.now (Caller k)).op; freed = false; fresh = false; released = false } ∷ [] }) base
+          ∙ ap (λ (g : Flight). record (steady_of w) { pages = v.now.words.pages; allocations = v.allocations ++ record { base = base_made (object_made c f.op) place; ty = type_made g.op; freed = false; fresh = false; released = false } ∷ [] }) at.call
+          ∙ ap (λ (xs : List PlacedAllocation). record (steady_of w) { pages = v.now.words.pages; allocations = xs ++ object_at_place c f place ∷ [] }) (ap (λ (x : Steady). x.allocations) at.steady)
+          ∙ ap (λ n. record (steady_of w) { pages = v.now.words.pages; held = n; allocations = w.allocations ++ object_at_place c f place ∷ [] }) (sym (ap (λ (x : Steady). x.held) at.steady));
       register = λ j is. granted_register j is;
     }
   where

@@ -1,7 +1,6 @@
 -- Looks one after the other, and a part of a turn behind looks.
-use Rattle.std.proofs.Common.{◌≡◌, ℕ, ◌+◌, ◌^◌, ◌%◌, inl, inr, Bool, true, false, List, [], ◌∷◌, ◌++◌, refl, sym, ◌∙◌, ap, subst, append-nil}
-use Rattle.std.specs.List.{list_all}
-use Rattle.std.specs.Prelude.{Option, Some}
+use Rattle.std.proofs.Common.{◌≡◌, ◌^◌, ◌%◌, inl, inr, Bool, true, List, [], ◌∷◌, ◌++◌, refl, sym, ◌∙◌, ap, subst, append-nil}
+use Rattle.std.specs.Prelude.{Some}
 use Rattle.std.proofs.lemmas.Bool.{and_from, and_parts}
 use Rattle.mk_core.specs.declared.events.Step.{Step}
 use Rattle.mk_core.specs.declared.events.Step.TheVariants as step
@@ -26,9 +25,9 @@ use Rattle.mk_core.specs.Growing.{Finding}
 use Rattle.mk_core.specs.History.{World}
 use Rattle.mk_words.specs.States.{PassState, WordsState, call_of, now_of, world_of}
 use Rattle.mk_turns.specs.Doing.{Does, are_of, done_in}
-use Rattle.mk_turns.proofs.Doing.{does_nothing, does_then}
+use Rattle.mk_turns.proofs.Doing.{does_then}
 use Rattle.mk_alloc.specs.Entries.{own_calls}
-use Rattle.mk_alloc.specs.Placing.{GoesTo, HeldIsExact, IsGranted, IsGrantedAt, IsOutOfStop, IsUnplaced, OnlyLooks, Reaches, entry_for, is_look, is_placing, object_at_place, object_for}
+use Rattle.mk_alloc.specs.Placing.{GoesTo, HeldIsExact, IsGranted, IsGrantedAt, IsOutOfStop, IsUnplaced, OnlyLooks, entry_for, is_look, is_placing, object_at_place, object_for}
 use Rattle.mk_alloc.specs.Unchanged.{IsAsLeft}
 use Rattle.mk_alloc.proofs.Reaching.{reaches_nothing, seeing}
 use Rattle.mk_alloc.proofs.Unchanged.{left_joined, left_same}

@@ -1,9 +1,8 @@
 -- What a look of the turn's holder finds, and that it leaves all as it was.
-use Rattle.std.proofs.Common.{◌≡◌, ℕ, ◌+◌, ◌<◌, ◌%◌, Bool, true, false, List, [], ◌++◌, refl, sym, ◌∙◌, ap, subst}
+use Rattle.std.proofs.Common.{◌≡◌, ℕ, ◌%◌, true, false, [], ◌++◌, refl, ◌∙◌, ap}
 use Rattle.std.specs.Prelude.{Option, slice_index_or}
 use Rattle.std.proofs.lemmas.Bool.{lt-ltb}
 use Rattle.mk_never.specs.declared.operations.Op.{Op}
-use Rattle.mk_geom.specs.declared.pages.Page.{Page}
 use Rattle.mk_geom.specs.Storages.{free_page}
 use Rattle.mk_core.specs.declared.config.Config.{Config}
 use Rattle.mk_core.specs.declared.events.Seat.{Seat}
@@ -14,24 +13,21 @@ use Rattle.mk_core.specs.declared.events.Word.TheVariants as word
 use Rattle.mk_core.specs.declared.seats.Flight.{Flight}
 use Rattle.mk_core.specs.Frames.{Steady, steady_of}
 use Rattle.mk_core.specs.History.{World, IsHistory, left, world_behind}
-use Rattle.mk_core.specs.Layout.{AreOfPages}
 use Rattle.mk_core.specs.Moments.{Moment, flight_of}
 use Rattle.mk_core.specs.Order.{seat_exists}
-use Rattle.mk_core.specs.Ranges.{is_word}
 use Rattle.mk_core.specs.Readings.{Holds}
-use Rattle.mk_core.specs.Words.{Words, header_at, named_word, phase_of, used_at}
-use Rattle.mk_protocol.proofs.Known.{Known}
+use Rattle.mk_core.specs.Words.{named_word, phase_of}
 use Rattle.mk_words.specs.Seats.{Has}
 use Rattle.mk_words.specs.States.{PassState, call_of, now_of, world_of}
 use Rattle.mk_words.specs.Steps.{Finds, may_decide, moment_of}
-use Rattle.mk_words.specs.TurnSteps.{Acts, IsTurn, world_at}
+use Rattle.mk_words.specs.TurnSteps.{Acts, IsTurn}
 use Rattle.mk_words.proofs.Made.{made}
 use Rattle.mk_alloc.specs.Looking.{is_acting, is_steady_word}
-use Rattle.mk_alloc.specs.Placing.{OnlyLooks, Reaches, is_look}
+use Rattle.mk_alloc.specs.Placing.{OnlyLooks, is_look}
 use Rattle.mk_alloc.specs.Unchanged.{IsAsLeft}
-use Rattle.mk_alloc.proofs.MayAct.{IsActing, may_look, may_look_phase}
+use Rattle.mk_alloc.proofs.MayAct.{IsActing}
 use Rattle.mk_alloc.proofs.Reaching.{GoesOn, IsCallers, reaches_nothing, reaches_still}
-use Rattle.mk_alloc.proofs.Unchanged.{IsPlain, OfFresh, OfHead, OfHeld, OfPhase, OfUsed, acting_has_call, left_joined, left_same, look_leaves, steady_is_plain}
+use Rattle.mk_alloc.proofs.Unchanged.{IsPlain, OfFresh, OfHead, OfHeld, OfPhase, OfUsed, acting_has_call, left_joined, left_same, look_leaves}
 
 -- Who holds the turn exists, and is a caller where it is acting.
 

@@ -1,38 +1,31 @@
 -- The turn's holder serves its New, step by step.
-use Rattle.std.proofs.Common.{◌≡◌, ◌≢◌, ℕ, ◌+◌, ◌*◌, ◌<◌, ◌≤◌, ◌^◌, Bool, true, false, List, [], ◌∷◌, ◌++◌, length, refl, sym, ◌∙◌, ap, subst, inl, inr, ◌⊎◌, arith}
-use Rattle.std.specs.Prelude.{Option, Some, None, slice_index_or}
-use Rattle.std.specs.Int.{bit_at}
-use Rattle.std.proofs.lemmas.Bool.{cases_Bool, cases_eq}
+use Rattle.std.proofs.Common.{◌≡◌, ◌≢◌, ℕ, ◌+◌, ◌<◌, true, false, List, [], length, refl, sym, ◌∙◌, ap, subst, inl, inr, ◌⊎◌, arith}
+use Rattle.std.specs.Prelude.{Option, Some, slice_index_or}
+use Rattle.std.proofs.lemmas.Bool.{cases_eq}
 use Rattle.mk_never.specs.declared.operations.Op.{Op}
 use Rattle.mk_geom.specs.declared.pages.Page.{Page}
 use Rattle.mk_geom.specs.declared.pages.Place.{Place}
 use Rattle.mk_geom.specs.Storages.{free_page}
-use Rattle.mk_geom.specs.Classes.{cells_of}
 use Rattle.mk_core.specs.declared.config.Config.{Config}
-use Rattle.mk_core.specs.declared.events.Event.{Event}
 use Rattle.mk_core.specs.declared.events.Seat.{Seat}
-use Rattle.mk_core.specs.declared.events.Seat.TheVariants.{Caller, Host, Marker}
-use Rattle.mk_core.specs.declared.events.Step.{Step}
 use Rattle.mk_core.specs.declared.events.Step.TheVariants as step
 use Rattle.mk_core.specs.declared.seats.Flight.{Flight}
-use Rattle.mk_core.specs.declared.seats.Holding.{Holding}
 use Rattle.mk_core.specs.declared.seats.Object.{Object}
 use Rattle.mk_core.specs.declared.seats.Placing.{Placing}
 use Rattle.mk_core.specs.declared.seats.Placing.TheVariants.{Unplaced}
 use Rattle.mk_core.specs.Bits.{has_bit}
-use Rattle.mk_core.specs.Frames.{Steady, steady_of}
-use Rattle.mk_core.specs.History.{World, IsHistory, left, world_behind}
-use Rattle.mk_core.specs.Layout.{AreOfPages}
+use Rattle.mk_core.specs.Frames.{Steady}
+use Rattle.mk_core.specs.History.{World, IsHistory, left}
 use Rattle.mk_core.specs.Moments.{Moment, flight_of}
 use Rattle.mk_core.specs.NewPlaces.{bits_made, header_made, is_undecided_new, object_made, pages_made, place_in, place_on_pages}
-use Rattle.mk_core.specs.ObjectHeaders.{IsSized, cells_made}
+use Rattle.mk_core.specs.ObjectHeaders.{IsSized}
 use Rattle.mk_core.specs.TurnConditions.{is_used_once, place_now}
 use Rattle.mk_core.specs.Words.{header_at, phase_of, used_at}
 use Rattle.mk_core.proofs.Lengths.{histories_keep_lengths}
 use Rattle.mk_core.proofs.ObjectHeaders.{made_is_mapped, made_shows, part_not_free}
 use Rattle.mk_core.proofs.Sizes.{pages_some, small_pages}
 use Rattle.mk_core.proofs.WordBits.{no_bit}
-use Rattle.mk_protocol.proofs.Known.{Known, known_left}
+use Rattle.mk_protocol.proofs.Known.{known_left}
 use Rattle.mk_layout.proofs.Fits.{FitsInBlock, FitsOnFreePages, fits}
 use Rattle.mk_layout.proofs.Holders.{made_sized}
 use Rattle.mk_layout.proofs.Readings.{free_unused}
@@ -45,16 +38,16 @@ use Rattle.mk_words.specs.States.{PassState, call_of, now_of, world_of}
 use Rattle.mk_words.specs.Steps.{IsEnabledTo}
 use Rattle.mk_words.specs.TurnSteps.{Acts, IsTurn}
 use Rattle.mk_alloc.specs.Looking.{is_acting}
-use Rattle.mk_alloc.specs.Placing.{GoesTo, HasCarved, IsOutOfStop, IsUnplaced, MayTake, Reaches, is_placing, object_for}
+use Rattle.mk_alloc.specs.Placing.{GoesTo, HasCarved, IsOutOfStop, MayTake, is_placing, object_for}
 use Rattle.mk_alloc.specs.Serving.{Carving, IsReady, Serving}
 use Rattle.mk_alloc.specs.Unchanged.{IsAsLeft}
 use Rattle.mk_alloc.proofs.FoundPlaces.{found_clear}
 use Rattle.mk_alloc.proofs.Granting.{carving_marked, carving_unmarked, serving_marks}
-use Rattle.mk_alloc.proofs.Looks.{acting_caller, acting_now, still_acting}
+use Rattle.mk_alloc.proofs.Looks.{acting_caller, acting_now}
 use Rattle.mk_alloc.proofs.MayAct.{IsActing, may_carve, may_mark_place, new_is_acting}
-use Rattle.mk_alloc.proofs.Reaching.{GoesOn, IsCallers, reaches_nothing, reaches_still, seeing}
+use Rattle.mk_alloc.proofs.Reaching.{IsCallers, reaches_nothing, reaches_still}
 use Rattle.mk_alloc.proofs.Serving.{carving_carves, carving_left, carving_more, ready_carved, serving_left}
-use Rattle.mk_alloc.proofs.Unchanged.{HasCall, acting_has_call, left_same}
+use Rattle.mk_alloc.proofs.Unchanged.{acting_has_call}
 
 -- What is known of the place before the first step that serves.
 pub record KnowsPlace (p : PassState) (place : Place) : Type 0 where

@@ -1,6 +1,6 @@
 -- A New while it is served: how far its pages are, step by step.
-use Rattle.std.proofs.Common.{◌≡◌, ◌≢◌, ℕ, ◌+◌, ◌-◌, ◌<◌, ◌≤◌, ◌^◌, ◌%◌, Bool, true, false, List, length, refl, sym, ap, subst, ◌∙◌, ◌⊎◌, inl, inr, arith}
-use Rattle.std.specs.Prelude.{◌&&◌, not, nat_le, nat_lt, ◌==◌, Option, Some, None, slice_index, slice_index_or, slice_set}
+use Rattle.std.proofs.Common.{◌≡◌, ◌≢◌, ℕ, ◌+◌, ◌-◌, ◌<◌, ◌^◌, ◌%◌, true, false, List, length, refl, sym, ap, ◌∙◌, inl, inr, arith}
+use Rattle.std.specs.Prelude.{not, ◌==◌, Option, Some, slice_index, slice_index_or, slice_set}
 use Rattle.std.proofs.lemmas.Bool.{and_from, cases_eq, cases_lt, eq-eqb, ne_eqb, le-leb, lt-ltb}
 use Rattle.std.proofs.lemmas.List.{get_or-set_same, get_or-set_other, length-set, set_past}
 use Rattle.mk_geom.specs.declared.pages.Page.{Page}
@@ -8,7 +8,6 @@ use Rattle.mk_geom.specs.declared.pages.Place.{Place}
 use Rattle.mk_geom.specs.Storages.{free_page}
 use Rattle.mk_core.specs.declared.config.Config.{Config}
 use Rattle.mk_core.specs.declared.events.Seat.{Seat}
-use Rattle.mk_core.specs.declared.events.Seat.TheVariants.{Caller}
 use Rattle.mk_core.specs.declared.events.Step.TheVariants as step
 use Rattle.mk_core.specs.declared.seats.Flight.{Flight}
 use Rattle.mk_core.specs.declared.seats.Holding.{Holding}
@@ -20,10 +19,10 @@ use Rattle.mk_core.specs.Effects.{chosen, taken}
 use Rattle.mk_core.specs.Frames.{Steady, steady_of}
 use Rattle.mk_core.specs.History.{World, world_behind}
 use Rattle.mk_core.specs.Moments.{Moment, flight_of, is_phase}
-use Rattle.mk_core.specs.NewPlaces.{bits_made, header_made, is_next_header, is_undecided_new, object_made, pages_made, place_in, place_stands, stands}
+use Rattle.mk_core.specs.NewPlaces.{bits_made, header_made, is_next_header, is_undecided_new, object_made, pages_made, place_in, stands}
 use Rattle.mk_core.specs.ObjectHeaders.{IsSized}
 use Rattle.mk_core.specs.TurnConditions.{carves, is_marked_first, is_used_once, place_now, takes_cell}
-use Rattle.mk_core.specs.Words.{Words, header_at, page_of, used_at}
+use Rattle.mk_core.specs.Words.{Words, header_at, used_at}
 use Rattle.mk_core.proofs.ObjectHeaders.{made_shows, part_not_free}
 use Rattle.mk_frames.proofs.Tests.{all_below_from, or_on, without_on}
 use Rattle.mk_alloc.specs.Placing.{IsOutOfStop}
@@ -226,5 +225,5 @@ taken_behind c s o place w v p value at (OfCaller k lt) low =
       object = ap (λ (f : Flight). object_made c f.op) call ∙ at.object;
       steady = ap (λ (x : Steady). record x { pages = u.now.words.pages }) at.steady;
       placing = let took : taken v.now.seats.holding.placing (place_now c v.now (flight_of v.now s)) ≡ Used place =
-      ap (λ (x : Option Place). taken v.now.seats.holding.placing x) at.placed in rw (off_four v.now low) took;
+          ap (λ (x : Option Place). taken v.now.seats.holding.placing x) at.placed in rw (off_four v.now low) took;
     }

@@ -1,38 +1,32 @@
 -- The turn's holder takes the cell of its New's place, grants the object and counts it.
-use Rattle.std.proofs.Common.{◌≡◌, ◌≢◌, ℕ, ◌+◌, ◌*◌, ◌<◌, ◌≤◌, ◌^◌, ◌%◌, Bool, true, false, List, [], ◌∷◌, ◌++◌, length, refl, sym, ◌∙◌, ap, subst, inl, inr, ◌⊎◌, arith, min}
-use Rattle.std.specs.Prelude.{◌==◌, Option, Some, None, bit_or, bit_and, nat_lt, if◌then◌else◌}
+use Rattle.std.proofs.Common.{◌≡◌, ℕ, ◌+◌, ◌*◌, ◌<◌, ◌≤◌, ◌^◌, ◌%◌, true, false, List, [], ◌∷◌, ◌++◌, length, refl, sym, ◌∙◌, ap, subst, inl, inr, arith, min}
+use Rattle.std.specs.Prelude.{◌==◌, Some, bit_or, bit_and, nat_lt}
 use Rattle.std.specs.Int.{bit_at}
-use Rattle.std.proofs.lemmas.Bool.{cases_Bool, cases_eq, ltb-true, cond-true, cond-false, true≢false}
+use Rattle.std.proofs.lemmas.Bool.{cases_Bool, cases_eq, ltb-true, cond-true, cond-false}
 use Rattle.std.proofs.lemmas.Nat.{or_disjoint}
 use Rattle.std.proofs.lemmas.Nat.Bits.{bit_at_and}
 use Rattle.std.proofs.Math.Nat.{div-le_self}
-use Rattle.mk_never.specs.declared.operations.Op.{Op}
-use Rattle.mk_geom.specs.declared.pages.Page.{Page}
 use Rattle.mk_geom.specs.declared.pages.Place.{Place}
 use Rattle.mk_geom.specs.Classes.{cells_of, class_words_of}
 use Rattle.mk_core.specs.declared.config.Config.{Config}
-use Rattle.mk_core.specs.declared.events.Answer.{Answer}
 use Rattle.mk_core.specs.declared.events.Answer.TheVariants as answer
-use Rattle.mk_core.specs.declared.events.Event.{Event}
 use Rattle.mk_core.specs.declared.events.Seat.{Seat}
 use Rattle.mk_core.specs.declared.events.Seat.TheVariants.{Caller}
-use Rattle.mk_core.specs.declared.events.Step.{Step}
 use Rattle.mk_core.specs.declared.events.Step.TheVariants as step
 use Rattle.mk_core.specs.declared.events.Tally.TheVariants as tally
 use Rattle.mk_core.specs.declared.seats.Flight.{Flight}
 use Rattle.mk_core.specs.declared.seats.Object.{Object}
-use Rattle.mk_core.specs.declared.seats.Stage.TheVariants as stage
 use Rattle.mk_core.specs.Accesses.{caller_number}
-use Rattle.mk_core.specs.Allocations.{PlacedAllocation, granted, held_words, storage_words}
+use Rattle.mk_core.specs.Allocations.{PlacedAllocation, held_words, storage_words}
 use Rattle.mk_core.specs.Bits.{bit_for, has_bit}
 use Rattle.mk_core.specs.Calls.{d_of, has_operands}
-use Rattle.mk_core.specs.Decided.{Decided, entry_of}
+use Rattle.mk_core.specs.Decided.{entry_of}
 use Rattle.mk_core.specs.Effects.{answer_decided}
-use Rattle.mk_core.specs.Frames.{Steady, steady_of}
-use Rattle.mk_core.specs.History.{IsAdmittedBehind, IsHistory, World, left, world_behind}
+use Rattle.mk_core.specs.Frames.{Steady}
+use Rattle.mk_core.specs.History.{IsAdmittedBehind, IsHistory, World, left}
 use Rattle.mk_core.specs.Layout.{AreOfPages}
-use Rattle.mk_core.specs.Moments.{Moment, flight_of}
-use Rattle.mk_core.specs.NewPlaces.{class_made, is_small_object, is_undecided_new, object_made}
+use Rattle.mk_core.specs.Moments.{flight_of}
+use Rattle.mk_core.specs.NewPlaces.{class_made, is_small_object, is_undecided_new}
 use Rattle.mk_core.specs.ObjectHeaders.{cells_made, words_made}
 use Rattle.mk_core.specs.Order.{seat_exists}
 use Rattle.mk_core.specs.TurnConditions.{is_used_once}
@@ -43,19 +37,18 @@ use Rattle.mk_layout.specs.SettledPages.{IsSettled}
 use Rattle.mk_placement.proofs.Tracked.{unplaced_settles}
 use Rattle.mk_protocol.proofs.Known.{Known, known_left}
 use Rattle.mk_words.specs.Seats.{Has}
-use Rattle.mk_words.specs.States.{PassState, call_of, event_of, now_of, world_of}
+use Rattle.mk_words.specs.States.{PassState, call_of, now_of, world_of}
 use Rattle.mk_words.specs.Steps.{IsAdmittedTo, IsEnabledTo}
 use Rattle.mk_words.specs.TurnSteps.{Acts}
 use Rattle.mk_alloc.specs.Looking.{is_acting}
 use Rattle.mk_alloc.specs.Placing.{GoesTo, HeldIsExact, IsGrantedAt, IsOutOfStop, IsUnplaced, MayTake, Reaches, entry_for, is_placing, object_at_place, object_for}
-use Rattle.mk_alloc.specs.Serving.{IsReady, Serving}
-use Rattle.mk_alloc.specs.Unchanged.{IsAsLeft}
+use Rattle.mk_alloc.specs.Serving.{IsReady}
 use Rattle.mk_alloc.proofs.AdmittedNews.{grant_admitted, register_small}
 use Rattle.mk_alloc.proofs.Granting.{granted_behind, granted_left, tallied_behind}
 use Rattle.mk_alloc.proofs.HeldMore.{held_is_little, held_one_more}
 use Rattle.mk_alloc.proofs.MayAct.{IsActing, may_grant, may_take, may_tally, off_four}
-use Rattle.mk_alloc.proofs.Reaching.{IsCallers, StepsTo, reaches_on, reaches_still}
-use Rattle.mk_alloc.proofs.Serves.{KnowsPlace, block_of, free_pages_of, out_of_stop, place_unused, served_acting, served_new}
+use Rattle.mk_alloc.proofs.Reaching.{IsCallers, reaches_on, reaches_still}
+use Rattle.mk_alloc.proofs.Serves.{KnowsPlace, block_of, free_pages_of, out_of_stop, place_unused, served_acting}
 use Rattle.mk_alloc.proofs.Serving.{IsTakenAt, ready_left, ready_takes, taken_behind, taken_left}
 use Rattle.mk_alloc.proofs.Unchanged.{acting_has_call}
 

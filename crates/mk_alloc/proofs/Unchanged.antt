@@ -1,25 +1,19 @@
 -- What stays as it was: behind looks, and one part after the other.
-use Rattle.std.proofs.Common.{◌≡◌, ℕ, ◌<◌, Bool, true, false, List, length, refl, sym, ap, subst, ◌∙◌, arith}
-use Rattle.std.specs.Prelude.{Option, slice_index_or, slice_set}
+use Rattle.std.proofs.Common.{◌≡◌, ℕ, ◌<◌, true, length, refl, sym, subst, ◌∙◌}
 use Rattle.std.proofs.lemmas.List.{get_or-set_same}
 use Rattle.std.proofs.lemmas.Bool.{ltb-true}
-use Rattle.mk_geom.specs.declared.pages.Page.{Page}
 use Rattle.mk_core.specs.declared.config.Config.{Config}
-use Rattle.mk_core.specs.declared.events.Event.{Event}
 use Rattle.mk_core.specs.declared.events.Seat.{Seat}
 use Rattle.mk_core.specs.declared.events.Seat.TheVariants.{Caller, Host, Marker}
 use Rattle.mk_core.specs.declared.events.Step.{Step}
 use Rattle.mk_core.specs.declared.events.Step.TheVariants as step
 use Rattle.mk_core.specs.declared.events.Word.{Word}
 use Rattle.mk_core.specs.declared.events.Word.TheVariants as word
-use Rattle.mk_core.specs.declared.seats.Flight.{Flight}
 use Rattle.mk_core.specs.Accesses.{found}
 use Rattle.mk_core.specs.Calls.{at_rest}
 use Rattle.mk_core.specs.Effects.{moment_behind, progress}
-use Rattle.mk_core.specs.Frames.{Steady, steady_of}
 use Rattle.mk_core.specs.History.{World, world_behind}
 use Rattle.mk_core.specs.Moments.{Moment, flight_of}
-use Rattle.mk_core.specs.NewPlaces.{is_undecided_new}
 use Rattle.mk_core.specs.Order.{seat_exists}
 use Rattle.mk_protocol.proofs.Growth.{grows_same, grows_joined}
 use Rattle.mk_alloc.specs.Looking.{is_acting, is_steady_word}

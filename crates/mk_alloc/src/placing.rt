@@ -70,7 +70,15 @@ fn make_ready(words: &Words, turn: &mut Turn, shape: Shape, place: Place, page: 
 }
 
 /// Gives the object its place.
-fn serve(words: &Words, turn: &mut Turn, shape: Shape, place: Place, page: Page, marking: bool, held: u64)
+fn serve(
+    words: &Words,
+    turn: &mut Turn,
+    shape: Shape,
+    place: Place,
+    page: Page,
+    marking: bool,
+    held: u64,
+)
     requires one_table { turn.old.pass.table ≡ words.now }
     requires shape { object_shaped shape ≡ object_for turn.old.pass }
     requires goes { GoesTo turn.old.pass place }

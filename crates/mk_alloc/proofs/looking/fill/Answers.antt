@@ -1,10 +1,9 @@
-use Rattle.std.proofs.Common.{◌≡◌, ℕ, ◌<◌, refl, sym, ◌∙◌, ap, arith, length}
+use Rattle.std.proofs.Common.{◌<◌, refl, ◌∙◌, ap, arith, length}
 use Rattle.std.proofs.Common.{List}
 use Rattle.std.specs.Prelude.{slice_index_or}
 use Rattle.mk_geom.specs.Storages.{free_page}
 use Rattle.std.proofs.lemmas.List.{length-set}
 use Rattle.mk_geom.specs.declared.pages.Page.{Page}
-use Rattle.mk_core.specs.Words.{page_of}
 use Rattle.mk_core.proofs.Lengths.{histories_keep_lengths}
 use Rattle.mk_words.specs.States.{PassState, WordsState, now_of}
 use Rattle.mk_alloc.proofs.FilledBooks.{all_filled, filled_more, page_found}

@@ -1,8 +1,3 @@
-use Rattle.std.proofs.Common.{◌≡◌, ℕ, ◌<◌, length}
-use Rattle.std.specs.Prelude.{slice_index_or}
-use Rattle.mk_geom.specs.Storages.{free_page}
-use Rattle.mk_core.specs.Words.{page_of}
-use Rattle.mk_words.specs.States.{now_of}
 use Rattle.mk_alloc.proofs.FilledBooks.{IsFilledTo}
 use Rattle.mk_alloc.proofs.looking.fill.Given as goal
 

@@ -1,4 +1,3 @@
-use Rattle.std.proofs.Common.{true, refl}
 use Rattle.mk_alloc.proofs.Looks.{acting_now, found_steady, look_reaches}
 use Rattle.mk_alloc.proofs.MayAct.{may_look}
 use Rattle.mk_alloc.proofs.Unchanged.{steady_is_plain}

@@ -1,4 +1,3 @@
-use Rattle.std.proofs.Common.{true, refl}
 use Rattle.mk_alloc.proofs.Looks.{acting_now, found_phase, look_reaches}
 use Rattle.mk_alloc.proofs.MayAct.{may_look_phase}
 use Rattle.mk_alloc.proofs.Unchanged.{OfPhase}

@@ -1,9 +1,9 @@
-use Rattle.std.proofs.Common.{◌≡◌, ℕ, ◌<◌, ◌+◌, refl, sym, ◌∙◌, ap, subst, arith}
+use Rattle.std.proofs.Common.{◌≡◌, ◌<◌, ◌+◌, sym, ◌∙◌, ap, subst, arith}
 use Rattle.mk_core.specs.declared.events.Step.TheVariants as step
 use Rattle.mk_core.specs.declared.seats.Object.{Object}
 use Rattle.mk_core.specs.NewPlaces.{header_made, pages_made}
 use Rattle.mk_core.specs.ObjectHeaders.{IsSized}
-use Rattle.mk_words.specs.States.{PassState, now_of}
+use Rattle.mk_words.specs.States.{PassState}
 use Rattle.mk_words.specs.Steps.{IsEnabledTo}
 use Rattle.mk_words.specs.TurnSteps.{Acts}
 use Rattle.mk_alloc.specs.Placing.{HasCarved, object_for}

@@ -1,5 +1,3 @@
-use Rattle.std.proofs.Common.{◌≡◌}
-use Rattle.mk_alloc.specs.Placing.{HasCarved}
 use Rattle.mk_alloc.proofs.CarvedPages.{IsCarvedTo}
 use Rattle.mk_alloc.proofs.placing.carve.Given as goal
 

@@ -1,4 +1,4 @@
-use Rattle.std.proofs.Common.{◌≡◌, ◌≢◌, refl, sym, ◌∙◌, ap}
+use Rattle.std.proofs.Common.{◌∙◌, ap}
 use Rattle.mk_geom.specs.declared.pages.Page.{Page}
 use Rattle.mk_words.specs.States.{PassState}
 use Rattle.mk_alloc.proofs.Serves.{block_ready, knows_place}

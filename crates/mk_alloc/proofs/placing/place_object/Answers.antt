@@ -1,12 +1,10 @@
-use Rattle.std.proofs.Common.{◌≡◌, ℕ, ◌<◌, ◌*◌, List, length, refl, sym, ◌∙◌, ap, subst, arith}
-use Rattle.std.specs.Prelude.{Option, Some, None, slice_index_or}
+use Rattle.std.proofs.Common.{◌<◌, List, length, sym, ◌∙◌, ap, subst, arith}
+use Rattle.std.specs.Prelude.{Some, None}
 use Rattle.mk_geom.specs.declared.pages.Page.{Page}
-use Rattle.mk_geom.specs.declared.pages.Place.{Place}
-use Rattle.mk_geom.specs.Storages.{free_page}
 use Rattle.mk_core.proofs.Lengths.{histories_keep_lengths}
-use Rattle.mk_words.specs.States.{PassState, now_of}
-use Rattle.mk_alloc.proofs.JoinedLooks.{granted_behind_looks, looks_exact, looks_object, looks_pages}
-use Rattle.mk_alloc.proofs.PlacedNews.{fit_found, fit_within, goes_behind, place_found, shape_asked, type_asked}
+use Rattle.mk_words.specs.States.{PassState}
+use Rattle.mk_alloc.proofs.JoinedLooks.{granted_behind_looks}
+use Rattle.mk_alloc.proofs.PlacedNews.{fit_found, fit_within, place_found, shape_asked, type_asked}
 use Rattle.mk_alloc.proofs.placing.place_object.Goals as goal
 
 pub shape_asked-shape-requires : goal.shape_asked-shape-requires

@@ -1,4 +1,4 @@
-use Rattle.std.proofs.Common.{◌≡◌, ℕ, ◌<◌, ◌+◌, ◌^◌, refl, sym, ◌∙◌, ap, subst, arith}
+use Rattle.std.proofs.Common.{◌≡◌, ◌+◌, sym, ◌∙◌, ap, subst, arith}
 use Rattle.mk_geom.specs.declared.pages.Page.{Page}
 use Rattle.mk_core.specs.declared.events.Step.TheVariants as step
 use Rattle.mk_core.specs.declared.seats.Object.{Object}
@@ -7,11 +7,10 @@ use Rattle.mk_core.specs.Words.{used_at}
 use Rattle.mk_core.proofs.Sizes.{words_within}
 use Rattle.mk_words.specs.States.{PassState, now_of}
 use Rattle.mk_words.specs.Steps.{IsEnabledTo}
-use Rattle.mk_words.specs.TurnSteps.{Acts}
 use Rattle.mk_alloc.specs.Placing.{object_for}
 use Rattle.mk_core.specs.Bits.{has_bit}
-use Rattle.mk_alloc.proofs.Serves.{KnowsPlace, knows_place, place_unused}
-use Rattle.mk_alloc.proofs.Takes.{HasCounted, HasGranted, HasTaken, counted, counted_held, few_held, grant_admits, grant_may, grant_on, one_bit_more, small_index, tally_may, tally_on, used_may, used_on}
+use Rattle.mk_alloc.proofs.Serves.{knows_place, place_unused}
+use Rattle.mk_alloc.proofs.Takes.{counted, counted_held, few_held, grant_admits, grant_may, grant_on, one_bit_more, small_index, tally_may, tally_on, used_may, used_on}
 use Rattle.mk_alloc.proofs.placing.serve.Goals as goal
 
 pub overflow_shl-place : goal.overflow_shl-place
