@@ -14,3 +14,4 @@ pub mod Serves
 pub mod Takes
 pub mod CarvedPages
 pub mod PlacedNews
+pub mod FreedCells
