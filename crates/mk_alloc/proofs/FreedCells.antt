@@ -77,7 +77,8 @@ module _ (c : Config) (w : World) (n : NeverState) (known : KnownWorld c w) (oth
       let f = flight_of w.now (Caller k) in
       points_by k f.stage f.op f.q f.p f.r f.loaded undecided (ready.images.carried k)
 
-pub free_points_at : (c : Config) (es : List Event) (k : ℕ) → IsHistory c es → is_undecided_free (flight_of (left c es).now (Caller k)) ≡ true
+pub free_points_at : (c : Config) (es : List Event) (k : ℕ) → IsHistory c es
+    → is_undecided_free (flight_of (left c es).now (Caller k)) ≡ true
     → PointsAt c (left c es) (never_behind c es) k (flight_of (left c es).now (Caller k))
 free_points_at c es k h undecided =
     let known = known_world c es h.within_limits h.enabled in

@@ -80,7 +80,14 @@ OnlyLooks p q = Reaches is_look p (IsAsLeft p.seat (world_of p)) [] q
 
 -- the object that a grant at a place adds to the allocations
 abbrev pub object_at_place : Config → Flight → Place → PlacedAllocation
-object_at_place c f place = record { base = base_made (object_made c f.op) place; ty = type_made f.op; freed = false; fresh = false; released = false }
+object_at_place c f place = record {
+  base = base_made
+      (object_made c f.op) place;
+  ty = type_made f.op;
+  freed = false;
+  fresh = false;
+  released = false;
+}
 
 -- Between these worlds the New was granted its object at this place: its call is decided, the object is an allocation
 -- more, its address is in the register, and all else that none but the holder changes, but pages and the tally of held
