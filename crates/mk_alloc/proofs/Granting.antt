@@ -138,7 +138,17 @@ granted_behind c s o place w v at (OfCaller k lt) room =
       steady =
           ap (λ (x : Steady). record x { allocations = u.allocations }) at.steady
           ∙ ap (λ n. record
-          (steady_of w) { pages = v.now.words.pages; allocations = v.allocations ++ record { base = n; ty = type_made (flight_of v.now (Caller k)).op; freed = false; fresh = false; released = false } ∷ [] }) base
+          (steady_of w) {
+            pages = v.now.words.pages;
+            allocations = v.allocations ++
+                record {
+                  base = n;
+                  ty = type_made (flight_of v.now (Caller k)).op;
+                  freed = false;
+                  fresh = false;
+                  released = false;
+                } ∷ [];
+          }) base
           ∙ ap (λ (g : Flight). record
           (steady_of w) {
             pages = v.now.words.pages;
@@ -155,7 +165,12 @@ granted_behind c s o place w v at (OfCaller k lt) room =
           (steady_of w) { pages = v.now.words.pages; allocations = xs ++ object_at_place c f place ∷ [] })
           (ap (λ (x : Steady). x.allocations) at.steady)
           ∙ ap (λ n. record
-          (steady_of w) { pages = v.now.words.pages; held = n; allocations = w.allocations ++ object_at_place c f place ∷ [] }) (sym (ap (λ (x : Steady). x.held) at.steady));
+          (steady_of w) {
+            pages = v.now.words.pages;
+            held = n;
+            allocations = w.allocations ++ object_at_place c f
+                place ∷ [];
+          }) (sym (ap (λ (x : Steady). x.held) at.steady));
       register = λ j is. granted_register j is;
     }
   where

@@ -89,7 +89,12 @@ granted_over c s place w u v a b =
       steady = b.steady
           ∙ ap (λ (x : Steady). record x { pages = v.now.words.pages; held = v.now.words.held; allocations = x.allocations ++ object_at_place c (flight_of u.now s) place ∷ [] }) a.steady
           ∙ ap (λ (f : Flight). record
-          (steady_of w) { pages = v.now.words.pages; held = v.now.words.held; allocations = w.allocations ++ object_at_place c f place ∷ [] }) a.call;
+          (steady_of w) {
+            pages = v.now.words.pages;
+            held = v.now.words.held;
+            allocations = w.allocations ++
+                object_at_place c f place ∷ [];
+          }) a.call;
       register = λ k is.
           ap (λ (f : Flight). register_word v.now.words k (d_of f.op)) (sym a.call) ∙ b.register k is
           ∙ ap (λ (f : Flight). address_of (base_made (object_made c f.op) place) % 2 ^ 64) a.call;

@@ -35,7 +35,8 @@ loop-page-preserved c =
       filled = λ k lt.
           ap (λ (ps : List Page). slice_index_or ps k free_page) c.set.ensures
           ∙ filled_more (now_of p).words.pages c.loop-page.book c.loop-page.page x within
-          (page_found p c.loop-page.turn.pass c.look_at-header.new.turn.pass c.loop-page.page x.header x.used i.looks a c.look_at-header.ensures.finds c.look_at-used.ensures.finds)
+          (page_found p c.loop-page.turn.pass c.look_at-header.new.turn.pass c.loop-page.page x.header x.used i.looks
+          a c.look_at-header.ensures.finds c.look_at-used.ensures.finds)
           i.filled k lt;
     }
 

@@ -34,7 +34,8 @@ pub grant-requires-clause-enabled : goal.grant-requires-clause-enabled
 grant-requires-clause-enabled c =
     let p : PassState = c.args.turn.now.pass in
     let k = knows_place p c.args.turn.now.op c.args.place c.is_in_order.ensures.turn c.is_in_order.ensures.history c.requires.goes in
-    let taken = used_on p c.args.place c.requires.goes k c.make_ready.new.turn.pass c.used.new.self.pass _ c.make_ready.ensures.ready c.used.ensures.acts
+    let taken = used_on p c.args.place c.requires.goes k c.make_ready.new.turn.pass c.used.new.self.pass _
+    c.make_ready.ensures.ready c.used.ensures.acts
     c.is_in_order-2.ensures.own c.is_in_order-3.ensures.history in
     grant_may p c.args.place c.requires.goes k c.used.new.self.pass taken
 
@@ -42,7 +43,8 @@ pub grant-requires-clause-admitted : goal.grant-requires-clause-admitted
 grant-requires-clause-admitted c =
     let p : PassState = c.args.turn.now.pass in
     let k = knows_place p c.args.turn.now.op c.args.place c.is_in_order.ensures.turn c.is_in_order.ensures.history c.requires.goes in
-    let taken = used_on p c.args.place c.requires.goes k c.make_ready.new.turn.pass c.used.new.self.pass _ c.make_ready.ensures.ready c.used.ensures.acts
+    let taken = used_on p c.args.place c.requires.goes k c.make_ready.new.turn.pass c.used.new.self.pass _
+    c.make_ready.ensures.ready c.used.ensures.acts
     c.is_in_order-2.ensures.own c.is_in_order-3.ensures.history in
     grant_admits p c.args.place c.requires.goes k c.used.new.self.pass taken c.is_in_order-3.ensures.history c.is_in_order.ensures.history
 
@@ -68,9 +70,11 @@ tally-requires-clause-enabled c =
     let p : PassState = c.args.turn.now.pass in
     let h = c.is_in_order.ensures.history in
     let k = knows_place p c.args.turn.now.op c.args.place c.is_in_order.ensures.turn h c.requires.goes in
-    let taken = used_on p c.args.place c.requires.goes k c.make_ready.new.turn.pass c.used.new.self.pass _ c.make_ready.ensures.ready c.used.ensures.acts
+    let taken = used_on p c.args.place c.requires.goes k c.make_ready.new.turn.pass c.used.new.self.pass _
+    c.make_ready.ensures.ready c.used.ensures.acts
     c.is_in_order-2.ensures.own c.is_in_order-3.ensures.history in
-    let granted = grant_on p c.args.place c.requires.goes k c.used.new.self.pass c.grant.new.self.pass taken c.grant.ensures.acts c.is_in_order-3.ensures.own
+    let granted = grant_on p c.args.place c.requires.goes k c.used.new.self.pass c.grant.new.self.pass taken
+    c.grant.ensures.acts c.is_in_order-3.ensures.own
     c.is_in_order-4.ensures.history h in
     tally_may p c.args.place c.requires.goes k c.grant.new.self.pass _ granted
 
@@ -80,13 +84,16 @@ returns-clause-granted c =
     let p : PassState = c.args.turn.now.pass in
     let h = c.is_in_order.ensures.history in
     let k = knows_place p c.args.turn.now.op c.args.place c.is_in_order.ensures.turn h c.requires.goes in
-    let taken = used_on p c.args.place c.requires.goes k c.make_ready.new.turn.pass c.used.new.self.pass _ c.make_ready.ensures.ready c.used.ensures.acts
+    let taken = used_on p c.args.place c.requires.goes k c.make_ready.new.turn.pass c.used.new.self.pass _
+    c.make_ready.ensures.ready c.used.ensures.acts
     c.is_in_order-2.ensures.own c.is_in_order-3.ensures.history in
-    let granted = grant_on p c.args.place c.requires.goes k c.used.new.self.pass c.grant.new.self.pass taken c.grant.ensures.acts c.is_in_order-3.ensures.own
+    let granted = grant_on p c.args.place c.requires.goes k c.used.new.self.pass c.grant.new.self.pass taken
+    c.grant.ensures.acts c.is_in_order-3.ensures.own
     c.is_in_order-4.ensures.history h in
     let n = c.args.held + c.storage.result in
     counted p c.args.place c.requires.goes k c.tally.new.self.pass n
-    (tally_on p c.args.place c.requires.goes k c.grant.new.self.pass c.tally.new.self.pass n granted c.tally.ensures.acts c.is_in_order-4.ensures.own
+    (tally_on p c.args.place c.requires.goes k c.grant.new.self.pass c.tally.new.self.pass n granted
+    c.tally.ensures.acts c.is_in_order-4.ensures.own
     c.is_in_order-5.ensures.history h)
 
 pub returns-clause-held : goal.returns-clause-held
@@ -94,9 +101,11 @@ returns-clause-held c =
     let p : PassState = c.args.turn.now.pass in
     let h = c.is_in_order.ensures.history in
     let k = knows_place p c.args.turn.now.op c.args.place c.is_in_order.ensures.turn h c.requires.goes in
-    let taken = used_on p c.args.place c.requires.goes k c.make_ready.new.turn.pass c.used.new.self.pass _ c.make_ready.ensures.ready c.used.ensures.acts
+    let taken = used_on p c.args.place c.requires.goes k c.make_ready.new.turn.pass c.used.new.self.pass _
+    c.make_ready.ensures.ready c.used.ensures.acts
     c.is_in_order-2.ensures.own c.is_in_order-3.ensures.history in
-    let granted = grant_on p c.args.place c.requires.goes k c.used.new.self.pass c.grant.new.self.pass taken c.grant.ensures.acts c.is_in_order-3.ensures.own
+    let granted = grant_on p c.args.place c.requires.goes k c.used.new.self.pass c.grant.new.self.pass taken
+    c.grant.ensures.acts c.is_in_order-3.ensures.own
     c.is_in_order-4.ensures.history h in
     let size : c.storage.result ≡ words_made (object_for p) = c.storage.ensures ∙ ap (λ (o : Object). words_made o) c.requires.shape in
     counted_held p c.args.place c.requires.goes k c.tally.new.self.pass c.args.held c.storage.result
