@@ -1,0 +1,17 @@
+pub mod MayAct
+pub mod Unchanged
+pub mod Serving
+pub mod Granting
+pub mod FoundPlaces
+pub mod HeldMore
+pub mod OwnCalls
+pub mod Reaching
+pub mod Looks
+pub mod JoinedLooks
+pub mod FilledBooks
+pub mod AdmittedNews
+pub mod Serves
+pub mod Takes
+pub mod CarvedPages
+pub mod PlacedNews
+pub mod FreedCells

@@ -1,0 +1,78 @@
+-- The own calls of a list in parts: events of others have none of them. As in mk_caller.
+use Rattle.std.proofs.Common.{◌≡◌, ◌≢◌, ℕ, Bool, List, [], ◌∷◌, ◌++◌, refl, ◌∙◌, ap, append-nil, cond}
+use Rattle.std.specs.Prelude.{◌==◌, filter, Option, Some, None}
+use Rattle.std.proofs.lemmas.Bool.{eq-eqb, ne_eqb}
+use Rattle.std.proofs.lemmas.List.Elements.{filter-append}
+use Rattle.mk_never.specs.declared.operations.Op.{Op}
+use Rattle.mk_core.specs.declared.config.Config.{Config}
+use Rattle.mk_core.specs.declared.events.Answer.{Answer}
+use Rattle.mk_core.specs.declared.events.Event.{Event}
+use Rattle.mk_core.specs.declared.events.Seat.{Seat}
+use Rattle.mk_core.specs.declared.events.Seat.TheVariants.{Caller, Marker, Host}
+use Rattle.mk_core.specs.declared.events.Step.{Step}
+use Rattle.mk_core.specs.Decided.{Decided, entry_of}
+use Rattle.mk_core.specs.Effects.{answer_decided}
+use Rattle.mk_core.specs.Growing.{AreOfOthers}
+use Rattle.mk_core.specs.History.{World, first_world, world_behind, left, calls, calls_from, call_decided}
+use Rattle.mk_core.specs.Moments.{flight_of}
+use Rattle.mk_core.proofs.Histories.{calls_more}
+use Rattle.mk_core.proofs.HistoryParts.{calls_in_parts}
+use Rattle.mk_protocol.proofs.Frames.{other_seat}
+
+-- the calls of one caller among these
+abbrev pub calls_by : ℕ → List Decided → List Decided
+calls_by k xs = filter (λ (x : Decided). x.caller == k) xs
+
+by_append : (k : ℕ) (xs ys : List Decided) → calls_by k (xs ++ ys) ≡ calls_by k xs ++ calls_by k ys
+by_append k xs ys = filter-append (λ (x : Decided). x.caller == k) xs ys
+
+own_entry : (k : ℕ) (o : Op) (a : Option Answer) → calls_by k (entry_of k o a) ≡ entry_of k o a
+own_entry k o None = refl
+own_entry k o (Some a) = ap (λ (b : Bool). cond b (entry_of k o (Some a)) []) (eq-eqb k k refl)
+
+other_entry : (j k : ℕ) (o : Op) (a : Option Answer) → j ≢ k → calls_by k (entry_of j o a) ≡ []
+other_entry j k o None ne = refl
+other_entry j k o (Some a) ne = ap (λ (b : Bool). cond b (entry_of j o (Some a)) []) (ne_eqb j k ne)
+
+other_decided : (c : Config) (w : World) (seat : Seat) (x : Step) (k : ℕ) → seat ≢ Caller k
+    → calls_by k (call_decided c w.now (record { seat = seat; step = x })) ≡ []
+other_decided c w (Caller j) x k ne =
+    other_entry j k (flight_of w.now (Caller j)).op (answer_decided c w.now (record { seat = Caller j; step = x }))
+    (λ e. ne (ap (λ i. Caller i) e))
+other_decided c w (Marker j) x k ne = refl
+other_decided c w Host x k ne = refl
+
+calls_of_others : (c : Config) (k : ℕ) (w : World) (es : List Event) → AreOfOthers (Caller k ∷ []) es
+    → calls_by k (calls_from c w es) ≡ []
+unfolding calls_from AreOfOthers
+calls_of_others c k w [] others = refl
+calls_of_others c k w (e ∷ es) others =
+    by_append k (call_decided c w.now e) (calls_from c (world_behind c w e) es)
+    ∙ ap (λ (l : List Decided). l ++ calls_by k (calls_from c (world_behind c w e) es))
+    (other_decided c w e.seat e.step k (other_seat (Caller k) e.seat others.0))
+    ∙ calls_of_others c k (world_behind c w e) es others.1
+
+others_add_none : (c : Config) (k : ℕ) (es others : List Event) → AreOfOthers (Caller k ∷ []) others
+    → calls_by k (calls c (es ++ others)) ≡ calls_by k (calls c es)
+others_add_none c k es others of_others =
+    ap (λ (l : List Decided). calls_by k l) (calls_in_parts c es others)
+    ∙ by_append k (calls c es) (calls_from c (left c es) others)
+    ∙ ap (λ (l : List Decided). calls_by k (calls c es) ++ l) (calls_of_others c k (left c es) others of_others)
+    ∙ append-nil (calls_by k (calls c es))
+
+-- A caller's step behind events of others adds the entry that it decides, if it decides one.
+pub own_step_adds : (c : Config) (k : ℕ) (es others : List Event) (x : Step) (o : Op) (a : Option Answer)
+    → AreOfOthers (Caller k ∷ []) others
+    → (flight_of (left c (es ++ others)).now (Caller k)).op ≡ o
+    → answer_decided c (left c (es ++ others)).now (record { seat = Caller k; step = x }) ≡ a
+    → calls_by k (calls c (es ++ others ++ record { seat = Caller k; step = x } ∷ [])) ≡ calls_by k (calls c es) ++ entry_of k o a
+own_step_adds c k es others x o a of_others same decides =
+    ap (λ (l : List Decided). calls_by k l) (calls_more c (first_world c) (es ++ others) e)
+    ∙ by_append k (calls c (es ++ others)) (call_decided c (left c (es ++ others)).now e)
+    ∙ ap (λ (l : List Decided). l ++ calls_by k (call_decided c (left c (es ++ others)).now e)) (others_add_none c k es others of_others)
+    ∙ ap (λ (y : Op). calls_by k (calls c es) ++ calls_by k (entry_of k y (answer_decided c (left c (es ++ others)).now e))) same
+    ∙ ap (λ (y : Option Answer). calls_by k (calls c es) ++ calls_by k (entry_of k o y)) decides
+    ∙ ap (λ (l : List Decided). calls_by k (calls c es) ++ l) (own_entry k o a)
+  where
+    e : Event
+    e = record { seat = Caller k; step = x }

@@ -1,0 +1,6 @@
+pub mod Unchanged
+pub mod Shapes
+pub mod Serving
+pub mod Entries
+pub mod Placing
+pub mod Looking
