@@ -1,0 +1,5 @@
+pub mod OwnSteps
+pub mod MayAct
+pub mod Calm
+pub mod KeptInParts
+pub mod Cleaning

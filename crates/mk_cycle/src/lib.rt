@@ -1,0 +1,10 @@
+//! Cycles: engines make the marks, and what was freed before a cycle and isn't marked in it is given back.
+#![tactic(auto)]
+
+mod beginning;
+mod bench;
+mod engine;
+
+pub use beginning::begin_cycle;
+pub use bench::Bench;
+pub use engine::Engine;
