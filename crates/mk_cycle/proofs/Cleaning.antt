@@ -29,8 +29,8 @@ use Rattle.mk_turns.proofs.Doing.{does_nothing, does_then, does_step}
 use Rattle.mk_cycle.specs.Cleaning.{IsUnmarked, IsUnscanned, HasSnapshot, IsClean, Cleans}
 use Rattle.mk_cycle.specs.EngineLaw.{IsFreeForCycle, IsAtPhase, is_pending_free}
 use Rattle.mk_cycle.specs.Kinds.{clears}
-use Rattle.mk_cycle.specs.TurnKeeps.{KeepsCall, KeepsTurn, KeepsGates, but_snapshot}
-use Rattle.mk_cycle.proofs.KeptInParts.{keeps_at_once, keeps_then, gates_then, gates_behind, InTurn}
+use Rattle.mk_cycle.specs.TurnKeeps.{KeepsCall, KeepsTurn, KeepsGates, InTurn, but_snapshot}
+use Rattle.mk_cycle.proofs.KeptInParts.{keeps_at_once, keeps_then, gates_then, gates_behind}
 use Rattle.mk_cycle.proofs.MayAct.{may_act}
 use Rattle.mk_cycle.proofs.Calm.{is_calm, calm_still, calm_done, frees_none}
 use Rattle.mk_cycle.proofs.OwnSteps.{keeps_call, keeps_counts}

@@ -9,8 +9,6 @@ use Rattle.mk_core.specs.Frames.{Steady}
 use Rattle.mk_core.specs.History.{World, world_behind}
 use Rattle.mk_core.specs.Moments.{is_held}
 use Rattle.mk_core.specs.declared.seats.Flight.{Flight}
-use Rattle.mk_core.specs.History.{IsHistory}
-use Rattle.mk_core.specs.Readings.{Holds}
 use Rattle.mk_protocol.specs.Protocol.{has_place}
 use Rattle.mk_words.specs.Seats.{Has}
 use Rattle.mk_words.specs.States.{PassState, world_of, now_of, call_of, event_of}
@@ -71,12 +69,6 @@ gates_behind p s q a same j lt =
     ap (λ (w : World). is_held w.now.words j) a.world
     ∙ ap (λ gs. slice_index gs j == 2) same
     ∙ held_so _ _ (a.turn.held_gates j) (a.turn.other_gates j)
-
--- A turn of which it is known whose it is, and that its list is a history.
-pub record InTurn (p : PassState) : Type 0 where
-  pub own : Has p.seats p.seat
-  pub holds : Holds p.table.config (now_of p) p.seat
-  pub history : IsHistory p.table.config p.seen
 
 pub own_then : (p q : PassState) → q ≡ record p { seen = q.seen } → Has p.seats p.seat → Has q.seats q.seat
 own_then p q is h = subst (λ (x : PassState). Has x.seats x.seat) (sym is) h

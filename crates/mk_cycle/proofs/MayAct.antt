@@ -1,5 +1,5 @@
 -- A turn that is free for a cycle may make every step of any holder whose conditions on words are met.
-use Rattle.std.proofs.Common.{◌≡◌, ℕ, Bool, true, false, refl, ◌∙◌, ap}
+use Rattle.std.proofs.Common.{◌≡◌, ℕ, Bool, true, false, List, refl, sym, subst, ◌∙◌, ap}
 use Rattle.std.specs.Prelude.{not, ◌&&◌, ◌+◌, ◌==◌}
 use Rattle.std.proofs.lemmas.Bool.{eq-eqb, lt-ltb}
 use Rattle.mk_never.specs.declared.operations.Op.{Op}
@@ -16,7 +16,9 @@ use Rattle.mk_core.specs.declared.seats.Stage.{Stage}
 use Rattle.mk_core.specs.declared.seats.Stage.TheVariants as stage
 use Rattle.mk_core.specs.Calls.{is_under_turn}
 use Rattle.mk_core.specs.Enabled.{marker_may, holder_may, MeetsAll}
-use Rattle.mk_core.specs.History.{left}
+use Rattle.mk_never.specs.Admitted.{AreAdmitted}
+use Rattle.mk_core.specs.Decided.{Decided, asked}
+use Rattle.mk_core.specs.History.{left, never_first, IsHistory}
 use Rattle.mk_core.specs.Moments.{Moment, flight_of, marker_at}
 use Rattle.mk_core.specs.Order.{seat_exists, group_of, is_open_to, is_of_any_holder, is_of_turn, may_decide, comes_next, comes_next_to_host, host_has_turn, is_in_order}
 use Rattle.mk_core.specs.Ranges.{is_in_range, has_gates, has_phase}
@@ -25,8 +27,10 @@ use Rattle.mk_core.specs.Words.{phase_of}
 use Rattle.mk_core.proofs.Conditions.{meets_enabled}
 use Rattle.mk_protocol.specs.Protocol.{Protocol, has_stage}
 use Rattle.mk_words.specs.States.{PassState, now_of, call_of, event_of}
-use Rattle.mk_words.specs.Steps.{IsEnabledTo}
+use Rattle.mk_words.specs.Steps.{IsEnabledTo, IsAdmittedTo}
 use Rattle.mk_cycle.specs.EngineLaw.{is_pending_free, is_pending_free_at}
+use Rattle.mk_cycle.proofs.Calm.{is_calm, calm_still}
+use Rattle.mk_cycle.proofs.OwnSteps.{no_more_calls, undecided}
 
 decides_new : (d ty : ℕ) (full : Bool) (s : Step) → is_of_any_holder s ≡ true → may_decide (op.New d ty full) s ≡ true
 decides_new d ty full step.Grant h = cc
@@ -106,3 +110,12 @@ may_act p s protocol holds pending any range gates phase holder =
       marker = no_markers p.table.config (marker_at (now_of p) p.seat) s any;
       holder = holder;
     })
+
+-- A step that decides nothing is admitted.
+pub calm_admitted : (p : PassState) (s : Step) → IsHistory p.table.config p.seen → is_calm s ≡ true → is_pending_free (call_of p) ≡ false
+    → IsAdmittedTo p s
+calm_admitted p s h kind free =
+    let c : Config = p.table.config in
+    subst (λ (xs : List Decided). AreAdmitted c.globals (never_first c) (asked xs))
+    (sym (no_more_calls c p.seen (event_of p s) (undecided c (now_of p) p.seat s (λ n. calm_still c (now_of p) (call_of p) n s kind free))))
+    h.admitted

@@ -80,7 +80,7 @@ module _ (p : PassState) (s : Step) (q : PassState) (a : Acts p s q) (own : Has 
   abbrev pub m : Moment
   m = (world_at a.makes).now
 
-  d : Made p s q a.makes
+  pub d : Made p s q a.makes
   d = made p s q a.makes own history
 
   pub same_pass : q ≡ record p { seen = q.seen }
@@ -89,7 +89,7 @@ module _ (p : PassState) (s : Step) (q : PassState) (a : Acts p s q) (own : Has 
   pub holds_there : Holds p.table.config (world_at a.makes).now p.seat
   holds_there = (a.own.holding holds).0
 
-  same_call : ((n : ℕ) → progress c m (flight_of m p.seat) n s ≡ still (flight_of m p.seat)) → call_of q ≡ call_of p
+  pub same_call : ((n : ℕ) → progress c m (flight_of m p.seat) n s ≡ still (flight_of m p.seat)) → call_of q ≡ call_of p
   same_call st =
       ap (λ (w : World). flight_of w.now q.seat) a.world
       ∙ ap (λ (x : Seat). flight_of (moment_behind c m (event_of p s)) x) d.seat
@@ -100,17 +100,16 @@ module _ (p : PassState) (s : Step) (q : PassState) (a : Acts p s q) (own : Has 
       → done_of (now_of q) ≡ done_of (now_of p)
   same_done k = ap (λ (w : World). done_of w.now) a.world ∙ k _ ∙ ap (λ (h : Holding). done_in h) a.holding
 
-  still_gone : ((n : ℕ) → done_in (holding_behind c m p.seat (flight_of m p.seat) n s m.seats.holding) ≡ done_in m.seats.holding)
+  pub still_gone : ((n : ℕ) → (holding_behind c m p.seat (flight_of m p.seat) n s m.seats.holding).freed ≡ m.seats.holding.freed)
       → stores s ≡ false → IsGone p → IsGone q
   still_gone k none gone =
-      let es : List Event = p.seen ++ a.makes.others in
       let at = holder_finds c p.seat p.seen a.makes.others d.history d.others holds in
       let here : is_run_gone m.words m.seats.holding.freed ≡ true =
       ap (λ (h : Holding). is_run_gone m.words h.freed) a.holding ∙ at.gone gone in
       let behind : is_run_gone (moment_behind c m (event_of p s)).words m.seats.holding.freed ≡ true =
       gone_on m.seats.holding.freed refl here in
       ap (λ (w : World). is_run_gone w.now.words w.now.seats.holding.freed) a.world
-      ∙ ap (λ (x : Done). is_run_gone (moment_behind c m (event_of p s)).words x.freed) (k _)
+      ∙ ap (λ (x : Option RunPages). is_run_gone (moment_behind c m (event_of p s)).words x) (k _)
       ∙ behind
     where
       gone_on : (freed : Option RunPages) → m.seats.holding.freed ≡ freed
@@ -125,7 +124,7 @@ module _ (p : PassState) (s : Step) (q : PassState) (a : Acts p s q) (own : Has 
       → ((n : ℕ) → done_in (holding_behind c m p.seat (flight_of m p.seat) n s m.seats.holding) ≡ done_in m.seats.holding)
       → stores s ≡ false → KeepsCall p q
   keeps_call st k none =
-      record { pass = same_pass; call = same_call st; done = same_done k; gone = still_gone k none }
+      record { pass = same_pass; call = same_call st; done = same_done k; gone = still_gone (λ n. ap (λ (x : Done). x.freed) (k n)) none }
 
   seen_is : q.seen ≡ (p.seen ++ a.makes.others) ++ event_of p s ∷ []
   seen_is = ap (λ (r : PassState). r.seen) a.makes.is

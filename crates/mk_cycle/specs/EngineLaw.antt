@@ -2,6 +2,8 @@
 use Rattle.std.specs.Prelude.{◌≡◌, ℕ, Bool, true, false}
 use Rattle.mk_never.specs.declared.operations.Op.{Op}
 use Rattle.mk_never.specs.declared.operations.Op.TheVariants as op
+use Rattle.mk_core.specs.declared.events.Word.{Word}
+use Rattle.mk_core.specs.declared.events.Word.TheVariants as word
 use Rattle.mk_core.specs.declared.events.Step.TheVariants as step
 use Rattle.mk_core.specs.declared.seats.Flight.{Flight}
 use Rattle.mk_core.specs.declared.seats.Stage.{Stage}
@@ -48,3 +50,7 @@ pub record ClosesMarks (p q : PassState) : Type 0 where
   pub phase : IsAtPhase q 2
   pub close : IsEnabledTo q step.Close
   pub closed : MarksAreClosed q.table.config (world_of q)
+
+abbrev pub is_register : Word → Bool
+is_register (word.Reg j r) = true
+is_register _ = false

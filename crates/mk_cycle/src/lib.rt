@@ -3,7 +3,9 @@
 
 mod beginning;
 mod bench;
+mod cleaning;
 mod engine;
+mod turn_steps;
 
 pub use beginning::begin_cycle;
 pub use bench::Bench;

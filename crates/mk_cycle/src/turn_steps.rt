@@ -1,0 +1,127 @@
+//! Steps of a turn that is free for a cycle, with what is asked of each in terms of the words.
+ghost use Rattle.std.specs.Prelude.{◌≡◌, ◌<◌, ℕ, true, false, slice_index};
+ghost use Rattle.mk_core.specs.declared.events.Step.TheVariants as step;
+ghost use Rattle.mk_core.specs.Ranges.{is_word};
+ghost use Rattle.mk_core.specs.Words.{named_word, quarantine_word};
+ghost use Rattle.mk_words.specs.States.{now_of};
+ghost use Rattle.mk_words.specs.TurnSteps.{Acts};
+ghost use Rattle.mk_cycle.specs.EngineLaw.{IsFreeForCycle, IsAtPhase, is_register};
+ghost use Rattle.mk_cycle.specs.Cleaning.{IsClean};
+ghost use Rattle.mk_cycle.specs.TurnKeeps.{InTurn};
+
+use mk_core::{Tally, Word};
+use mk_words::{Turn, Words};
+
+/// Looks at a word that is no register.
+pub(crate) fn look(turn: &mut Turn, words: &Words, x: Word) -> u64
+    requires one_table { turn.old.pass.table ≡ words.now }
+    requires free { IsFreeForCycle turn.old.pass }
+    requires in_range { is_word words.now.config x ≡ true }
+    requires no_register { is_register x ≡ false }
+    ensures op { turn.new.op ≡ turn.old.op }
+    ensures was { InTurn turn.old.pass }
+    ensures acts { Acts turn.old.pass (step.Look x) turn.new.pass }
+    ensures is { InTurn turn.new.pass }
+    ensures reads { result ≡ named_word (now_of turn.new.pass).words x }
+{
+    turn.is_in_order();
+    let found = turn.look(words, x);
+    turn.is_in_order();
+    found
+}
+
+/// Clears a page's marks.
+pub(crate) fn clear(turn: &mut Turn, words: &Words, page: u64)
+    requires one_table { turn.old.pass.table ≡ words.now }
+    requires free { IsFreeForCycle turn.old.pass }
+    requires phase { IsAtPhase turn.old.pass 0 }
+    requires within { page < words.now.config.pages }
+    ensures op { turn.new.op ≡ turn.old.op }
+    ensures was { InTurn turn.old.pass }
+    ensures acts { Acts turn.old.pass (step.Clear page) turn.new.pass }
+    ensures is { InTurn turn.new.pass }
+{
+    turn.is_in_order();
+    turn.clear(words, page);
+    turn.is_in_order();
+}
+
+/// Clears a page's black word.
+pub(crate) fn unblack(turn: &mut Turn, words: &Words, page: u64)
+    requires one_table { turn.old.pass.table ≡ words.now }
+    requires free { IsFreeForCycle turn.old.pass }
+    requires phase { IsAtPhase turn.old.pass 0 }
+    requires within { page < words.now.config.pages }
+    ensures op { turn.new.op ≡ turn.old.op }
+    ensures was { InTurn turn.old.pass }
+    ensures acts { Acts turn.old.pass (step.Unblack page) turn.new.pass }
+    ensures is { InTurn turn.new.pass }
+{
+    turn.is_in_order();
+    turn.unblack(words, page);
+    turn.is_in_order();
+}
+
+/// Clears a page's dirty word.
+pub(crate) fn undirty(turn: &mut Turn, words: &Words, page: u64)
+    requires one_table { turn.old.pass.table ≡ words.now }
+    requires free { IsFreeForCycle turn.old.pass }
+    requires phase { IsAtPhase turn.old.pass 0 }
+    requires within { page < words.now.config.pages }
+    ensures op { turn.new.op ≡ turn.old.op }
+    ensures was { InTurn turn.old.pass }
+    ensures acts { Acts turn.old.pass (step.Undirty page) turn.new.pass }
+    ensures is { InTurn turn.new.pass }
+{
+    turn.is_in_order();
+    turn.undirty(words, page);
+    turn.is_in_order();
+}
+
+/// Makes a page's freed cells its snapshot: the value is its quarantine word with the freed half in both.
+pub(crate) fn take_snapshot(turn: &mut Turn, words: &Words, page: u64, value: u64)
+    requires one_table { turn.old.pass.table ≡ words.now }
+    requires free { IsFreeForCycle turn.old.pass }
+    requires phase { IsAtPhase turn.old.pass 0 }
+    requires within { page < words.now.config.pages }
+    requires value { value ≡ quarantine_word (slice_index (now_of turn.old.pass).words.freed page) (slice_index (now_of turn.old.pass).words.freed page) }
+    ensures op { turn.new.op ≡ turn.old.op }
+    ensures was { InTurn turn.old.pass }
+    ensures acts { Acts turn.old.pass (step.Quar page value) turn.new.pass }
+    ensures is { InTurn turn.new.pass }
+{
+    turn.is_in_order();
+    turn.quar(words, page, value);
+    turn.is_in_order();
+}
+
+/// Stores a tally.
+pub(crate) fn tally(turn: &mut Turn, words: &Words, n: Tally, v: u64)
+    requires one_table { turn.old.pass.table ≡ words.now }
+    requires free { IsFreeForCycle turn.old.pass }
+    ensures op { turn.new.op ≡ turn.old.op }
+    ensures was { InTurn turn.old.pass }
+    ensures acts { Acts turn.old.pass (step.Tally n v) turn.new.pass }
+    ensures is { InTurn turn.new.pass }
+{
+    turn.is_in_order();
+    turn.tally(words, n, v);
+    turn.is_in_order();
+}
+
+/// Begins a cycle, where all pages are clean and nothing is fresh.
+pub(crate) fn begin(turn: &mut Turn, words: &Words)
+    requires one_table { turn.old.pass.table ≡ words.now }
+    requires free { IsFreeForCycle turn.old.pass }
+    requires phase { IsAtPhase turn.old.pass 0 }
+    requires clean { (page : ℕ) → page < words.now.config.pages → IsClean turn.old.pass page }
+    requires fresh { (now_of turn.old.pass).words.fresh ≡ 0 }
+    ensures op { turn.new.op ≡ turn.old.op }
+    ensures was { InTurn turn.old.pass }
+    ensures acts { Acts turn.old.pass step.Begin turn.new.pass }
+    ensures is { InTurn turn.new.pass }
+{
+    turn.is_in_order();
+    turn.begin(words);
+    turn.is_in_order();
+}
