@@ -7,3 +7,6 @@ pub mod Owed
 pub mod Made
 pub mod CallSteps
 pub mod TurnSteps
+pub mod Closing
+pub mod Markers
+pub mod Opening

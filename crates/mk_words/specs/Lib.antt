@@ -5,3 +5,6 @@ pub mod Passes
 pub mod Steps
 pub mod CallSteps
 pub mod TurnSteps
+pub mod Finals
+pub mod Markers
+pub mod Opening

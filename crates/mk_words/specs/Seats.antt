@@ -1,8 +1,12 @@
 -- Lists of seats: those whose events all stand in a pass's list.
-use Rattle.std.specs.Prelude.{◌≡◌, ℕ, zero, suc, Bool, true, false, List, [], ◌∷◌, ◌++◌, if◌then◌else◌}
+use Rattle.std.specs.Prelude.{◌≡◌, ◌<◌, ℕ, zero, suc, Bool, true, false, List, [], ◌∷◌, ◌++◌, if◌then◌else◌}
 use Rattle.mk_core.specs.declared.config.Config.{Config}
 use Rattle.mk_core.specs.declared.events.Seat.{Seat}
 use Rattle.mk_core.specs.declared.events.Seat.TheVariants.{Caller, Marker, Host}
+use Rattle.std.specs.List.{list_any}
+use Rattle.mk_core.specs.declared.events.Step.{Step}
+use Rattle.mk_core.specs.declared.events.Step.TheVariants as step
+use Rattle.mk_core.specs.declared.events.Event.{Event}
 use Rattle.mk_core.specs.Order.{seat_exists}
 use Rattle.mk_core.specs.Growing.{is_same_seat, is_one_of}
 
@@ -31,3 +35,19 @@ all_seats c = Host ∷ (callers_below c.callers ++ markers_below 8)
 -- Every seat that there is stands in the list.
 abbrev pub HasAll : Config → List Seat → Type 0
 HasAll c seats = (s : Seat) → seat_exists c s ≡ true → Has seats s
+
+abbrev pub is_caller : Seat → Bool
+is_caller (Caller k) = true
+is_caller _ = false
+
+abbrev pub is_over : Step → Bool
+is_over step.Over = true
+is_over _ = false
+
+-- An `over` stands in the list.
+abbrev pub has_over : List Event → Bool
+has_over es = list_any (λ (e : Event). is_over e.step) es
+
+-- The seats of all callers stand in the list.
+abbrev pub HasCallers : Config → List Seat → Type 0
+HasCallers c seats = (k : ℕ) → k < c.callers → Has seats (Caller k)

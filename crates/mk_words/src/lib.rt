@@ -2,10 +2,14 @@
 #![tactic(auto)]
 
 mod call_steps;
+mod finals;
+mod granting;
 mod indexes;
+mod marker_steps;
 mod passes;
 mod performing;
 mod rule;
+mod scans;
 mod stop_steps;
 mod stopped;
 mod telling;
@@ -14,6 +18,7 @@ mod turns;
 mod words;
 
 pub use call_steps::Held;
+pub use finals::Final;
 pub use passes::Pass;
 pub use stop_steps::InCall;
 pub use stopped::Stopped;

@@ -4,6 +4,7 @@ ghost use Rattle.mk_core.specs.declared.events.Step.TheVariants as step;
 ghost use Rattle.mk_core.specs.Moments.{is_held, others_are_held};
 ghost use Rattle.mk_words.specs.Steps.{IsEnabledTo, IsAdmittedTo, Finds, may_decide};
 ghost use Rattle.mk_words.specs.TurnSteps.{Acts};
+ghost use Rattle.mk_words.specs.Seats.{HasCallers};
 ghost use Rattle.mk_words.specs.States.{now_of};
 
 use crate::stopped::Stopped;
@@ -64,6 +65,22 @@ impl Turn {
         ensures acts { Acts self.old.pass step.Begin self.new.pass }
     {
         self.perform(words, Step::Begin, TableWord::Named(Word::Phase), Access::Add(1));
+    }
+
+    /// Says that all is over, where the host has the seats of all callers.
+    pub fn over(&mut self, words: &Words)
+        requires one_table { self.old.pass.table ≡ words.now }
+        requires enabled { IsEnabledTo self.old.pass step.Over }
+        requires home { HasCallers self.old.pass.table.config self.old.pass.seats }
+        ensures op { self.new.op ≡ self.old.op }
+        ensures acts { Acts self.old.pass step.Over self.new.pass }
+    {
+        self.perform(
+            words,
+            Step::Over,
+            TableWord::Named(Word::Phase),
+            Access::Add(5),
+        );
     }
 
     /// The same turn, where the gates of all other callers are held.

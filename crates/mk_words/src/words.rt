@@ -1,13 +1,17 @@
 //! The shared words, and the passes to them.
-ghost use Rattle.std.specs.Prelude.{◌≡◌, [], ◌∷◌, ◌++◌, IfOk, false, replicate};
+ghost use Rattle.std.specs.Prelude.{◌≡◌, [], ◌∷◌, ◌++◌, IfOk, false, replicate, true};
 ghost use Rattle.mk_core.specs.declared.events.Seat.TheVariants.{Host};
 ghost use Rattle.mk_core.specs.Config.{IsWithinLimits};
 ghost use Rattle.mk_core.specs.Growing.{Grows, is_same_seat};
-ghost use Rattle.mk_words.specs.Seats.{Has, HasAll, all_seats, without_seat};
+ghost use Rattle.mk_core.specs.Moments.{marker_at, outside};
+ghost use Rattle.mk_words.specs.Seats.{Has, HasAll, all_seats, without_seat, is_caller, has_over};
+ghost use Rattle.mk_words.specs.States.{now_of};
+ghost use Rattle.mk_words.specs.Finals.{history_of, config_of, HasTallies};
 
-use crate::passes::Pass;
+use crate::passes::{OUTSIDE, Pass};
 use crate::rule::{OneHistory, View};
-use crate::telling::{HandOver, Handing, Settle, Together};
+use crate::finals::{Final, freed_bits};
+use crate::telling::{HandOver, Handing, Remember, Settle, Together};
 use atomic_table::Table;
 use mk_core::{Config, Seat};
 use mk_never::{NoMemory, TypeTable};
@@ -31,7 +35,7 @@ impl Model for Words {
 
     ghost view = { λ w. record { id = w.table.shared.table_id; config = w.config } };
 
-    ghost invariant = { λ w. record { key : w.table.shared.key ≡ w.config; words : w.table.shared.table_id.words ≡ count_of_words w.config.pages; limits : IsWithinLimits w.config } };
+    ghost invariant = { λ w. record { key : w.table.shared.key ≡ w.config; words : w.table.shared.table_id.words ≡ count_of_words w.config.pages; slots : w.table.shared.table_id.slots ≡ 0; limits : IsWithinLimits w.config } };
 }
 
 /// So many zeros.
@@ -96,18 +100,22 @@ impl Words {
                 Pass {
                     token,
                     seat: Seat::Host,
+                    marker: OUTSIDE,
                 },
             )),
             Err(_) => Err(NoMemory),
         }
     }
 
-    /// The pass of a seat that the host's pass has, which then has it no more.
+    /// The pass of a seat that the host's pass has, which then has it no more. A marker's is out, and a caller gets none
+    /// behind an `over`.
     pub fn split(words: &Words, pass: &mut Pass, seat: Seat) -> Pass
         requires one_table { pass.old.table ≡ words.now }
         requires host { pass.old.seat ≡ Host }
         requires another { is_same_seat seat Host ≡ false }
         requires here { Has pass.old.seats seat }
+        requires out { marker_at (now_of pass.old) seat ≡ outside }
+        requires before_over { is_caller seat ≡ true → has_over pass.old.seen ≡ false }
         ensures pass { pass.new ≡ record pass.old { seats = without_seat seat pass.old.seats } }
         ensures made { result ≡ record pass.old { seat = seat; seats = seat ∷ [] } }
     {
@@ -120,6 +128,7 @@ impl Words {
         requires host { pass.old.seat ≡ Host }
         requires another { is_same_seat seat Host ≡ false }
         requires here { Has pass.old.seats seat }
+        requires out { marker_at (now_of pass.old) seat ≡ outside }
         ensures pass { pass.new ≡ record pass.old { seats = without_seat seat pass.old.seats } }
         ensures made { result ≡ record pass.old { seat = seat; seats = seat ∷ [] } }
     {
@@ -128,6 +137,7 @@ impl Words {
         Pass {
             token: shared.split_seat::<HandOver<J>>(token),
             seat,
+            marker: OUTSIDE,
         }
     }
 
@@ -139,10 +149,44 @@ impl Words {
         ensures own { Grows into.old.seats into.old.seen into.new.seen }
         ensures came { Grows from.seats from.seen into.new.seen }
     {
-        let Pass { token, seat: _ } = from;
+        let Pass { token, .. } = from;
         let own = &mut into.token;
         let shared = &words.table.shared;
         shared.join_seat::<Together>(own, token);
         shared.load::<Settle>(own, 0);
+    }
+
+    /// Whether the turn looks free. It is no event, and promises nothing of the answer: who waits for the turn asks
+    /// it between two tries.
+    pub fn is_turn_free(&self, pass: &mut Pass) -> bool
+        ensures { pass.new ≡ pass.old }
+    {
+        self.table.shared.peek(16) == 0
+    }
+
+    /// Ends the table. The pass has all seats, so what it has seen is the whole history.
+    pub fn close(words: Words, pass: Pass) -> Final
+        requires one_table { pass.table ≡ words }
+        requires home { HasAll words.config pass.seats }
+        ensures history { history_of result ≡ pass.seen }
+        ensures config { config_of result ≡ words.config }
+        ensures tallies { HasTallies (now_of pass).words words.config.pages result }
+    {
+        let Words { table, config } = words;
+        let Pass { mut token, .. } = pass;
+        let memory = table.shared.split_seat::<Remember>(&mut token);
+        let closed = table.close_with(token);
+        let quarantined = freed_bits(&closed, config.pages);
+        let last = Final {
+            held: closed.word(32),
+            fresh: closed.word(33),
+            quarantined,
+            cycles: closed.word(34),
+            released: closed.word(35),
+            full: closed.word(36),
+            memory,
+        };
+        closed.free();
+        last
     }
 }

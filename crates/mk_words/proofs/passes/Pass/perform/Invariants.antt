@@ -1,6 +1,5 @@
-use Rattle.mk_words.specs.States.{event_of}
 use Rattle.mk_words.proofs.passes.Pass.perform.Given as goal
 
 -- the event of the step that the call is given
 abbrev pub ghosts-perform_as : goal.ghosts-perform_as
-ghosts-perform_as a = record { event = event_of a.self.now a.step }
+ghosts-perform_as a = record { event = record { seat = a.seat; step = a.step } }

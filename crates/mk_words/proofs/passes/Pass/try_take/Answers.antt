@@ -1,11 +1,14 @@
 use Rattle.std.proofs.Common.{◌≢◌, arith}
-use Rattle.mk_words.proofs.TurnSteps.{takes, take_finds, takes_fresh}
+use Rattle.mk_words.proofs.TurnSteps.{takes, take_finds, takes_fresh, fresh_knows}
 use Rattle.mk_words.proofs.passes.Pass.try_take.Goals as goal
 
 pub invariant_of-result : goal.invariant_of-result
 invariant_of-result c =
     let f = c.perform-found in
-    takes c.args.self c.args.op f.result f.new.self f.ensures.told f.ensures.own f.ensures.history c.if-found-eq0.true
+    record {
+      turn = takes c.args.self c.args.op f.result f.new.self f.ensures.told f.ensures.own f.ensures.history c.if-found-eq0.true;
+      knows = fresh_knows f.new.self c.args.op (takes_fresh c.args.self c.args.op f.result f.new.self f.ensures.told f.ensures.own f.ensures.history c.if-found-eq0.true);
+    }
 
 pub returns-then-found-eq0-clause-made : goal.returns-then-found-eq0-clause-made
 returns-then-found-eq0-clause-made c =

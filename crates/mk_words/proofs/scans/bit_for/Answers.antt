@@ -1,0 +1,13 @@
+use Rattle.std.proofs.Common.{◌≡◌, ℕ, ◌-◌, ◌*◌, ◌%◌, ◌^◌, ◌≤◌, ap, sym, ◌∙◌, arith}
+use Rattle.std.proofs.Math.Nat.{mul-mod_left}
+use Rattle.std.proofs.lemmas.Nat.{pow-add}
+use Rattle.mk_core.specs.Bits.{bit_for}
+use Rattle.mk_words.proofs.scans.bit_for.Goals as goal
+
+bit_for-past : (k : ℕ) → 64 ≤ k → bit_for k ≡ 0
+bit_for-past k le =
+    let e : 2 ^ k ≡ 2 ^ (k - 64) * 2 ^ 64 = ap (λ i. 2 ^ i) (omega arith) ∙ pow-add 2 (k - 64) 64 in
+    ap (λ n. n % 2 ^ 64) e ∙ mul-mod_left (2 ^ (k - 64)) (2 ^ 64)
+
+pub returns-else-index-lt64 : goal.returns-else-index-lt64
+returns-else-index-lt64 c = sym (bit_for-past c.args.index c.if-index-lt64.false)

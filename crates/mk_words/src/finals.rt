@@ -1,0 +1,38 @@
+//! What is known of a table that has ended.
+ghost use Rattle.std.specs.Prelude.{◌≡◌, ◌≤◌, ◌+◌, ◌*◌};
+ghost use Rattle.std.specs.Mem.Slots.{slots_items, slots_len, IsFull};
+ghost use Rattle.mk_words.specs.Finals.{freed_bits_in};
+
+use crate::rule::View;
+use atomic_table::{Closed, Seat as Token};
+use std::alloc::Global;
+
+/// The tallies that the history left, and how many freed bits the quarantine words have. The history itself stays
+/// known, to proofs alone.
+#[derive(Drop)]
+pub struct Final {
+    pub held: u64,
+    pub fresh: u64,
+    pub quarantined: u64,
+    pub cycles: u64,
+    pub released: u64,
+    pub full: u64,
+    pub(crate) memory: Token<(), View>,
+}
+
+/// The freed bits of the quarantine words of so many pages.
+pub(crate) fn freed_bits(closed: &Closed<(), Global>, pages: u64) -> u64
+    requires pages { pages ≤ 4096 }
+    requires full { IsFull closed.now.words }
+    requires words { 640 + 70 * pages ≤ slots_len closed.now.words }
+    ensures { result ≡ freed_bits_in (slots_items closed.now.words) pages pages }
+{
+    let mut freed = 0;
+    let mut page = 0;
+    while page < pages {
+        let word = closed.word((640 + 2 * pages + page) as usize);
+        freed += (word % (1 << 32)).count_ones() as u64;
+        page += 1;
+    }
+    freed
+}
