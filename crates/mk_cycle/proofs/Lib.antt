@@ -2,4 +2,4 @@ pub mod OwnSteps
 pub mod MayAct
 pub mod Calm
 pub mod KeptInParts
-pub mod Cleaning
+pub mod CleaningSteps

@@ -2,5 +2,4 @@ pub mod Kinds
 pub mod TurnKeeps
 pub mod EngineLaw
 pub mod BeginCycle
-pub mod FinishCycle
 pub mod Cleaning
