@@ -8,6 +8,7 @@ use Rattle.mk_core.specs.declared.events.Step.{Step}
 use Rattle.mk_core.specs.declared.events.Word.{Word}
 use Rattle.mk_core.specs.declared.events.Seat.{Seat}
 use Rattle.mk_core.specs.declared.events.Step.TheVariants as step
+use Rattle.mk_core.specs.declared.events.Tally.TheVariants as tally
 use Rattle.mk_core.specs.Effects.{holding_behind, progress}
 use Rattle.mk_core.specs.Frames.{Steady, steady_of}
 use Rattle.mk_core.specs.History.{World, world_behind, IsHistory}
@@ -21,7 +22,7 @@ use Rattle.mk_core.specs.Allocations.{PlacedAllocation, freed_where_it_stands}
 use Rattle.mk_geom.specs.declared.addresses.Cell.{Cell}
 use Rattle.mk_protocol.proofs.Protocols.{lists_keep_the_protocol}
 use Rattle.mk_words.specs.Seats.{Has}
-use Rattle.mk_words.specs.States.{PassState, world_of, now_of, call_of, event_of}
+use Rattle.mk_words.specs.States.{WordsState, PassState, world_of, now_of, call_of, event_of}
 use Rattle.mk_words.specs.Steps.{IsEnabledTo}
 use Rattle.mk_words.specs.TurnSteps.{world_at, Acts}
 use Rattle.mk_turns.specs.Doing.{Does}
@@ -29,8 +30,11 @@ use Rattle.mk_turns.proofs.Doing.{does_nothing, does_then, does_step}
 use Rattle.mk_cycle.specs.Cleaning.{IsUnmarked, IsUnscanned, HasSnapshot, IsClean, Cleans}
 use Rattle.mk_cycle.specs.EngineLaw.{IsFreeForCycle, IsAtPhase, is_pending_free}
 use Rattle.mk_cycle.specs.Kinds.{clears}
-use Rattle.mk_cycle.specs.TurnKeeps.{KeepsCall, KeepsTurn, KeepsGates, InTurn, but_snapshot}
-use Rattle.mk_cycle.proofs.KeptInParts.{keeps_at_once, keeps_then, gates_then, gates_behind}
+use Rattle.mk_cycle.specs.TurnKeeps.{KeepsCall, KeepsTurn, KeepsGates, InTurn, but_cleaned}
+use Rattle.mk_core.specs.declared.events.Event.{Event}
+use Rattle.mk_frames.proofs.LastEvents.{stands}
+use Rattle.mk_words.proofs.Made.{made}
+use Rattle.mk_cycle.proofs.KeptInParts.{free_then, keeps_at_once, keeps_then, gates_then, gates_behind}
 use Rattle.mk_cycle.proofs.MayAct.{may_act}
 use Rattle.mk_cycle.proofs.Calm.{is_calm, calm_still, calm_done, frees_none}
 use Rattle.mk_cycle.proofs.OwnSteps.{keeps_call, keeps_counts}
@@ -39,7 +43,7 @@ pub cleans_nothing : (p : PassState) → Cleans p p
 cleans_nothing p =
     record {
       does = does_nothing clears p;
-      keeps = keeps_at_once but_snapshot p;
+      keeps = keeps_at_once but_cleaned p;
       gates = λ j lt. refl;
       unmarked = λ page h. h;
       unscanned = λ page h. h;
@@ -50,7 +54,7 @@ pub cleans_then : (p q r : PassState) → Cleans p q → Cleans q r → Cleans p
 cleans_then p q r a b =
     record {
       does = does_then clears p q r a.does b.does;
-      keeps = keeps_then but_snapshot p q r a.keeps b.keeps;
+      keeps = keeps_then but_cleaned p q r a.keeps b.keeps;
       gates = gates_then p q r a.keeps.call.pass a.gates b.gates;
       unmarked = λ page h. b.unmarked page (a.unmarked page h);
       unscanned = λ page h. b.unscanned page (a.unscanned page h);
@@ -100,7 +104,7 @@ module _ (p : PassState) (s : Step) (q : PassState) (a : Acts p s q) (t : InTurn
 
 -- what a step that cleans makes of the pages' words
 pub record CleansAt (w v : World) : Type 0 where
-  pub steady : but_snapshot (steady_of v) ≡ but_snapshot (steady_of w)
+  pub steady : but_cleaned (steady_of v) ≡ but_cleaned (steady_of w)
   pub gates : v.now.words.gates ≡ w.now.words.gates
   pub unmarked : (r : ℕ) → slice_index w.now.words.marks r ≡ 0 → slice_index v.now.words.marks r ≡ 0
   pub unscanned : (r : ℕ) → slice_index w.now.words.blacks r ≡ 0 → slice_index v.now.words.blacks r ≡ 0
@@ -117,7 +121,7 @@ module _ (p : PassState) (s : Step) (q : PassState) (a : Acts p s q) (t : InTurn
   cleans_step x =
       record {
         does = does_step clears p q s t.own a.makes cleans;
-        keeps = calm_keeps p s q a t history kind free but_snapshot x.steady;
+        keeps = calm_keeps p s q a t history kind free but_cleaned x.steady;
         gates = gates_behind p s q a x.gates;
         unmarked = λ r h.
             ap (λ (w : World). slice_index w.now.words.marks r) a.world
@@ -189,8 +193,8 @@ quar_cleans c w seat p v free lt small is =
     ap (λ (n : ℕ). slice_set w.now.words.freed p n) low ∙ set-get_or w.now.words.freed p 0 in
     record {
       steady =
-        ap (λ (fs : List ℕ). record (but_snapshot (steady_of w)) { freed = fs; allocations = (world_behind c w (record { seat = seat; step = step.Quar p v })).allocations }) same
-        ∙ ap (λ (xs : List PlacedAllocation). record (but_snapshot (steady_of w)) { allocations = xs }) (quar_frees_none c w seat p v free);
+        ap (λ (fs : List ℕ). record (but_cleaned (steady_of w)) { freed = fs; allocations = (world_behind c w (record { seat = seat; step = step.Quar p v })).allocations }) same
+        ∙ ap (λ (xs : List PlacedAllocation). record (but_cleaned (steady_of w)) { allocations = xs }) (quar_frees_none c w seat p v free);
       gates = refl;
       unmarked = λ r h. h;
       unscanned = λ r h. h;
@@ -199,3 +203,91 @@ quar_cleans c w seat p v free lt small is =
           ∙ copied w.now.words.freed w.now.words.snapshot p r lt h
           ∙ sym (ap (λ (fs : List ℕ). slice_index fs r) same);
     }
+
+-- What is free for a cycle stays so while pages are cleaned, at phase 0.
+
+pub cleaned_free : (p q : PassState) → Cleans p q → IsFreeForCycle p → IsFreeForCycle q
+cleaned_free p q k free = free_then p q k.keeps.call free
+
+pub cleaned_phase : (p q : PassState) → Cleans p q → IsAtPhase p 0 → IsAtPhase q 0
+cleaned_phase p q k none = ap (λ (s : Steady). s.phase) k.keeps.steady ∙ none
+
+pub cleaned_table : (p q : PassState) (w : WordsState) → Cleans p q → p.table ≡ w → q.table ≡ w
+cleaned_table p q w k is = ap (λ (x : PassState). x.table) k.keeps.call.pass ∙ is
+
+-- Each step by which they are.
+module _ (p q : PassState) (t : InTurn p) (free : IsFreeForCycle p) (none : IsAtPhase p 0) (u : InTurn q) where
+  pub looked : (x : Word) → Acts p (step.Look x) q → Cleans p q
+  looked x a = cleans_step p (step.Look x) q a t u.history refl refl free none (look_cleans p.table.config (world_at a.makes) p.seat x)
+
+  pub cleared : (page : ℕ) → Acts p (step.Clear page) q → Cleans p q
+  cleared page a = cleans_step p (step.Clear page) q a t u.history refl refl free none (clear_cleans p.table.config (world_at a.makes) p.seat page)
+
+  pub unblacked : (page : ℕ) → Acts p (step.Unblack page) q → Cleans p q
+  unblacked page a = cleans_step p (step.Unblack page) q a t u.history refl refl free none (unblack_cleans p.table.config (world_at a.makes) p.seat page)
+
+  pub undirtied : (page : ℕ) → Acts p (step.Undirty page) q → Cleans p q
+  undirtied page a = cleans_step p (step.Undirty page) q a t u.history refl refl free none (undirty_cleans p.table.config (world_at a.makes) p.seat page)
+
+  pub tallied : (v : ℕ) → Acts p (step.Tally tally.Fresh v) q → Cleans p q
+  tallied v a =
+      cleans_step p (step.Tally tally.Fresh v) q a t u.history refl refl free none
+      (record { steady = refl; gates = refl; unmarked = λ r h. h; unscanned = λ r h. h; snapshot = λ r h. h })
+
+  module _ (page v : ℕ) (a : Acts p (step.Quar page v) q) (lt : page < p.table.config.pages)
+      (is : v ≡ quarantine_word (slice_index (now_of p).words.freed page) (slice_index (now_of p).words.freed page)) where
+    w : World
+    w = world_at a.makes
+
+    same_freed : slice_index w.now.words.freed page ≡ slice_index (now_of p).words.freed page
+    unfolding w
+    same_freed = ap (λ (s : Steady). slice_index s.freed page) a.turn.steady
+
+    pub snapshot_taken : Cleans p q
+    unfolding w
+    snapshot_taken =
+        let c : Config = p.table.config in
+        let es : List Event = p.seen ++ a.makes.others in
+        let known = stands c es (made p (step.Quar page v) q a.makes t.own u.history).history in
+        let long : page < length w.now.words.snapshot = subst (λ (n : ℕ). page < n) (sym known.known.lengths.snapshot) lt in
+        let small : slice_index w.now.words.freed page < 2 ^ 32 = (known.all.order.quarantined.small page).0 in
+        cleans_step p (step.Quar page v) q a t u.history refl refl free none
+        (quar_cleans c w p.seat page v (ap is_pending_free a.own.flight ∙ free.decided) long small
+        (is ∙ ap (λ (n : ℕ). quarantine_word n n) (sym same_freed)))
+
+    pub has_snapshot : HasSnapshot q page
+    unfolding w
+    has_snapshot =
+        let c : Config = p.table.config in
+        let es : List Event = p.seen ++ a.makes.others in
+        let known = stands c es (made p (step.Quar page v) q a.makes t.own u.history).history in
+        let long : page < length w.now.words.snapshot = subst (λ (n : ℕ). page < n) (sym known.known.lengths.snapshot) lt in
+        let long' : page < length w.now.words.freed = subst (λ (n : ℕ). page < n) (sym known.known.lengths.freed) lt in
+        let f : ℕ = slice_index (now_of p).words.freed page in
+        let small : slice_index w.now.words.freed page < 2 ^ 32 = (known.all.order.quarantined.small page).0 in
+        let little : f < 2 ^ 32 = subst (λ (n : ℕ). n < 2 ^ 32) same_freed small in
+        ap (λ (x : World). slice_index x.now.words.snapshot page) a.world
+        ∙ get_or-set_same w.now.words.snapshot page (v / 2 ^ 32) 0 long
+        ∙ ap (λ (n : ℕ). n / 2 ^ 32) is ∙ high_half f little
+        ∙ sym (ap (λ (x : World). slice_index x.now.words.freed page) a.world
+        ∙ get_or-set_same w.now.words.freed page (v % 2 ^ 32) 0 long'
+        ∙ ap (λ (n : ℕ). n % 2 ^ 32) is ∙ low_half f little)
+
+pub then_cleans : (p q r : PassState) → IsFreeForCycle p → IsAtPhase p 0 → Cleans p q → (IsFreeForCycle q → IsAtPhase q 0 → Cleans q r) → Cleans p r
+then_cleans p q r free none a b = cleans_then p q r a (b (cleaned_free p q a free) (cleaned_phase p q a none))
+
+pub clean_stays : (p q : PassState) (page : ℕ) → Cleans p q → IsClean p page → IsClean q page
+clean_stays p q page k h =
+    record { unmarked = k.unmarked page h.unmarked; unscanned = k.unscanned page h.unscanned; snapshot = k.snapshot page h.snapshot }
+
+-- what a look at a quarantine word tells: its halves
+pub record Halves (p : PassState) (page n : ℕ) : Type 0 where
+  pub freed : n % 2 ^ 32 ≡ slice_index (now_of p).words.freed page
+  pub snapshot : n / 2 ^ 32 ≡ slice_index (now_of p).words.snapshot page
+
+pub halves : (p : PassState) (page n : ℕ) → InTurn p
+    → n ≡ quarantine_word (slice_index (now_of p).words.freed page) (slice_index (now_of p).words.snapshot page) → Halves p page n
+halves p page n t is =
+    let known = stands p.table.config p.seen t.history in
+    let small = (known.all.order.quarantined.small page).0 in
+    record { freed = omega arith; snapshot = omega arith }

@@ -3,3 +3,4 @@ pub mod MayAct
 pub mod Calm
 pub mod KeptInParts
 pub mod CleaningSteps
+pub mod Allowed

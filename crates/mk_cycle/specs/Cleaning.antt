@@ -3,7 +3,7 @@ use Rattle.std.specs.Prelude.{◌≡◌, ℕ, slice_index}
 use Rattle.mk_words.specs.States.{PassState, now_of}
 use Rattle.mk_turns.specs.Doing.{Does}
 use Rattle.mk_cycle.specs.Kinds.{clears}
-use Rattle.mk_cycle.specs.TurnKeeps.{KeepsTurn, KeepsGates, but_snapshot}
+use Rattle.mk_cycle.specs.TurnKeeps.{KeepsTurn, KeepsGates, but_cleaned}
 
 abbrev pub IsUnmarked : PassState → ℕ → Type 0
 IsUnmarked p page = slice_index (now_of p).words.marks page ≡ 0
@@ -23,7 +23,7 @@ pub record IsClean (p : PassState) (page : ℕ) : Type 0 where
 -- From one to the other pages were cleaned: what is clean stays so.
 pub record Cleans (p q : PassState) : Type 0 where
   pub does : Does clears p q
-  pub keeps : KeepsTurn but_snapshot p q
+  pub keeps : KeepsTurn but_cleaned p q
   pub gates : KeepsGates p q
   pub unmarked : (page : ℕ) → IsUnmarked p page → IsUnmarked q page
   pub unscanned : (page : ℕ) → IsUnscanned p page → IsUnscanned q page

@@ -57,6 +57,6 @@ whole s = s
 abbrev pub but_phase : Steady → Steady
 but_phase s = record s { phase = 0 }
 
--- without the snapshot, and the count of fresh words, which stands still where it is great
-abbrev pub but_snapshot : Steady → Steady
-but_snapshot s = record s { snapshot = []; fresh_words = 0 }
+-- without what is made ready for a `begin`: the snapshot, and the counts of what is fresh
+abbrev pub but_cleaned : Steady → Steady
+but_cleaned s = record s { snapshot = []; fresh = 0; fresh_words = 0 }
