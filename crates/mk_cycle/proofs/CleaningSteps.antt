@@ -96,8 +96,8 @@ module _ (p : PassState) (s : Step) (q : PassState) (a : Acts p s q) (t : InTurn
       let st : (n : ℕ) → progress c m f n s ≡ still f = λ n. calm_still c m f n s kind still_pending in
       record {
         call =
-          keeps_call p s q a t.own t.holds history st
-          (λ n. calm_done c m p.seat f n s m.seats.holding kind still_pending) (calm_stores s kind);
+            keeps_call p s q a t.own t.holds history st
+            (λ n. calm_done c m p.seat f n s m.seats.holding kind still_pending) (calm_stores s kind);
         steady = ap (λ (w : World). view (steady_of w)) a.world ∙ same ∙ ap view a.turn.steady;
         counts = keeps_counts p s q a t.own t.holds history st (calm_ends s kind);
       }
@@ -169,7 +169,6 @@ copied fs ss p r lt h = elim (cases_eq r p) [
       ∙ ap (λ (k : ℕ). slice_index fs k) (sym e)
 ]
 
-
 none_freed : (w : Words) (xs : List PlacedAllocation) → map (freed_where_it_stands w None) xs ≡ xs
 none_freed w [] = refl
 none_freed w (a ∷ xs) = ap (λ (ys : List PlacedAllocation). a ∷ ys) (none_freed w xs)
@@ -193,8 +192,8 @@ quar_cleans c w seat p v free lt small is =
     ap (λ (n : ℕ). slice_set w.now.words.freed p n) low ∙ set-get_or w.now.words.freed p 0 in
     record {
       steady =
-        ap (λ (fs : List ℕ). record (but_cleaned (steady_of w)) { freed = fs; allocations = (world_behind c w (record { seat = seat; step = step.Quar p v })).allocations }) same
-        ∙ ap (λ (xs : List PlacedAllocation). record (but_cleaned (steady_of w)) { allocations = xs }) (quar_frees_none c w seat p v free);
+          ap (λ (fs : List ℕ). record (but_cleaned (steady_of w)) { freed = fs; allocations = (world_behind c w (record { seat = seat; step = step.Quar p v })).allocations }) same
+          ∙ ap (λ (xs : List PlacedAllocation). record (but_cleaned (steady_of w)) { allocations = xs }) (quar_frees_none c w seat p v free);
       gates = refl;
       unmarked = λ r h. h;
       unscanned = λ r h. h;

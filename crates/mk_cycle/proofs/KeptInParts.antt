@@ -42,10 +42,10 @@ keeps_then view p q r a b =
       call = calls_then p q r a.call b.call;
       steady = b.steady ∙ a.steady;
       counts =
-        record {
-          ends = b.counts.ends ∙ a.counts.ends;
-          fulls = subst (λ (c : Config). fulls c r.seen ≡ fulls c q.seen) (same_config p q a.call.pass) b.counts.fulls ∙ a.counts.fulls;
-        };
+          record {
+            ends = b.counts.ends ∙ a.counts.ends;
+            fulls = subst (λ (c : Config). fulls c r.seen ≡ fulls c q.seen) (same_config p q a.call.pass) b.counts.fulls ∙ a.counts.fulls;
+          };
     }
 
 -- Less is seen by another view of the view.

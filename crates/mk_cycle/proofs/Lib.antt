@@ -4,3 +4,4 @@ pub mod Calm
 pub mod KeptInParts
 pub mod CleaningSteps
 pub mod Allowed
+pub mod BeginSteps

@@ -136,9 +136,9 @@ module _ (p : PassState) (s : Step) (q : PassState) (a : Acts p s q) (own : Has 
       record {
         ends = ap ends seen_is ∙ no_end es ∙ a.counts.ends;
         fulls =
-          ap (λ (xs : List Event). fulls c xs) seen_is
-          ∙ ap (λ (xs : List Decided). count_by is_full_answer (answered xs)) (no_more_calls c es (event_of p s) (undecided c m p.seat s st))
-          ∙ a.counts.fulls;
+            ap (λ (xs : List Event). fulls c xs) seen_is
+            ∙ ap (λ (xs : List Decided). count_by is_full_answer (answered xs)) (no_more_calls c es (event_of p s) (undecided c m p.seat s st))
+            ∙ a.counts.fulls;
       }
     where
       no_end : (es : List Event) → ends (es ++ event_of p s ∷ []) ≡ ends es

@@ -11,7 +11,7 @@ loop-page-preserved c =
       op = c.clean_page.ensures.op ∙ c.loop-page.invariant.op;
       cleans = cleans_then _ _ _ c.loop-page.invariant.cleans c.clean_page.ensures.cleans;
       clean =
-        below_more _ _
-        (λ page lt. clean_stays _ _ page c.clean_page.ensures.cleans (c.loop-page.invariant.clean page lt))
-        c.clean_page.ensures.clean;
+          below_more _ _
+          (λ page lt. clean_stays _ _ page c.clean_page.ensures.cleans (c.loop-page.invariant.clean page lt))
+          c.clean_page.ensures.clean;
     }
