@@ -184,7 +184,7 @@ tidy_from p q is steady counts x =
           ∙ ap (λ (d : Config). in_a_word (fulls d q.seen)) (sym same);
     }
 
-counts_then : (p q r : PassState) → q.table.config ≡ p.table.config → CountsAreLeft p.table.config p.seen q.seen
+pub counts_then : (p q r : PassState) → q.table.config ≡ p.table.config → CountsAreLeft p.table.config p.seen q.seen
     → CountsAreLeft q.table.config q.seen r.seen → CountsAreLeft p.table.config p.seen r.seen
 counts_then p q r same a b =
     record {

@@ -5,3 +5,5 @@ pub mod KeptInParts
 pub mod CleaningSteps
 pub mod Allowed
 pub mod BeginSteps
+pub mod HoldingSteps
+pub mod ReleaseSteps

@@ -3,3 +3,5 @@ pub mod TurnKeeps
 pub mod EngineLaw
 pub mod BeginCycle
 pub mod Cleaning
+pub mod Holding
+pub mod Releasing

@@ -5,6 +5,8 @@ mod beginning;
 mod bench;
 mod cleaning;
 mod engine;
+mod holding;
+mod releasing;
 mod turn_steps;
 
 pub use beginning::begin_cycle;

@@ -1,6 +1,7 @@
 //! Steps of a turn that is free for a cycle, with what is asked of each in terms of the words.
 ghost use Rattle.std.specs.Prelude.{◌≡◌, ◌<◌, ℕ, true, false, slice_index};
 ghost use Rattle.mk_core.specs.declared.events.Step.TheVariants as step;
+ghost use Rattle.mk_core.specs.Moments.{is_held, is_number_of};
 ghost use Rattle.mk_core.specs.Ranges.{is_word};
 ghost use Rattle.mk_core.specs.Words.{named_word, quarantine_word};
 ghost use Rattle.mk_words.specs.States.{now_of};
@@ -124,4 +125,23 @@ pub(crate) fn begin(turn: &mut Turn, words: &Words)
     turn.is_in_order();
     turn.begin(words);
     turn.is_in_order();
+}
+
+/// Tries to hold the gate of another caller, which isn't held yet.
+pub(crate) fn try_hold(turn: &mut Turn, words: &Words, caller: u64) -> bool
+    requires one_table { turn.old.pass.table ≡ words.now }
+    requires free { IsFreeForCycle turn.old.pass }
+    requires within { caller < words.now.config.callers }
+    requires another { is_number_of turn.old.pass.seat caller ≡ false }
+    requires open { is_held (now_of turn.old.pass).words caller ≡ false }
+    ensures op { turn.new.op ≡ turn.old.op }
+    ensures was { InTurn turn.old.pass }
+    ensures acts { Acts turn.old.pass (step.Hold caller) turn.new.pass }
+    ensures is { InTurn turn.new.pass }
+    ensures held { result ≡ true → is_held (now_of turn.new.pass).words caller ≡ true }
+{
+    turn.is_in_order();
+    let held = turn.try_hold(words, caller).is_ok();
+    turn.is_in_order();
+    held
 }
