@@ -62,7 +62,7 @@ cleans_then p q r a b =
     }
 
 -- A word that is 0 stays so where 0 is stored to one of the list.
-zero_stays : (xs : List ℕ) (i r : ℕ) → slice_index xs r ≡ 0 → slice_index (slice_set xs i 0) r ≡ 0
+pub zero_stays : (xs : List ℕ) (i r : ℕ) → slice_index xs r ≡ 0 → slice_index (slice_set xs i 0) r ≡ 0
 zero_stays xs i r h = elim (cases_eq r i) [
   | inr ne ↦ get_or-set_other xs i r 0 0 ne ∙ h
   | inl e ↦ elim (cases_lt i (length xs)) [

@@ -7,3 +7,4 @@ pub mod Allowed
 pub mod BeginSteps
 pub mod HoldingSteps
 pub mod ReleaseSteps
+pub mod FreeingSteps

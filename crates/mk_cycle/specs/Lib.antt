@@ -5,3 +5,4 @@ pub mod BeginCycle
 pub mod Cleaning
 pub mod Holding
 pub mod Releasing
+pub mod Freeing
