@@ -33,7 +33,7 @@ look_gates : (c : Config) (w : Words) (seat : Seat) (f : Flight) (x : Word) → 
 look_gates c w seat f (word.Reg j r) h = cc
 look_gates c w seat f _ h = refl
 
-or_true : (a b : Bool) → b ≡ true → (a || b) ≡ true
+pub or_true : (a b : Bool) → b ≡ true → (a || b) ≡ true
 or_true true b h = refl
 or_true false b h = h
 

@@ -8,3 +8,5 @@ pub mod BeginSteps
 pub mod HoldingSteps
 pub mod ReleaseSteps
 pub mod FreeingSteps
+pub mod OpeningSteps
+pub mod GivingSteps
