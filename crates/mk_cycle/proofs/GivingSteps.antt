@@ -1,8 +1,8 @@
 -- What the steps that give back make of a page's words.
-use Rattle.std.proofs.Common.{◌≡◌, ◌≢◌, ℕ, ◌+◌, ◌*◌, ◌-◌, ◌/◌, ◌%◌, ◌^◌, ◌<◌, ◌≤◌, Bool, true, false, List, length, refl, sym, ap, subst, ◌∙◌, arith, inl, inr}
+use Rattle.std.proofs.Common.{◌≡◌, ◌≢◌, ℕ, ◌+◌, ◌*◌, ◌-◌, ◌/◌, ◌%◌, ◌^◌, ◌<◌, ◌≤◌, Bool, true, false, List, ◌++◌, length, refl, sym, ap, subst, ◌∙◌, arith, inl, inr}
 use Rattle.std.specs.Prelude.{slice_index, slice_index_or, slice_set, ◌==◌, ◌&&◌, ◌||◌, not, nat_lt, nat_le, if◌then◌else◌, Option, Some, None, bit_and}
-use Rattle.std.proofs.lemmas.Bool.{eq-eqb, eqb-true, lt-ltb, ltb-true, leb-true, and_from, and_parts, true≢false, ne_eqb}
-use Rattle.std.proofs.lemmas.List.{get_or-set_same, get_or-set_other}
+use Rattle.std.proofs.lemmas.Bool.{cases_lt, eq-eqb, eqb-true, lt-ltb, ltb-true, leb-true, and_from, and_parts, true≢false, ne_eqb}
+use Rattle.std.proofs.lemmas.List.{get_or-set_same, get_or-set_other, get_or_past, set_past}
 use Rattle.mk_geom.specs.declared.addresses.Cell.{Cell}
 use Rattle.mk_geom.specs.declared.pages.Page.{Page}
 use Rattle.mk_geom.specs.Addresses.{address_of}
@@ -31,11 +31,12 @@ use Rattle.mk_words.specs.Steps.{IsEnabledTo}
 use Rattle.mk_words.specs.TurnSteps.{world_at, Acts}
 use Rattle.mk_words.proofs.Made.{made}
 use Rattle.mk_cycle.specs.EngineLaw.{IsFreeForCycle, IsAtPhase, is_pending_free}
-use Rattle.mk_cycle.specs.Freeing.{IsUnmapped, Frees, FreesNone, FreesPage, PageState, SamePage, page_state}
+use Rattle.mk_cycle.specs.Freeing.{IsUnmapped, IsUnmappedWord, IsZero, Frees, FreesNone, FreesPage, PageState, SamePage, page_state}
 use Rattle.mk_cycle.specs.TurnKeeps.{InTurn}
 use Rattle.mk_cycle.proofs.Allowed.{protocol, or_true}
 use Rattle.mk_cycle.proofs.Calm.{no_target}
-use Rattle.mk_cycle.proofs.FreeingSteps.{frees_nothing, frees_step, frees_then, head_gives, look_gives, quar_gives, used_gives, wipe_gives}
+use Rattle.mk_cycle.proofs.FreeingSteps.{frees_nothing, frees_step, frees_then, head_gives, look_gives, quar_gives, still_unmapped, used_gives, wipe_gives}
+use Rattle.mk_cycle.proofs.KeptInParts.{same_config}
 use Rattle.mk_cycle.proofs.MayAct.{may_act}
 
 -- where the step is made, a page's words are as the holder knows them
@@ -128,3 +129,118 @@ module _ (p : PassState) (t : InTurn p) (free : IsFreeForCycle p) (at : IsAtPhas
               let there : 64 * run.page + (n - 64 * run.page) ≡ n = omega arith in
               ap (λ (i : ℕ). slice_index w.heap i) (sym there)
               ∙ eqb-true _ 0 (all_below-at (64 * run.count) (n - 64 * run.page) (λ i. slice_index w.heap (64 * run.page + i) == 0) zero (omega arith))
+
+pub none_then : (p q r : PassState) → FreesNone p q → FreesNone q r → FreesNone p r
+none_then p q r a b = record { frees = frees_then p q r a.frees b.frees; same = λ i. b.same i ∙ a.same i }
+
+pub none_at_once : (p : PassState) → FreesNone p p
+none_at_once p = record { frees = frees_nothing p; same = λ i. refl }
+
+pub still_unmapped_word : (p q : PassState) (n : ℕ) → Frees p q → IsUnmappedWord p n → IsUnmappedWord q n
+still_unmapped_word p q n k h =
+    record {
+      within = subst (λ (c : Config). n < 64 * c.pages) (sym (same_config p q k.keeps.call.pass)) h.within;
+      unmapped = still_unmapped p q n k.keeps h.unmapped;
+    }
+
+-- the word is 0 behind its wipe
+pub wiped : (p q : PassState) → InTurn p → InTurn q → (n : ℕ) → Acts p (step.Wipe n) q → IsZero q n
+wiped p q t u n a =
+    ap (λ (x : World). slice_index x.now.words.heap n) a.world ∙ zero_here (world_at a.makes).now.words.heap n
+  where
+    zero_here : (xs : List ℕ) (i : ℕ) → slice_index (slice_set xs i 0) i ≡ 0
+    zero_here xs i = elim (cases_lt i (length xs)) [
+      | inl near ↦ get_or-set_same xs i 0 0 near
+      | inr past ↦ ap (λ (ys : List ℕ). slice_index ys i) (set_past xs i 0 past) ∙ get_or_past xs i 0 past
+    ]
+
+-- the words of pages behind steps that store them
+
+abbrev with_pages : World → ℕ → List Page → PageState
+with_pages w r pages = record { page = slice_index_or pages r free_page; freed = slice_index w.now.words.freed r; snapshot = slice_index w.now.words.snapshot r }
+
+state_behind : (p q : PassState) (v : World) → world_of q ≡ v → (r : ℕ) → page_state q r ≡ state_at v r
+unfolding state_at
+state_behind p q v is r = ap (λ (x : World). record { page = page_of x.now.words r; freed = slice_index x.now.words.freed r; snapshot = slice_index x.now.words.snapshot r }) is
+
+module _ (p q : PassState) (t : InTurn p) (u : InTurn q) (free : IsFreeForCycle p) (at : IsAtPhase p 4) where
+  module _ (page v : ℕ) (a : Acts p (step.Used page v) q) (lt : page < p.table.config.pages) where
+    pub used_frees : FreesPage page p q
+    unfolding state_at
+    used_frees =
+        let w : World = world_at a.makes in
+        record {
+          frees = frees_step p (step.Used page v) q a t u refl refl free at (used_gives p.table.config w p.seat page v);
+          others = λ r ne.
+              state_behind p q _ a.world r
+              ∙ ap (λ (x : Page). record { page = x; freed = slice_index w.now.words.freed r; snapshot = slice_index w.now.words.snapshot r })
+              (get_or-set_other w.now.words.pages page r (record { header = header_at w.now.words page; used = v }) free_page ne)
+              ∙ state_there p q w _ _ a.turn.steady r;
+        }
+
+    pub used_state : page_state q page ≡ record (page_state p page) { page = record { header = header_at (now_of p).words page; used = v } }
+    unfolding state_at
+    used_state =
+        let w : World = world_at a.makes in
+        let known = stands p.table.config (p.seen ++ a.makes.others) (made p (step.Used page v) q a.makes t.own u.history).history in
+        let long : page < length w.now.words.pages = subst (λ (n : ℕ). page < n) (sym known.known.lengths.pages) lt in
+        state_behind p q _ a.world page
+        ∙ ap (λ (x : Page). record { page = x; freed = slice_index w.now.words.freed page; snapshot = slice_index w.now.words.snapshot page })
+        (get_or-set_same w.now.words.pages page (record { header = header_at w.now.words page; used = v }) free_page long)
+        ∙ ap (λ (x : PageState). record x { page = record { header = x.page.header; used = v } }) (state_there p q w _ _ a.turn.steady page)
+
+  module _ (page : ℕ) (a : Acts p (step.Head page 0) q) (lt : page < p.table.config.pages) where
+    pub head_frees : FreesPage page p q
+    unfolding state_at
+    head_frees =
+        let w : World = world_at a.makes in
+        record {
+          frees = frees_step p (step.Head page 0) q a t u refl refl free at (head_gives p.table.config w p.seat page 0);
+          others = λ r ne.
+              state_behind p q _ a.world r
+              ∙ ap (λ (x : Page). record { page = x; freed = slice_index w.now.words.freed r; snapshot = slice_index w.now.words.snapshot r })
+              (get_or-set_other w.now.words.pages page r (record { header = 0; used = used_at w.now.words page }) free_page ne)
+              ∙ state_there p q w _ _ a.turn.steady r;
+        }
+
+    pub head_state : page_state q page ≡ record (page_state p page) { page = record { header = 0; used = used_at (now_of p).words page } }
+    unfolding state_at
+    head_state =
+        let w : World = world_at a.makes in
+        let known = stands p.table.config (p.seen ++ a.makes.others) (made p (step.Head page 0) q a.makes t.own u.history).history in
+        let long : page < length w.now.words.pages = subst (λ (n : ℕ). page < n) (sym known.known.lengths.pages) lt in
+        state_behind p q _ a.world page
+        ∙ ap (λ (x : Page). record { page = x; freed = slice_index w.now.words.freed page; snapshot = slice_index w.now.words.snapshot page })
+        (get_or-set_same w.now.words.pages page (record { header = 0; used = used_at w.now.words page }) free_page long)
+        ∙ ap (λ (x : PageState). record x { page = record { header = 0; used = x.page.used } }) (state_there p q w _ _ a.turn.steady page)
+
+  module _ (page v : ℕ) (a : Acts p (step.Quar page v) q) (lt : page < p.table.config.pages) where
+    pub quar_frees : FreesPage page p q
+    unfolding state_at
+    quar_frees =
+        let w : World = world_at a.makes in
+        record {
+          frees = frees_step p (step.Quar page v) q a t u refl refl free at
+              (quar_gives p.table.config w p.seat page v (ap is_pending_free a.own.flight ∙ free.decided));
+          others = λ r ne.
+              state_behind p q _ a.world r
+              ∙ ap (λ (n : ℕ). record { page = page_of w.now.words r; freed = n; snapshot = slice_index (slice_set w.now.words.snapshot page (v / 2 ^ 32)) r })
+              (get_or-set_other w.now.words.freed page r (v % 2 ^ 32) 0 ne)
+              ∙ ap (λ (n : ℕ). record { page = page_of w.now.words r; freed = slice_index w.now.words.freed r; snapshot = n })
+              (get_or-set_other w.now.words.snapshot page r (v / 2 ^ 32) 0 ne)
+              ∙ state_there p q w _ _ a.turn.steady r;
+        }
+
+    pub quar_state : page_state q page ≡ record (page_state p page) { freed = v % 2 ^ 32; snapshot = v / 2 ^ 32 }
+    unfolding state_at
+    quar_state =
+        let w : World = world_at a.makes in
+        let known = stands p.table.config (p.seen ++ a.makes.others) (made p (step.Quar page v) q a.makes t.own u.history).history in
+        let long : page < length w.now.words.freed = subst (λ (n : ℕ). page < n) (sym known.known.lengths.freed) lt in
+        let long' : page < length w.now.words.snapshot = subst (λ (n : ℕ). page < n) (sym known.known.lengths.snapshot) lt in
+        state_behind p q _ a.world page
+        ∙ ap (λ (n : ℕ). record { page = page_of w.now.words page; freed = n; snapshot = slice_index (slice_set w.now.words.snapshot page (v / 2 ^ 32)) page })
+        (get_or-set_same w.now.words.freed page (v % 2 ^ 32) 0 long)
+        ∙ ap (λ (n : ℕ). record { page = page_of w.now.words page; freed = v % 2 ^ 32; snapshot = n })
+        (get_or-set_same w.now.words.snapshot page (v / 2 ^ 32) 0 long')
+        ∙ ap (λ (x : PageState). record x { freed = v % 2 ^ 32; snapshot = v / 2 ^ 32 }) (state_there p q w _ _ a.turn.steady page)

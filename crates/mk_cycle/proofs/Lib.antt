@@ -10,3 +10,4 @@ pub mod ReleaseSteps
 pub mod FreeingSteps
 pub mod OpeningSteps
 pub mod GivingSteps
+pub mod CellBits

@@ -21,6 +21,11 @@ but_pages s = record s { pages = []; freed = []; snapshot = []; fresh_words = 0 
 abbrev pub IsUnmapped : PassState → ℕ → Type 0
 IsUnmapped p n = IsMappedWord p.table.config (world_of p).allocations n → ⊥
 
+-- and lies in the heap
+pub record IsUnmappedWord (p : PassState) (n : ℕ) : Type 0 where
+  pub within : n < 64 * p.table.config.pages
+  pub unmapped : IsUnmapped p n
+
 abbrev pub IsZero : PassState → ℕ → Type 0
 IsZero p n = slice_index (now_of p).words.heap n ≡ 0
 
@@ -55,12 +60,11 @@ pub record FreesPage (page : ℕ) (p q : PassState) : Type 0 where
   pub frees : Frees p q
   pub others : (r : ℕ) → r ≢ page → SamePage p q r
 
--- The words of the page's released cells are those of no mapped allocation, and lie within the heap.
+-- The words of the page's released cells are those of no mapped allocation.
 abbrev pub HasFreeCells : PassState → ℕ → Type 0
 HasFreeCells p page =
     (k i : ℕ) → has_bit (left_unmarked (now_of p).words page) k ≡ true → i < words_under (header_in (now_of p).words page)
-    → (64 * page + k * words_under (header_in (now_of p).words page) + i < 64 * p.table.config.pages)
-    × IsUnmapped p (64 * page + k * words_under (header_in (now_of p).words page) + i)
+    → IsUnmappedWord p (64 * page + k * words_under (header_in (now_of p).words page) + i)
 
 -- No cell of the page is released, and its run has a used cell, if it has a header.
 abbrev pub IsSettledPage : PassState → ℕ → Type 0

@@ -3,11 +3,13 @@
 
 mod beginning;
 mod bench;
+mod bits;
 mod cleaning;
 mod engine;
 mod holding;
 mod releasing;
 mod turn_steps;
+mod wiping;
 
 pub use beginning::begin_cycle;
 pub use bench::Bench;

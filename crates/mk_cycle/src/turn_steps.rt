@@ -1,6 +1,10 @@
 //! Steps of a turn that is free for a cycle, with what is asked of each in terms of the words.
-ghost use Rattle.std.specs.Prelude.{◌≡◌, ◌<◌, ℕ, true, false, slice_index};
+ghost use Rattle.std.specs.Prelude.{◌≡◌, ◌<◌, ◌*◌, ◌/◌, ◌%◌, ◌^◌, ℕ, true, false, slice_index};
 ghost use Rattle.mk_core.specs.declared.events.Step.TheVariants as step;
+ghost use Rattle.mk_geom.specs.Addresses.{address_of};
+ghost use Rattle.mk_core.specs.Bounded.{is_some_and};
+ghost use Rattle.mk_core.specs.Cells.{is_released, pointed_cell};
+ghost use Rattle.mk_core.specs.TurnConditions.{gives_back, drops, empties};
 ghost use Rattle.mk_core.specs.Moments.{is_held, is_number_of};
 ghost use Rattle.mk_core.specs.Ranges.{is_word};
 ghost use Rattle.mk_core.specs.Words.{named_word, quarantine_word};
@@ -144,4 +148,72 @@ pub(crate) fn try_hold(turn: &mut Turn, words: &Words, caller: u64) -> bool
     let held = turn.try_hold(words, caller).is_ok();
     turn.is_in_order();
     held
+}
+
+/// Wipes a word of a released cell.
+pub(crate) fn wipe(turn: &mut Turn, words: &Words, word: u64)
+    requires one_table { turn.old.pass.table ≡ words.now }
+    requires free { IsFreeForCycle turn.old.pass }
+    requires phase { IsAtPhase turn.old.pass 4 }
+    requires within { word < 64 * words.now.config.pages }
+    requires released { is_some_and (is_released (now_of turn.old.pass).words) (pointed_cell turn.old.pass.table.config.pages (now_of turn.old.pass).words.pages (address_of word)) ≡ true }
+    ensures op { turn.new.op ≡ turn.old.op }
+    ensures was { InTurn turn.old.pass }
+    ensures acts { Acts turn.old.pass (step.Wipe word) turn.new.pass }
+    ensures is { InTurn turn.new.pass }
+{
+    turn.is_in_order();
+    turn.wipe(words, word);
+    turn.is_in_order();
+}
+
+/// Stores the used word of a page, without released cells whose words are 0.
+pub(crate) fn give_cells(turn: &mut Turn, words: &Words, page: u64, v: u64)
+    requires one_table { turn.old.pass.table ≡ words.now }
+    requires free { IsFreeForCycle turn.old.pass }
+    requires phase { IsAtPhase turn.old.pass 4 }
+    requires within { page < words.now.config.pages }
+    requires gives { gives_back (now_of turn.old.pass).words page v ≡ true }
+    ensures op { turn.new.op ≡ turn.old.op }
+    ensures was { InTurn turn.old.pass }
+    ensures acts { Acts turn.old.pass (step.Used page v) turn.new.pass }
+    ensures is { InTurn turn.new.pass }
+{
+    turn.is_in_order();
+    turn.used(words, page, v);
+    turn.is_in_order();
+}
+
+/// Stores the quarantine word of a page, without released cells that aren't used.
+pub(crate) fn drop_cells(turn: &mut Turn, words: &Words, page: u64, v: u64)
+    requires one_table { turn.old.pass.table ≡ words.now }
+    requires free { IsFreeForCycle turn.old.pass }
+    requires phase { IsAtPhase turn.old.pass 4 }
+    requires within { page < words.now.config.pages }
+    requires drops { drops (now_of turn.old.pass).words page (v % 2 ^ 32) (v / 2 ^ 32) ≡ true }
+    ensures op { turn.new.op ≡ turn.old.op }
+    ensures was { InTurn turn.old.pass }
+    ensures acts { Acts turn.old.pass (step.Quar page v) turn.new.pass }
+    ensures is { InTurn turn.new.pass }
+{
+    turn.is_in_order();
+    turn.quar(words, page, v);
+    turn.is_in_order();
+}
+
+/// Frees a page on which nothing is.
+pub(crate) fn free_head(turn: &mut Turn, words: &Words, page: u64)
+    requires one_table { turn.old.pass.table ≡ words.now }
+    requires free { IsFreeForCycle turn.old.pass }
+    requires phase { IsAtPhase turn.old.pass 4 }
+    requires within { page < words.now.config.pages }
+    requires empty { empties (now_of turn.old.pass).words page 0 ≡ true }
+    ensures op { turn.new.op ≡ turn.old.op }
+    ensures was { InTurn turn.old.pass }
+    ensures acts { Acts turn.old.pass (step.Head page 0) turn.new.pass }
+    ensures is { InTurn turn.new.pass }
+{
+    turn.is_in_order();
+    turn.head(words, page, 0);
+    turn.is_in_order();
 }
