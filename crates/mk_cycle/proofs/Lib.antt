@@ -11,3 +11,5 @@ pub mod FreeingSteps
 pub mod OpeningSteps
 pub mod GivingSteps
 pub mod CellBits
+pub mod PageSteps
+pub mod GiveBack

@@ -6,7 +6,7 @@ use Rattle.mk_core.specs.Cells.{left_unmarked, header_in, words_under}
 use Rattle.mk_core.specs.Frames.{Steady}
 use Rattle.mk_core.specs.Moments.{is_held}
 use Rattle.mk_core.specs.StopConditions.{has_settled_page}
-use Rattle.mk_core.specs.Words.{page_of}
+use Rattle.mk_core.specs.Words.{page_of, header_at, quarantine_word}
 use Rattle.mk_zeros.specs.Zeros.{IsMappedWord}
 use Rattle.mk_words.specs.States.{PassState, world_of, now_of}
 use Rattle.mk_turns.specs.Doing.{Does}
@@ -65,6 +65,15 @@ abbrev pub HasFreeCells : PassState → ℕ → Type 0
 HasFreeCells p page =
     (k i : ℕ) → has_bit (left_unmarked (now_of p).words page) k ≡ true → i < words_under (header_in (now_of p).words page)
     → IsUnmappedWord p (64 * page + k * words_under (header_in (now_of p).words page) + i)
+
+abbrev pub IsQuarantineWord : PassState → ℕ → ℕ → Type 0
+IsQuarantineWord p page n = n ≡ quarantine_word (slice_index (now_of p).words.freed page) (slice_index (now_of p).words.snapshot page)
+
+-- The released cells of the page were given back; its header is as it was.
+pub record GivesBack (page : ℕ) (p q : PassState) : Type 0 where
+  pub frees : FreesPage page p q
+  pub header : header_at (now_of q).words page ≡ header_at (now_of p).words page
+  pub none_left : left_unmarked (now_of q).words page ≡ 0
 
 -- No cell of the page is released, and its run has a used cell, if it has a header.
 abbrev pub IsSettledPage : PassState → ℕ → Type 0

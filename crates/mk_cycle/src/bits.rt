@@ -6,6 +6,9 @@ ghost use Rattle.mk_geom.specs.Headers.{header_of};
 
 use mk_geom::{Header, class_words, decode};
 
+/// The freed cells are in the low half of a quarantine word.
+pub(crate) const FREED_END: u64 = 1 << 32;
+
 /// Whether the word has the bit.
 #[tactic(auto, using(mk_core::proofs::Bits::has_bit_past))]
 pub(crate) fn has_bit(word: u64, index: u64) -> bool

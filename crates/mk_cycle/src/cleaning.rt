@@ -4,6 +4,7 @@ ghost use Rattle.std.specs.Prelude.{◌≡◌, ◌<◌, ℕ};
 ghost use Rattle.mk_cycle.specs.Cleaning.{Cleans, IsUnmarked, IsUnscanned, HasSnapshot, IsClean};
 ghost use Rattle.mk_cycle.specs.EngineLaw.{IsFreeForCycle, IsAtPhase};
 
+use crate::bits::FREED_END;
 use crate::turn_steps::{clear, look, take_snapshot, unblack, undirty};
 use mk_core::Word;
 use mk_words::{Turn, Words};
@@ -68,9 +69,6 @@ fn copy_freed(turn: &mut Turn, words: &Words, page: u64)
         take_snapshot(turn, words, page, freed + FREED_END * freed);
     }
 }
-
-/// The freed cells are in the low half of a quarantine word.
-const FREED_END: u64 = 1 << 32;
 
 fn clean_page(turn: &mut Turn, words: &Words, page: u64)
     requires one_table { turn.old.pass.table ≡ words.now }

@@ -6,6 +6,7 @@ mod bench;
 mod bits;
 mod cleaning;
 mod engine;
+mod freeing;
 mod holding;
 mod releasing;
 mod turn_steps;
