@@ -13,3 +13,4 @@ pub mod GivingSteps
 pub mod CellBits
 pub mod PageSteps
 pub mod GiveBack
+pub mod SettledPages

@@ -2,6 +2,7 @@
 ghost use Rattle.std.specs.Prelude.{◌≡◌, ◌≤◌};
 ghost use Rattle.mk_core.specs.Bits.{has_bit, without};
 ghost use Rattle.mk_core.specs.Cells.{words_under};
+ghost use Rattle.mk_geom.specs.Addresses.{head_page_under};
 ghost use Rattle.mk_geom.specs.Headers.{header_of};
 
 use mk_geom::{Header, class_words, decode};
@@ -33,5 +34,15 @@ pub(crate) fn words_under(header: u64) -> u64
         Some(Header::Block(class) | Header::LeafBlock(class)) => class_words(class),
         Some(Header::Run { pages, .. } | Header::LeafRun { pages }) => 64 * pages,
         _ => 0,
+    }
+}
+
+/// The head page of the run that a page of this header word is in, or else the page itself.
+pub(crate) fn head_of(header: u64, page: u64) -> u64
+    ensures { result ≡ head_page_under (header_of header) page }
+{
+    match decode(header) {
+        Some(Header::Later { distance, .. }) => page.saturating_sub(distance),
+        _ => page,
     }
 }

@@ -42,7 +42,7 @@ fn give_back(
 }
 
 /// Gives back the released cells of a page, if there are any.
-fn release_cells(turn: &mut Turn, words: &Words, page: u64, size: u64)
+pub(crate) fn release_cells(turn: &mut Turn, words: &Words, page: u64, size: u64)
     requires one_table { turn.old.pass.table ≡ words.now }
     requires free { IsFreeForCycle turn.old.pass }
     requires phase { IsAtPhase turn.old.pass 4 }

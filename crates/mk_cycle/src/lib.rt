@@ -9,6 +9,7 @@ mod engine;
 mod freeing;
 mod holding;
 mod releasing;
+mod settling;
 mod turn_steps;
 mod wiping;
 
