@@ -24,7 +24,7 @@ use Rattle.mk_core.specs.Words.{phase_of}
 use Rattle.mk_zeros.specs.Zeros.{IsMappedWord}
 use Rattle.mk_zeros.specs.ZeroLaws.{stores}
 use Rattle.mk_frames.proofs.RunsStill.{HolderFinds, holder_finds}
-use Rattle.mk_words.specs.States.{PassState, world_of, now_of, call_of, event_of}
+use Rattle.mk_words.specs.States.{WordsState, PassState, world_of, now_of, call_of, event_of}
 use Rattle.mk_words.specs.TurnSteps.{world_at, Acts}
 use Rattle.mk_words.proofs.Made.{made}
 use Rattle.mk_turns.proofs.Doing.{does_nothing, does_then, does_step}
@@ -216,3 +216,6 @@ others_free p more t others history at =
       gates = open_stays p q turn.0.other_gates;
       zeros = λ n un zero. finds.outside n un ∙ zero;
     }
+
+pub freed_table : (p q : PassState) (w : WordsState) → Frees p q → p.table ≡ w → q.table ≡ w
+freed_table p q w k is = ap (λ (x : PassState). x.table) k.keeps.call.pass ∙ is

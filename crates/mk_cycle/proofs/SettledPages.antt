@@ -109,7 +109,7 @@ pub settled_left : (p : PassState) (page : ℕ) → IsSettledPage p page → lef
 settled_left p page h = eqb-true _ 0 (and_parts (left_unmarked (now_of p).words page == 0) _ h).0
 
 -- The head of a page's run isn't behind it.
-head_before : (x : Option Header) (page : ℕ) → head_page_under x page ≤ page
+pub head_before : (x : Option Header) (page : ℕ) → head_page_under x page ≤ page
 head_before (Some (header.Later distance mapped)) page = omega arith
 head_before _ page = omega arith
 
@@ -138,3 +138,23 @@ marked_gone a b page quarantine marks t k word is =
     let h = halves a page quarantine t word in
     ap (λ (n : ℕ). without n marks) (h.snapshot ∙ sym (ap (λ (x : PageState). x.snapshot) (k.same page)))
     ∙ ap (λ (n : ℕ). without (slice_index (now_of b).words.snapshot page) n) is
+
+pub head_stays : (p q : PassState) (page : ℕ) → SamePage p q page → head_page (now_of q).words page ≡ head_page (now_of p).words page
+head_stays p q page same = ap (λ (n : ℕ). head_page_under (header_of n) page) (same_header p q page same)
+
+-- No cell is released at the head of the page's run: it is the page itself, or one that is settled.
+pub none_at : (p a b : PassState) (page h : ℕ) → FreesNone p a → GivesBack page a b → h ≤ page
+    → ((r : ℕ) → r < page → IsSettledPage p r) → left_unmarked (now_of b).words h ≡ 0
+none_at p a b page h k g le settled = elim (cases_eq h page) [
+  | inl e ↦ ap (λ (n : ℕ). left_unmarked (now_of b).words n) e ∙ g.none_left
+  | inr ne ↦ same_left a b h (g.frees.others h ne) g.frees.frees.marks ∙ same_left p a h (k.same h) k.frees.marks ∙ settled_left p h (settled h (omega arith))
+]
+
+pub freed_settles : (a q : PassState) (page used : ℕ) → FreesPage page a q
+    → page_state q page ≡ record (page_state a page) { page = record { header = 0; used = used } }
+    → left_unmarked (now_of a).words page ≡ 0 → IsSettledPage q page
+freed_settles a q page used k state none =
+    settled_bare q page
+    (ap (λ (x : PageState). without x.snapshot (slice_index (now_of q).words.marks page)) state
+    ∙ ap (λ (ms : List ℕ). without (slice_index (now_of a).words.snapshot page) (slice_index ms page)) k.frees.marks ∙ none)
+    (ap (λ (x : PageState). x.page.header) state)
