@@ -1,0 +1,101 @@
+-- The steps that a turn which is free for a cycle may make at phase 0.
+use Rattle.std.proofs.Common.{◌≡◌, ℕ, ◌<◌, Bool, true, false, List, refl, sym, subst, ap, ◌∙◌}
+use Rattle.std.specs.Prelude.{slice_index, ◌==◌, ◌||◌, ◌&&◌, ◌%◌, ◌/◌, ◌^◌, if◌then◌else◌, nat_lt, not, Option, None}
+use Rattle.std.proofs.lemmas.Bool.{eq-eqb, lt-ltb}
+use Rattle.mk_geom.specs.declared.addresses.Cell.{Cell}
+use Rattle.mk_core.specs.declared.config.Config.{Config}
+use Rattle.mk_core.specs.declared.events.Seat.{Seat}
+use Rattle.mk_core.specs.declared.events.Tally.{Tally}
+use Rattle.mk_core.specs.declared.events.Word.{Word}
+use Rattle.mk_core.specs.declared.events.Word.TheVariants as word
+use Rattle.mk_core.specs.declared.events.Step.TheVariants as step
+use Rattle.mk_core.specs.declared.seats.Flight.{Flight}
+use Rattle.mk_core.specs.Cells.{heads_run}
+use Rattle.mk_core.specs.Moments.{Moment, is_phase, others_are_held}
+use Rattle.mk_core.specs.NewPlaces.{target}
+use Rattle.mk_core.specs.Ranges.{is_word, is_run_cell, has_gates, has_phase}
+use Rattle.mk_core.specs.TurnConditions.{frees, takes_snapshot, drops, may_quarantine}
+use Rattle.mk_core.specs.Words.{Words, phase_of, quarantine_word}
+use Rattle.mk_protocol.specs.Protocol.{Protocol}
+use Rattle.mk_protocol.proofs.Protocols.{lists_keep_the_protocol}
+use Rattle.mk_never.specs.declared.operations.Op.{Op}
+use Rattle.mk_core.specs.History.{IsHistory}
+use Rattle.mk_words.specs.Seats.{Has}
+use Rattle.mk_words.specs.TurnSteps.{IsTurn}
+use Rattle.mk_words.specs.States.{WordsState, PassState, now_of, call_of}
+use Rattle.mk_words.specs.Steps.{IsEnabledTo}
+use Rattle.mk_cycle.specs.EngineLaw.{IsFreeForCycle, IsAtPhase, is_register}
+use Rattle.mk_cycle.specs.TurnKeeps.{InTurn}
+use Rattle.mk_cycle.proofs.Calm.{no_target}
+use Rattle.mk_cycle.proofs.MayAct.{may_act}
+
+look_gates : (c : Config) (w : Words) (seat : Seat) (f : Flight) (x : Word) → is_register x ≡ false → has_gates c w seat f (step.Look x) ≡ true
+look_gates c w seat f (word.Reg j r) h = cc
+look_gates c w seat f _ h = refl
+
+pub or_true : (a b : Bool) → b ≡ true → (a || b) ≡ true
+or_true true b h = refl
+or_true false b h = h
+
+module _ (p : PassState) (t : InTurn p) (free : IsFreeForCycle p) where
+  pub protocol : Protocol p.table.config (now_of p)
+  protocol = lists_keep_the_protocol p.table.config p.seen t.history.within_limits t.history.enabled
+
+  pub look_allowed : (x : Word) → is_word p.table.config x ≡ true → is_register x ≡ false → IsEnabledTo p (step.Look x)
+  look_allowed x range none =
+      may_act p (step.Look x) protocol t.holds free.decided refl range
+      (look_gates p.table.config (now_of p).words p.seat (call_of p) x none) refl refl
+
+  pub tally_allowed : (n : Tally) (v : ℕ) → IsEnabledTo p (step.Tally n v)
+  tally_allowed n v = may_act p (step.Tally n v) protocol t.holds free.decided refl refl refl refl refl
+
+  module _ (page : ℕ) (lt : page < p.table.config.pages) (none : IsAtPhase p 0) where
+    range : nat_lt page p.table.config.pages ≡ true
+    range = lt-ltb page p.table.config.pages lt
+
+    at_zero : (phase_of (now_of p).words == 0) ≡ true
+    at_zero = eq-eqb (phase_of (now_of p).words) 0 none
+
+    pub clear_allowed : IsEnabledTo p (step.Clear page)
+    clear_allowed = may_act p (step.Clear page) protocol t.holds free.decided refl range refl at_zero refl
+
+    not_two : is_phase (now_of p).words 2 ≡ false
+    not_two = ap (λ (n : ℕ). n == 2) none
+
+    or_left : (a b : Bool) → a ≡ true → (a || b) ≡ true
+    or_left a b h = ap (λ (x : Bool). x || b) h
+
+    pub unblack_allowed : IsEnabledTo p (step.Unblack page)
+    unblack_allowed =
+        may_act p (step.Unblack page) protocol t.holds free.decided refl range
+        (or_left (not (is_phase (now_of p).words 2)) (others_are_held p.table.config.callers (now_of p).words p.seat) (ap not not_two))
+        (or_left (phase_of (now_of p).words == 0) (phase_of (now_of p).words == 2) at_zero)
+        (or_left (not (is_phase (now_of p).words 2)) _ (ap not not_two))
+
+    pub undirty_allowed : IsEnabledTo p (step.Undirty page)
+    undirty_allowed =
+        may_act p (step.Undirty page) protocol t.holds free.decided refl range
+        (or_left (not (is_phase (now_of p).words 2)) (others_are_held p.table.config.callers (now_of p).words p.seat) (ap not not_two))
+        (or_left (phase_of (now_of p).words == 0) (phase_of (now_of p).words == 2) at_zero)
+        (or_left (not (is_phase (now_of p).words 2)) _ (ap not not_two))
+
+    pub snapshot_allowed : (v : ℕ) → v ≡ quarantine_word (slice_index (now_of p).words.freed page) (slice_index (now_of p).words.freed page)
+        → IsEnabledTo p (step.Quar page v)
+    snapshot_allowed v is =
+        let w : Words = (now_of p).words in
+        let f : Flight = call_of p in
+        let none_freed : target p.table.config.pages w f ≡ None = no_target p.table.config.pages w f free.decided in
+        may_act p (step.Quar page v) protocol t.holds free.decided refl range
+        (ap (λ (cell : Option Cell). not (is_run_cell w cell) || others_are_held p.table.config.callers w p.seat) none_freed)
+        (or_left ((phase_of w == 0) || (phase_of w == 1)) (phase_of w == 4) (or_left (phase_of w == 0) (phase_of w == 1) at_zero))
+        (ap (λ (n : ℕ). if n == 4 then drops w page (v % 2 ^ 32) (v / 2 ^ 32) else (frees w (target p.table.config.pages w f) page v || takes_snapshot w page v)) none
+        ∙ or_true (frees w (target p.table.config.pages w f) page v) (takes_snapshot w page v)
+        (ap (λ (b : Bool). b && (v == quarantine_word (slice_index w.freed page) (slice_index w.freed page))) at_zero
+        ∙ eq-eqb v _ is))
+
+-- what `is_in_order` tells of a turn
+pub in_turn : (p : PassState) (o : Option Op) → Has p.seats p.seat → IsTurn p o → IsHistory p.table.config p.seen → InTurn p
+in_turn p o own turn history = record { own = own; holds = turn.holds; history = history }
+
+pub on_table : (p : PassState) (w : WordsState) → p.table ≡ w → (page : ℕ) → page < w.config.pages → page < p.table.config.pages
+on_table p w is page lt = subst (λ (x : WordsState). page < x.config.pages) (sym is) lt

@@ -1,0 +1,223 @@
+-- The `begin` of a cycle, and the calls around it.
+use Rattle.std.proofs.Common.{◌≡◌, ℕ, zero, suc, ◌+◌, ◌*◌, ◌/◌, ◌%◌, ◌^◌, ◌<◌, ◌≤◌, Bool, true, false, List, [], ◌∷◌, ◌++◌, length, refl, sym, ap, subst, ◌∙◌, arith}
+use Rattle.std.specs.Prelude.{◌&&◌, ◌==◌, not, map, filter, sum_by, count_by, if◌then◌else◌, slice_index, Option, None}
+use Rattle.std.proofs.lemmas.Bool.{and_from, eq-eqb}
+use Rattle.std.proofs.lemmas.List.Sums.{count_by-le-length}
+use Rattle.mk_core.specs.declared.config.Config.{Config}
+use Rattle.mk_core.specs.declared.events.Event.{Event}
+use Rattle.mk_core.specs.declared.events.Seat.{Seat}
+use Rattle.mk_core.specs.declared.events.Step.TheVariants as step
+use Rattle.mk_core.specs.declared.seats.Flight.{Flight}
+use Rattle.mk_core.specs.declared.seats.Holding.{Holding}
+use Rattle.mk_core.specs.declared.seats.OwnCycle.TheVariants.{Begun}
+use Rattle.mk_core.specs.Allocations.{PlacedAllocation, no_longer_fresh, unreleased_storage, storage_of, storage_words, held_words, fresh_words_of, is_mapped}
+use Rattle.mk_geom.specs.Storages.{Storage}
+use Rattle.mk_geom.specs.StorageWords.{mapped_words}
+use Rattle.mk_core.specs.Bounded.{all_below}
+use Rattle.mk_core.specs.Counts.{releases, in_a_word, TalliesAreExact, TalliesAreTidy, ends, fulls}
+use Rattle.mk_core.specs.Frames.{Steady, steady_of, CountsAreLeft}
+use Rattle.mk_core.specs.History.{World, world_behind, IsHistory}
+use Rattle.mk_core.specs.Moments.{Moment, flight_of}
+use Rattle.mk_core.specs.Readings.{is_in}
+use Rattle.mk_core.specs.StopConditions.{has_clean_page, may_begin}
+use Rattle.mk_core.specs.Words.{Words, phase_of}
+use Rattle.mk_books.proofs.PlaceLemmas.{count_by-map}
+use Rattle.mk_core.proofs.AllBelow.{all_below_zero_is, all_below_more_is}
+use Rattle.mk_protocol.specs.Protocol.{Protocol, has_place}
+use Rattle.mk_frames.proofs.LastEvents.{stands}
+use Rattle.mk_words.specs.States.{PassState, world_of, now_of, call_of, event_of}
+use Rattle.mk_words.specs.Steps.{IsEnabledTo}
+use Rattle.mk_words.specs.TurnSteps.{world_at, Acts}
+use Rattle.mk_words.proofs.Made.{made}
+use Rattle.mk_cycle.specs.BeginCycle.{BeginsCycle, with_cycle_begun}
+use Rattle.mk_cycle.specs.Cleaning.{Cleans, IsClean}
+use Rattle.mk_cycle.specs.EngineLaw.{IsFreeForCycle, IsAtPhase, BeginsMarking, is_pending_free}
+use Rattle.mk_cycle.specs.TurnKeeps.{Done, done_of, IsGone, KeepsGates, InTurn, but_cleaned}
+use Rattle.mk_cycle.proofs.Allowed.{protocol}
+use Rattle.mk_cycle.proofs.KeptInParts.{gates_behind, gates_then, same_config}
+use Rattle.mk_cycle.proofs.MayAct.{may_act}
+use Rattle.mk_cycle.proofs.OwnSteps.{done_in, same_pass, same_call, still_gone, keeps_counts}
+
+pub all_from : (n : ℕ) (test : ℕ → Bool) → ((k : ℕ) → k < n → test k ≡ true) → all_below n test ≡ true
+all_from zero test h = all_below_zero_is test
+all_from (suc n) test h =
+    subst (λ (k : ℕ). all_below k test ≡ true) (omega arith)
+    (all_below_more_is n test (all_from n test (λ k lt. h k (omega arith))) (h n (omega arith)))
+
+clean_page : (p : PassState) (page : ℕ) → IsClean p page → has_clean_page (now_of p).words page ≡ true
+clean_page p page h =
+    and_from _ _ (and_from _ _ (eq-eqb _ 0 h.unmarked) (eq-eqb _ 0 h.unscanned)) (eq-eqb _ _ (sym h.snapshot))
+
+pub begin_allowed : (p : PassState) → InTurn p → IsFreeForCycle p → IsAtPhase p 0
+    → ((page : ℕ) → page < p.table.config.pages → IsClean p page) → (now_of p).words.fresh ≡ 0 → IsEnabledTo p step.Begin
+begin_allowed p t free none clean fresh =
+    may_act p step.Begin (protocol p t free) t.holds free.decided refl refl refl (eq-eqb (phase_of (now_of p).words) 0 none)
+    (and_from (all_below p.table.config.pages (has_clean_page (now_of p).words)) ((now_of p).words.fresh == 0)
+    (all_from p.table.config.pages (has_clean_page (now_of p).words) (λ page lt. clean_page p page (clean page lt)))
+    (eq-eqb (now_of p).words.fresh 0 fresh))
+
+-- The phase word has the phase and the count of markers, which is small.
+begun_phase : (n markers : ℕ) → n % 8 ≡ 0 → n / 8 ≡ markers → markers ≤ 8 → (n + 1) % 2 ^ 64 % 8 ≡ 1
+begun_phase n markers none high few = omega arith
+
+-- lists that are the same, number by number
+same_list : (xs ys : List ℕ) → length xs ≡ length ys → ((k : ℕ) → k < length xs → slice_index xs k ≡ slice_index ys k) → xs ≡ ys
+same_list [] [] e h = refl
+same_list [] (y ∷ ys) e h = absurd (omega arith)
+same_list (x ∷ xs) [] e h = absurd (omega arith)
+same_list (x ∷ xs) (y ∷ ys) e h =
+    let head : x ≡ y = h 0 (omega arith) in
+    let tail : xs ≡ ys = same_list xs ys (omega arith) (λ k lt. h (suc k) (omega arith)) in
+    ap (λ (z : ℕ). z ∷ xs) head ∙ ap (λ (zs : List ℕ). y ∷ zs) tail
+
+-- What is no longer fresh is held as before.
+
+stale_storage : (c : Config) (xs : List PlacedAllocation) → unreleased_storage c (map no_longer_fresh xs) ≡ unreleased_storage c xs
+unfolding unreleased_storage
+stale_storage c [] = refl
+stale_storage c (a ∷ xs) =
+    ap (λ (ys : List Storage). if a.released then ys else storage_of c a ∷ ys) (stale_storage c xs)
+
+pub stale_held : (c : Config) (xs : List PlacedAllocation) → held_words c (map no_longer_fresh xs) ≡ held_words c xs
+stale_held c xs = ap (λ (ys : List Storage). mapped_words ys) (stale_storage c xs)
+
+never_both : (b : Bool) → (b && false) ≡ false
+never_both true = refl
+never_both false = refl
+
+none_fresh : (c : Config) (xs : List PlacedAllocation) → filter (λ (a : PlacedAllocation). is_mapped c a && a.fresh) (map no_longer_fresh xs) ≡ []
+none_fresh c [] = refl
+none_fresh c (a ∷ xs) =
+    ap (λ (b : Bool). if b then no_longer_fresh a ∷ filter (λ (x : PlacedAllocation). is_mapped c x && x.fresh) (map no_longer_fresh xs)
+    else filter (λ (x : PlacedAllocation). is_mapped c x && x.fresh) (map no_longer_fresh xs)) (never_both (is_mapped c a))
+    ∙ none_fresh c xs
+
+pub stale_releases : (xs : List PlacedAllocation) → releases (map no_longer_fresh xs) ≡ releases xs
+stale_releases xs = count_by-map (λ (a : PlacedAllocation). a.released) no_longer_fresh xs
+
+module _ (p q : PassState) (t : InTurn p) (free : IsFreeForCycle p) (none : IsAtPhase p 0) (u : InTurn q) (a : Acts p step.Begin q) where
+  abbrev w : World
+  w = world_at a.makes
+
+  phase_there : (w.now.words.phase + 1) % 2 ^ 64 % 8 ≡ 1
+  phase_there =
+      let there = (made p step.Begin q a.makes t.own u.history).protocol in
+      let low : w.now.words.phase % 8 ≡ 0 = ap (λ (s : Steady). s.phase) a.turn.steady ∙ none in
+      let few : count_by is_in w.now.seats.markers ≤ 8 =
+      subst (λ (n : ℕ). count_by is_in w.now.seats.markers ≤ n) there.markers (count_by-le-length is_in w.now.seats.markers) in
+      begun_phase w.now.words.phase (count_by is_in w.now.seats.markers) low there.high few
+
+  pub steady_begun : steady_of (world_of q)
+      ≡ record (steady_of (world_of p)) { phase = 1; fresh_words = 0; allocations = map no_longer_fresh (world_of p).allocations }
+  steady_begun =
+      ap (λ (x : World). steady_of x) a.world
+      ∙ ap (λ (n : ℕ). record (steady_of w) { phase = n; fresh_words = 0; allocations = map no_longer_fresh w.allocations }) phase_there
+      ∙ ap (λ (s : Steady). record s { phase = 1; fresh_words = 0; allocations = map no_longer_fresh s.allocations }) a.turn.steady
+
+  pub begun_call : call_of q ≡ call_of p
+  begun_call = same_call p step.Begin q a t.own t.holds u.history (λ n. refl)
+
+  pub begun_done : done_of (now_of q) ≡ record (done_of (now_of p)) { cycle = Begun }
+  begun_done =
+      ap (λ (x : World). done_of x.now) a.world
+      ∙ ap (λ (h : Holding). record (done_in h) { cycle = Begun }) a.holding
+
+  pub begun_gone : IsGone p → IsGone q
+  begun_gone = still_gone p step.Begin q a t.own t.holds u.history (λ n. refl) refl
+
+  pub begun_counts : CountsAreLeft p.table.config p.seen q.seen
+  begun_counts = keeps_counts p step.Begin q a t.own t.holds u.history (λ n. refl) refl
+
+  pub begun_gates : KeepsGates p q
+  begun_gates = gates_behind p step.Begin q a refl
+
+  pub begun_free : IsFreeForCycle q
+  begun_free =
+      record {
+        decided = ap is_pending_free begun_call ∙ free.decided;
+        unplaced = ap (λ (x : Done). has_place x.placing) begun_done ∙ free.unplaced;
+        gone = begun_gone free.gone;
+      }
+
+  pub begun_at_one : IsAtPhase q 1
+  begun_at_one = ap (λ (s : Steady). s.phase) steady_begun
+
+snapshot_is : (b : PassState) → InTurn b → ((page : ℕ) → page < b.table.config.pages → IsClean b page)
+    → (now_of b).words.snapshot ≡ (now_of b).words.freed
+snapshot_is b t clean =
+    let lengths = (stands b.table.config b.seen t.history).known.lengths in
+    same_list (now_of b).words.snapshot (now_of b).words.freed (lengths.snapshot ∙ sym lengths.freed)
+    (λ k lt. (clean k (subst (λ (n : ℕ). k < n) lengths.snapshot lt)).snapshot)
+
+-- the allocations and tallies, from all that only the holder changes
+exact_from : (p q : PassState) → q ≡ record p { seen = q.seen } → steady_of (world_of q) ≡ with_cycle_begun (steady_of (world_of p))
+    → TalliesAreExact p.table.config p.seen → TalliesAreExact q.table.config q.seen
+exact_from p q is steady x =
+    let c : Config = p.table.config in
+    let same : q.table.config ≡ c = same_config p q is in
+    let xs : List PlacedAllocation = (world_of p).allocations in
+    let allocations : (world_of q).allocations ≡ map no_longer_fresh xs = ap (λ (s : Steady). s.allocations) steady in
+    record {
+      held =
+          ap (λ (s : Steady). s.held) steady ∙ x.held
+          ∙ sym (ap (λ (d : Config). held_words d (world_of q).allocations) same
+          ∙ ap (λ (ys : List PlacedAllocation). held_words c ys) allocations ∙ stale_held c xs);
+      fresh =
+          ap (λ (s : Steady). s.fresh) steady
+          ∙ sym (ap (λ (d : Config). in_a_word (fresh_words_of d (world_of q).allocations)) same
+          ∙ ap (λ (ys : List PlacedAllocation). in_a_word (fresh_words_of c ys)) allocations
+          ∙ ap (λ (ys : List PlacedAllocation). in_a_word (sum_by (storage_words c) ys)) (none_fresh c xs));
+    }
+
+tidy_from : (p q : PassState) → q ≡ record p { seen = q.seen } → steady_of (world_of q) ≡ with_cycle_begun (steady_of (world_of p))
+    → CountsAreLeft p.table.config p.seen q.seen → TalliesAreTidy p.table.config p.seen → TalliesAreTidy q.table.config q.seen
+tidy_from p q is steady counts x =
+    let c : Config = p.table.config in
+    let same : q.table.config ≡ c = same_config p q is in
+    record {
+      cycles = ap (λ (s : Steady). s.cycles) steady ∙ x.cycles ∙ ap in_a_word (sym counts.ends);
+      released =
+          ap (λ (s : Steady). s.released) steady ∙ x.released
+          ∙ ap in_a_word (sym (ap (λ (s : Steady). releases s.allocations) steady ∙ stale_releases (world_of p).allocations));
+      full =
+          ap (λ (s : Steady). s.full) steady ∙ x.full ∙ ap in_a_word (sym counts.fulls)
+          ∙ ap (λ (d : Config). in_a_word (fulls d q.seen)) (sym same);
+    }
+
+pub counts_then : (p q r : PassState) → q.table.config ≡ p.table.config → CountsAreLeft p.table.config p.seen q.seen
+    → CountsAreLeft q.table.config q.seen r.seen → CountsAreLeft p.table.config p.seen r.seen
+counts_then p q r same a b =
+    record {
+      ends = b.ends ∙ a.ends;
+      fulls = subst (λ (c : Config). fulls c r.seen ≡ fulls c q.seen) same b.fulls ∙ a.fulls;
+    }
+
+-- All of it: pages are cleaned, the cycle begins, and the engine does its part.
+pub begins_cycle : (p b d q : PassState) → Cleans p b → InTurn b → IsFreeForCycle b → IsAtPhase b 0
+    → ((page : ℕ) → page < b.table.config.pages → IsClean b page) → (now_of b).words.fresh ≡ 0
+    → Acts b step.Begin d → InTurn d → BeginsMarking d q → BeginsCycle p q
+begins_cycle p b d q k t free none clean fresh a u law =
+    let begun = steady_begun b d t free none u a in
+    let first : b ≡ record p { seen = b.seen } = k.keeps.call.pass in
+    let second : d ≡ record p { seen = d.seen } = same_pass b step.Begin d a t.own t.holds u.history ∙ ap (λ (x : PassState). record x { seen = d.seen }) first in
+    let pass : q ≡ record p { seen = q.seen } = law.keeps.call.pass ∙ ap (λ (x : PassState). record x { seen = q.seen }) second in
+    let steady : steady_of (world_of q) ≡ with_cycle_begun (steady_of (world_of p)) =
+    law.keeps.steady ∙ begun
+    ∙ ap (λ (n : ℕ). record (with_cycle_begun (steady_of (world_of b))) { fresh = n; snapshot = (now_of b).words.snapshot }) fresh
+    ∙ ap (λ (ss : List ℕ). record (with_cycle_begun (steady_of (world_of b))) { snapshot = ss }) (snapshot_is b t clean)
+    ∙ ap with_cycle_begun k.keeps.steady in
+    let counts : CountsAreLeft p.table.config p.seen q.seen =
+    counts_then p b q (same_config p b first) k.keeps.counts
+    (counts_then b d q (same_config b d (same_pass b step.Begin d a t.own t.holds u.history)) (begun_counts b d t free none u a) law.keeps.counts) in
+    record {
+      makes = record { cleared = b; begun = d; before = k.does; begin = a.makes; behind = law.does };
+      pass = pass;
+      call = law.keeps.call.call ∙ begun_call b d t free none u a ∙ k.keeps.call.call;
+      done = law.keeps.call.done ∙ begun_done b d t free none u a ∙ ap (λ (x : Done). record x { cycle = Begun }) k.keeps.call.done;
+      steady = steady;
+      counts = counts;
+      gates = gates_then p b q first k.gates (gates_then b d q (same_pass b step.Begin d a t.own t.holds u.history) (begun_gates b d t free none u a) law.gates);
+      gone = law.keeps.call.gone (begun_gone b d t free none u a free.gone);
+      exact = exact_from p q pass steady;
+      tidy = tidy_from p q pass steady counts;
+    }

@@ -1,0 +1,292 @@
+-- Pages are cleaned step by step.
+use Rattle.std.proofs.Common.{◌≡◌, ◌≢◌, ℕ, ◌+◌, ◌<◌, ◌≤◌, ◌%◌, ◌/◌, ◌^◌, Bool, true, false, List, [], ◌∷◌, ◌++◌, length, refl, sym, ap, subst, ◌∙◌, arith, inl, inr}
+use Rattle.std.specs.Prelude.{Option, None, map, slice_index, slice_set, not, ◌&&◌, ◌==◌, nat_lt}
+use Rattle.std.proofs.lemmas.Bool.{cases_eq, cases_lt, eq-eqb, lt-ltb}
+use Rattle.std.proofs.lemmas.List.{get_or-set_same, get_or-set_other, set_past, set-get_or}
+use Rattle.mk_core.specs.declared.config.Config.{Config}
+use Rattle.mk_core.specs.declared.events.Step.{Step}
+use Rattle.mk_core.specs.declared.events.Word.{Word}
+use Rattle.mk_core.specs.declared.events.Seat.{Seat}
+use Rattle.mk_core.specs.declared.events.Step.TheVariants as step
+use Rattle.mk_core.specs.declared.events.Tally.TheVariants as tally
+use Rattle.mk_core.specs.Effects.{holding_behind, progress}
+use Rattle.mk_core.specs.Frames.{Steady, steady_of}
+use Rattle.mk_core.specs.History.{World, world_behind, IsHistory}
+use Rattle.mk_core.specs.Moments.{Moment, flight_of}
+use Rattle.mk_core.specs.Calls.{still}
+use Rattle.mk_core.specs.Cycles.{is_end}
+use Rattle.mk_core.specs.declared.seats.Flight.{Flight}
+use Rattle.mk_zeros.specs.ZeroLaws.{stores}
+use Rattle.mk_core.specs.Words.{Words, phase_of, quarantine_word}
+use Rattle.mk_core.specs.Allocations.{PlacedAllocation, freed_where_it_stands}
+use Rattle.mk_geom.specs.declared.addresses.Cell.{Cell}
+use Rattle.mk_protocol.proofs.Protocols.{lists_keep_the_protocol}
+use Rattle.mk_words.specs.Seats.{Has}
+use Rattle.mk_words.specs.States.{WordsState, PassState, world_of, now_of, call_of, event_of}
+use Rattle.mk_words.specs.Steps.{IsEnabledTo}
+use Rattle.mk_words.specs.TurnSteps.{world_at, Acts}
+use Rattle.mk_turns.specs.Doing.{Does}
+use Rattle.mk_turns.proofs.Doing.{does_nothing, does_then, does_step}
+use Rattle.mk_cycle.specs.Cleaning.{IsUnmarked, IsUnscanned, HasSnapshot, IsClean, Cleans}
+use Rattle.mk_cycle.specs.EngineLaw.{IsFreeForCycle, IsAtPhase, is_pending_free}
+use Rattle.mk_cycle.specs.Kinds.{clears}
+use Rattle.mk_cycle.specs.TurnKeeps.{KeepsCall, KeepsTurn, KeepsGates, InTurn, but_cleaned}
+use Rattle.mk_core.specs.declared.events.Event.{Event}
+use Rattle.mk_frames.proofs.LastEvents.{stands}
+use Rattle.mk_words.proofs.Made.{made}
+use Rattle.mk_cycle.proofs.KeptInParts.{free_then, keeps_at_once, keeps_then, gates_then, gates_behind}
+use Rattle.mk_cycle.proofs.MayAct.{may_act}
+use Rattle.mk_cycle.proofs.Calm.{is_calm, calm_still, calm_done, frees_none}
+use Rattle.mk_cycle.proofs.OwnSteps.{keeps_call, keeps_counts}
+
+pub cleans_nothing : (p : PassState) → Cleans p p
+cleans_nothing p =
+    record {
+      does = does_nothing clears p;
+      keeps = keeps_at_once but_cleaned p;
+      gates = λ j lt. refl;
+      unmarked = λ page h. h;
+      unscanned = λ page h. h;
+      snapshot = λ page h. h;
+    }
+
+pub cleans_then : (p q r : PassState) → Cleans p q → Cleans q r → Cleans p r
+cleans_then p q r a b =
+    record {
+      does = does_then clears p q r a.does b.does;
+      keeps = keeps_then but_cleaned p q r a.keeps b.keeps;
+      gates = gates_then p q r a.keeps.call.pass a.gates b.gates;
+      unmarked = λ page h. b.unmarked page (a.unmarked page h);
+      unscanned = λ page h. b.unscanned page (a.unscanned page h);
+      snapshot = λ page h. b.snapshot page (a.snapshot page h);
+    }
+
+-- A word that is 0 stays so where 0 is stored to one of the list.
+pub zero_stays : (xs : List ℕ) (i r : ℕ) → slice_index xs r ≡ 0 → slice_index (slice_set xs i 0) r ≡ 0
+zero_stays xs i r h = elim (cases_eq r i) [
+  | inr ne ↦ get_or-set_other xs i r 0 0 ne ∙ h
+  | inl e ↦ elim (cases_lt i (length xs)) [
+    | inl near ↦ ap (λ (k : ℕ). slice_index (slice_set xs i 0) k) e ∙ get_or-set_same xs i 0 0 near
+    | inr past ↦ ap (λ (ys : List ℕ). slice_index ys r) (set_past xs i 0 past) ∙ h
+  ]
+]
+
+calm_stores : (s : Step) → is_calm s ≡ true → stores s ≡ false
+calm_stores step.Write h = cc
+calm_stores step.Cas h = cc
+calm_stores _ h = refl
+
+calm_ends : (s : Step) → is_calm s ≡ true → is_end s ≡ false
+calm_ends step.End h = cc
+calm_ends _ h = refl
+
+-- A calm step of a turn that is free for a cycle.
+module _ (p : PassState) (s : Step) (q : PassState) (a : Acts p s q) (t : InTurn p) (history : IsHistory q.table.config q.seen)
+    (kind : is_calm s ≡ true) (free : IsFreeForCycle p) where
+  still_pending : is_pending_free (flight_of (world_at a.makes).now p.seat) ≡ false
+  still_pending = ap is_pending_free a.own.flight ∙ free.decided
+
+  pub calm_keeps : (view : Steady → Steady)
+      → view (steady_of (world_behind p.table.config (world_at a.makes) (event_of p s))) ≡ view (steady_of (world_at a.makes))
+      → KeepsTurn view p q
+  calm_keeps view same =
+      let c : Config = p.table.config in
+      let m : Moment = (world_at a.makes).now in
+      let f : Flight = flight_of m p.seat in
+      let st : (n : ℕ) → progress c m f n s ≡ still f = λ n. calm_still c m f n s kind still_pending in
+      record {
+        call =
+            keeps_call p s q a t.own t.holds history st
+            (λ n. calm_done c m p.seat f n s m.seats.holding kind still_pending) (calm_stores s kind);
+        steady = ap (λ (w : World). view (steady_of w)) a.world ∙ same ∙ ap view a.turn.steady;
+        counts = keeps_counts p s q a t.own t.holds history st (calm_ends s kind);
+      }
+
+-- what a step that cleans makes of the pages' words
+pub record CleansAt (w v : World) : Type 0 where
+  pub steady : but_cleaned (steady_of v) ≡ but_cleaned (steady_of w)
+  pub gates : v.now.words.gates ≡ w.now.words.gates
+  pub unmarked : (r : ℕ) → slice_index w.now.words.marks r ≡ 0 → slice_index v.now.words.marks r ≡ 0
+  pub unscanned : (r : ℕ) → slice_index w.now.words.blacks r ≡ 0 → slice_index v.now.words.blacks r ≡ 0
+  pub snapshot : (r : ℕ) → slice_index w.now.words.snapshot r ≡ slice_index w.now.words.freed r
+      → slice_index v.now.words.snapshot r ≡ slice_index v.now.words.freed r
+
+-- At phase 0 nobody else marks or scans.
+module _ (p : PassState) (s : Step) (q : PassState) (a : Acts p s q) (t : InTurn p) (history : IsHistory q.table.config q.seen)
+    (kind : is_calm s ≡ true) (cleans : clears s ≡ true) (free : IsFreeForCycle p) (none : IsAtPhase p 0) where
+  same_colours : ((world_at a.makes).now.words.marks ≡ (now_of p).words.marks) × ((world_at a.makes).now.words.blacks ≡ (now_of p).words.blacks)
+  same_colours = a.turn.unmarked (λ e. absurd (omega arith)) (λ e. absurd (omega arith))
+
+  pub cleans_step : CleansAt (world_at a.makes) (world_behind p.table.config (world_at a.makes) (event_of p s)) → Cleans p q
+  cleans_step x =
+      record {
+        does = does_step clears p q s t.own a.makes cleans;
+        keeps = calm_keeps p s q a t history kind free but_cleaned x.steady;
+        gates = gates_behind p s q a x.gates;
+        unmarked = λ r h.
+            ap (λ (w : World). slice_index w.now.words.marks r) a.world
+            ∙ x.unmarked r (ap (λ (ms : List ℕ). slice_index ms r) same_colours.0 ∙ h);
+        unscanned = λ r h.
+            ap (λ (w : World). slice_index w.now.words.blacks r) a.world
+            ∙ x.unscanned r (ap (λ (ms : List ℕ). slice_index ms r) same_colours.1 ∙ h);
+        snapshot = λ r h.
+            ap (λ (w : World). slice_index w.now.words.snapshot r) a.world
+            ∙ x.snapshot r (ap (λ (y : Steady). slice_index y.snapshot r) a.turn.steady ∙ h ∙ sym (ap (λ (y : Steady). slice_index y.freed r) a.turn.steady))
+            ∙ sym (ap (λ (w : World). slice_index w.now.words.freed r) a.world);
+      }
+
+-- by kind
+
+pub look_cleans : (c : Config) (w : World) (seat : Seat) (x : Word) → CleansAt w (world_behind c w (record { seat = seat; step = step.Look x }))
+look_cleans c w seat x =
+    record { steady = refl; gates = refl; unmarked = λ r h. h; unscanned = λ r h. h; snapshot = λ r h. h }
+
+pub clear_cleans : (c : Config) (w : World) (seat : Seat) (p : ℕ) → CleansAt w (world_behind c w (record { seat = seat; step = step.Clear p }))
+clear_cleans c w seat p =
+    record { steady = refl; gates = refl; unmarked = zero_stays w.now.words.marks p; unscanned = λ r h. h; snapshot = λ r h. h }
+
+pub unblack_cleans : (c : Config) (w : World) (seat : Seat) (p : ℕ) → CleansAt w (world_behind c w (record { seat = seat; step = step.Unblack p }))
+unblack_cleans c w seat p =
+    record { steady = refl; gates = refl; unmarked = λ r h. h; unscanned = zero_stays w.now.words.blacks p; snapshot = λ r h. h }
+
+pub undirty_cleans : (c : Config) (w : World) (seat : Seat) (p : ℕ) → CleansAt w (world_behind c w (record { seat = seat; step = step.Undirty p }))
+undirty_cleans c w seat p =
+    record { steady = refl; gates = refl; unmarked = λ r h. h; unscanned = λ r h. h; snapshot = λ r h. h }
+
+-- `quar` (b): the low half is stored over itself
+
+low_half : (f : ℕ) → f < 2 ^ 32 → quarantine_word f f % 2 ^ 32 ≡ f
+low_half f lt = omega arith
+
+high_half : (f : ℕ) → f < 2 ^ 32 → quarantine_word f f / 2 ^ 32 ≡ f
+high_half f lt = omega arith
+
+copied : (fs ss : List ℕ) (p r : ℕ) → p < length ss → slice_index ss r ≡ slice_index fs r
+    → slice_index (slice_set ss p (slice_index fs p)) r ≡ slice_index fs r
+copied fs ss p r lt h = elim (cases_eq r p) [
+  | inr ne ↦ get_or-set_other ss p r (slice_index fs p) 0 ne ∙ h
+  | inl e ↦ ap (λ (k : ℕ). slice_index (slice_set ss p (slice_index fs p)) k) e ∙ get_or-set_same ss p (slice_index fs p) 0 lt
+      ∙ ap (λ (k : ℕ). slice_index fs k) (sym e)
+]
+
+none_freed : (w : Words) (xs : List PlacedAllocation) → map (freed_where_it_stands w None) xs ≡ xs
+none_freed w [] = refl
+none_freed w (a ∷ xs) = ap (λ (ys : List PlacedAllocation). a ∷ ys) (none_freed w xs)
+
+-- A `quar` of a call that isn't an undecided Free frees nothing.
+pub quar_frees_none : (c : Config) (w : World) (seat : Seat) (p v : ℕ) → is_pending_free (flight_of w.now seat) ≡ false
+    → (world_behind c w (record { seat = seat; step = step.Quar p v })).allocations ≡ w.allocations
+quar_frees_none c w seat p v free =
+    ap (λ (cell : Option Cell). map (freed_where_it_stands w.now.words cell) w.allocations) (frees_none c.pages w.now.words (flight_of w.now seat) p v free)
+    ∙ none_freed w.now.words w.allocations
+
+pub quar_cleans : (c : Config) (w : World) (seat : Seat) (p v : ℕ) → is_pending_free (flight_of w.now seat) ≡ false
+    → p < length w.now.words.snapshot → slice_index w.now.words.freed p < 2 ^ 32
+    → v ≡ quarantine_word (slice_index w.now.words.freed p) (slice_index w.now.words.freed p)
+    → CleansAt w (world_behind c w (record { seat = seat; step = step.Quar p v }))
+quar_cleans c w seat p v free lt small is =
+    let f : ℕ = slice_index w.now.words.freed p in
+    let low : v % 2 ^ 32 ≡ f = ap (λ (n : ℕ). n % 2 ^ 32) is ∙ low_half f small in
+    let high : v / 2 ^ 32 ≡ f = ap (λ (n : ℕ). n / 2 ^ 32) is ∙ high_half f small in
+    let same : slice_set w.now.words.freed p (v % 2 ^ 32) ≡ w.now.words.freed =
+    ap (λ (n : ℕ). slice_set w.now.words.freed p n) low ∙ set-get_or w.now.words.freed p 0 in
+    record {
+      steady =
+          ap (λ (fs : List ℕ). record (but_cleaned (steady_of w)) { freed = fs; allocations = (world_behind c w (record { seat = seat; step = step.Quar p v })).allocations }) same
+          ∙ ap (λ (xs : List PlacedAllocation). record (but_cleaned (steady_of w)) { allocations = xs }) (quar_frees_none c w seat p v free);
+      gates = refl;
+      unmarked = λ r h. h;
+      unscanned = λ r h. h;
+      snapshot = λ r h.
+          ap (λ (n : ℕ). slice_index (slice_set w.now.words.snapshot p n) r) high
+          ∙ copied w.now.words.freed w.now.words.snapshot p r lt h
+          ∙ sym (ap (λ (fs : List ℕ). slice_index fs r) same);
+    }
+
+-- What is free for a cycle stays so while pages are cleaned, at phase 0.
+
+pub cleaned_free : (p q : PassState) → Cleans p q → IsFreeForCycle p → IsFreeForCycle q
+cleaned_free p q k free = free_then p q k.keeps.call free
+
+pub cleaned_phase : (p q : PassState) → Cleans p q → IsAtPhase p 0 → IsAtPhase q 0
+cleaned_phase p q k none = ap (λ (s : Steady). s.phase) k.keeps.steady ∙ none
+
+pub cleaned_table : (p q : PassState) (w : WordsState) → Cleans p q → p.table ≡ w → q.table ≡ w
+cleaned_table p q w k is = ap (λ (x : PassState). x.table) k.keeps.call.pass ∙ is
+
+-- Each step by which they are.
+module _ (p q : PassState) (t : InTurn p) (free : IsFreeForCycle p) (none : IsAtPhase p 0) (u : InTurn q) where
+  pub looked : (x : Word) → Acts p (step.Look x) q → Cleans p q
+  looked x a = cleans_step p (step.Look x) q a t u.history refl refl free none (look_cleans p.table.config (world_at a.makes) p.seat x)
+
+  pub cleared : (page : ℕ) → Acts p (step.Clear page) q → Cleans p q
+  cleared page a = cleans_step p (step.Clear page) q a t u.history refl refl free none (clear_cleans p.table.config (world_at a.makes) p.seat page)
+
+  pub unblacked : (page : ℕ) → Acts p (step.Unblack page) q → Cleans p q
+  unblacked page a = cleans_step p (step.Unblack page) q a t u.history refl refl free none (unblack_cleans p.table.config (world_at a.makes) p.seat page)
+
+  pub undirtied : (page : ℕ) → Acts p (step.Undirty page) q → Cleans p q
+  undirtied page a = cleans_step p (step.Undirty page) q a t u.history refl refl free none (undirty_cleans p.table.config (world_at a.makes) p.seat page)
+
+  pub tallied : (v : ℕ) → Acts p (step.Tally tally.Fresh v) q → Cleans p q
+  tallied v a =
+      cleans_step p (step.Tally tally.Fresh v) q a t u.history refl refl free none
+      (record { steady = refl; gates = refl; unmarked = λ r h. h; unscanned = λ r h. h; snapshot = λ r h. h })
+
+  module _ (page v : ℕ) (a : Acts p (step.Quar page v) q) (lt : page < p.table.config.pages)
+      (is : v ≡ quarantine_word (slice_index (now_of p).words.freed page) (slice_index (now_of p).words.freed page)) where
+    w : World
+    w = world_at a.makes
+
+    same_freed : slice_index w.now.words.freed page ≡ slice_index (now_of p).words.freed page
+    unfolding w
+    same_freed = ap (λ (s : Steady). slice_index s.freed page) a.turn.steady
+
+    pub snapshot_taken : Cleans p q
+    unfolding w
+    snapshot_taken =
+        let c : Config = p.table.config in
+        let es : List Event = p.seen ++ a.makes.others in
+        let known = stands c es (made p (step.Quar page v) q a.makes t.own u.history).history in
+        let long : page < length w.now.words.snapshot = subst (λ (n : ℕ). page < n) (sym known.known.lengths.snapshot) lt in
+        let small : slice_index w.now.words.freed page < 2 ^ 32 = (known.all.order.quarantined.small page).0 in
+        cleans_step p (step.Quar page v) q a t u.history refl refl free none
+        (quar_cleans c w p.seat page v (ap is_pending_free a.own.flight ∙ free.decided) long small
+        (is ∙ ap (λ (n : ℕ). quarantine_word n n) (sym same_freed)))
+
+    pub has_snapshot : HasSnapshot q page
+    unfolding w
+    has_snapshot =
+        let c : Config = p.table.config in
+        let es : List Event = p.seen ++ a.makes.others in
+        let known = stands c es (made p (step.Quar page v) q a.makes t.own u.history).history in
+        let long : page < length w.now.words.snapshot = subst (λ (n : ℕ). page < n) (sym known.known.lengths.snapshot) lt in
+        let long' : page < length w.now.words.freed = subst (λ (n : ℕ). page < n) (sym known.known.lengths.freed) lt in
+        let f : ℕ = slice_index (now_of p).words.freed page in
+        let small : slice_index w.now.words.freed page < 2 ^ 32 = (known.all.order.quarantined.small page).0 in
+        let little : f < 2 ^ 32 = subst (λ (n : ℕ). n < 2 ^ 32) same_freed small in
+        ap (λ (x : World). slice_index x.now.words.snapshot page) a.world
+        ∙ get_or-set_same w.now.words.snapshot page (v / 2 ^ 32) 0 long
+        ∙ ap (λ (n : ℕ). n / 2 ^ 32) is ∙ high_half f little
+        ∙ sym (ap (λ (x : World). slice_index x.now.words.freed page) a.world
+        ∙ get_or-set_same w.now.words.freed page (v % 2 ^ 32) 0 long'
+        ∙ ap (λ (n : ℕ). n % 2 ^ 32) is ∙ low_half f little)
+
+pub then_cleans : (p q r : PassState) → IsFreeForCycle p → IsAtPhase p 0 → Cleans p q → (IsFreeForCycle q → IsAtPhase q 0 → Cleans q r) → Cleans p r
+then_cleans p q r free none a b = cleans_then p q r a (b (cleaned_free p q a free) (cleaned_phase p q a none))
+
+pub clean_stays : (p q : PassState) (page : ℕ) → Cleans p q → IsClean p page → IsClean q page
+clean_stays p q page k h =
+    record { unmarked = k.unmarked page h.unmarked; unscanned = k.unscanned page h.unscanned; snapshot = k.snapshot page h.snapshot }
+
+-- what a look at a quarantine word tells: its halves
+pub record Halves (p : PassState) (page n : ℕ) : Type 0 where
+  pub freed : n % 2 ^ 32 ≡ slice_index (now_of p).words.freed page
+  pub snapshot : n / 2 ^ 32 ≡ slice_index (now_of p).words.snapshot page
+
+pub halves : (p : PassState) (page n : ℕ) → InTurn p
+    → n ≡ quarantine_word (slice_index (now_of p).words.freed page) (slice_index (now_of p).words.snapshot page) → Halves p page n
+halves p page n t is =
+    let known = stands p.table.config p.seen t.history in
+    let small = (known.all.order.quarantined.small page).0 in
+    record { freed = omega arith; snapshot = omega arith }

@@ -1,0 +1,221 @@
+-- Cells are given back step by step.
+use Rattle.std.proofs.Common.{◌≡◌, ◌≢◌, ℕ, ◌+◌, ◌<◌, ◌≤◌, Bool, true, false, List, [], ◌∷◌, ◌++◌, length, refl, sym, ap, subst, ◌∙◌, arith, inl, inr, append-nil, append_assoc}
+use Rattle.std.specs.Prelude.{slice_index, slice_set, ◌==◌, not, ◌&&◌, if◌then◌else◌, Option, ◌⊎◌}
+use Rattle.std.proofs.lemmas.Bool.{cases_Bool, cases_eq, cases_lt, eq-eqb, eqb-true, eqb-false, ne_eqb, false_from_ne_true, true≢false}
+use Rattle.std.proofs.lemmas.List.{get_or-set_same, get_or-set_other, set_past}
+use Rattle.mk_core.specs.declared.config.Config.{Config}
+use Rattle.mk_core.specs.declared.events.Event.{Event}
+use Rattle.mk_core.specs.declared.events.Seat.{Seat}
+use Rattle.mk_core.specs.declared.events.Word.{Word}
+use Rattle.mk_core.specs.declared.events.Step.{Step}
+use Rattle.mk_core.specs.declared.events.Step.TheVariants as step
+use Rattle.mk_core.specs.declared.seats.Flight.{Flight}
+use Rattle.mk_core.specs.declared.seats.Holding.{Holding}
+use Rattle.mk_core.specs.Allocations.{PlacedAllocation}
+use Rattle.mk_core.specs.Calls.{still}
+use Rattle.mk_core.specs.Cycles.{is_end}
+use Rattle.mk_core.specs.Effects.{progress, holding_behind, chosen, taken}
+use Rattle.mk_core.specs.TurnConditions.{place_now}
+use Rattle.mk_core.specs.Frames.{Steady, steady_of, TurnIsLeft}
+use Rattle.mk_core.specs.Growing.{AreOfOthers}
+use Rattle.mk_core.specs.History.{World, world_behind, left, IsHistory}
+use Rattle.mk_core.specs.Moments.{Moment, flight_of, is_held, is_phase}
+use Rattle.mk_core.specs.Words.{phase_of}
+use Rattle.mk_zeros.specs.Zeros.{IsMappedWord}
+use Rattle.mk_zeros.specs.ZeroLaws.{stores}
+use Rattle.mk_frames.proofs.RunsStill.{HolderFinds, holder_finds}
+use Rattle.mk_words.specs.States.{WordsState, PassState, world_of, now_of, call_of, event_of}
+use Rattle.mk_words.specs.TurnSteps.{world_at, Acts}
+use Rattle.mk_words.proofs.Made.{made}
+use Rattle.mk_turns.proofs.Doing.{does_nothing, does_then, does_step}
+use Rattle.mk_cycle.specs.EngineLaw.{IsFreeForCycle, IsAtPhase, is_pending_free}
+use Rattle.mk_cycle.specs.Freeing.{but_pages, IsUnmapped, IsZero, Frees}
+use Rattle.mk_cycle.specs.Kinds.{gives_back}
+use Rattle.mk_cycle.specs.TurnKeeps.{InTurn, KeepsTurn}
+use Rattle.mk_core.specs.NewPlaces.{is_run_gone}
+use Rattle.mk_core.specs.Growing.{Finding}
+use Rattle.mk_core.proofs.HistoryParts.{earlier_part_is_history}
+use Rattle.mk_protocol.proofs.Frames.{others_leave}
+use Rattle.mk_words.proofs.Seats.{others_own}
+use Rattle.mk_turns.specs.Doing.{are_of}
+use Rattle.mk_turns.proofs.Doing.{others_are_so, none_own}
+use Rattle.mk_cycle.proofs.CleaningSteps.{quar_frees_none, zero_stays}
+use Rattle.mk_cycle.proofs.Calm.{is_calm, calm_still, calm_done}
+use Rattle.mk_cycle.proofs.KeptInParts.{free_then, keeps_at_once, keeps_then, same_config}
+use Rattle.mk_cycle.proofs.OwnSteps.{done_in, keeps_call, keeps_counts}
+
+pub frees_nothing : (p : PassState) → Frees p p
+frees_nothing p =
+    record {
+      does = does_nothing gives_back p;
+      keeps = keeps_at_once but_pages p;
+      marks = refl;
+      gates = λ j h. h;
+      zeros = λ n u h. h;
+    }
+
+same_allocations : (p q : PassState) → KeepsTurn but_pages p q → (world_of q).allocations ≡ (world_of p).allocations
+same_allocations p q k = ap (λ (s : Steady). s.allocations) k.steady
+
+pub still_unmapped : (p q : PassState) (n : ℕ) → KeepsTurn but_pages p q → IsUnmapped p n → IsUnmapped q n
+still_unmapped p q n k h m =
+    h (subst (λ (c : Config). IsMappedWord c (world_of p).allocations n) (same_config p q k.call.pass)
+    (subst (λ (xs : List PlacedAllocation). IsMappedWord q.table.config xs n) (same_allocations p q k) m))
+
+pub frees_then : (p q r : PassState) → Frees p q → Frees q r → Frees p r
+frees_then p q r a b =
+    record {
+      does = does_then gives_back p q r a.does b.does;
+      keeps = keeps_then but_pages p q r a.keeps b.keeps;
+      marks = b.marks ∙ a.marks;
+      gates = λ j h. b.gates j (a.gates j h);
+      zeros = λ n u h. b.zeros n (still_unmapped p q n a.keeps u) (a.zeros n u h);
+    }
+
+pub freed_free : (p q : PassState) → Frees p q → IsFreeForCycle p → IsFreeForCycle q
+freed_free p q k free = free_then p q k.keeps.call free
+
+pub freed_phase : (p q : PassState) → Frees p q → IsAtPhase p 4 → IsAtPhase q 4
+freed_phase p q k at = ap (λ (s : Steady). s.phase) k.keeps.steady ∙ at
+
+-- A step that is calm, or that stores a header or a used word at phase 4, goes on with the call and what was done.
+
+abbrev pub frees_calmly : Step → Bool
+frees_calmly (step.Head p v) = true
+frees_calmly (step.Used p v) = true
+frees_calmly s = is_calm s
+
+frees_still : (c : Config) (m : Moment) (f : Flight) (n : ℕ) (s : Step) → frees_calmly s ≡ true → is_pending_free f ≡ false
+    → progress c m f n s ≡ still f
+frees_still c m f n (step.Head p v) h free = refl
+frees_still c m f n (step.Used p v) h free = refl
+frees_still c m f n s h free = calm_still c m f n s h free
+
+frees_done : (c : Config) (m : Moment) (seat : Seat) (f : Flight) (n : ℕ) (s : Step) (h : Holding) → frees_calmly s ≡ true
+    → is_pending_free f ≡ false → is_phase m.words 4 ≡ true → done_in (holding_behind c m seat f n s h) ≡ done_in h
+frees_done c m seat f n (step.Head p v) h kind free at =
+    ap (λ (b : Bool). done_in (record h { placing = if b then h.placing else chosen h.placing (place_now c m f) })) at
+frees_done c m seat f n (step.Used p v) h kind free at =
+    ap (λ (b : Bool). done_in (record h { placing = if b then h.placing else taken h.placing (place_now c m f) })) at
+frees_done c m seat f n s h kind free at = calm_done c m seat f n s h kind free
+
+frees_stores : (s : Step) → frees_calmly s ≡ true → stores s ≡ false
+frees_stores step.Write h = cc
+frees_stores step.Cas h = cc
+frees_stores _ h = refl
+
+frees_ends : (s : Step) → frees_calmly s ≡ true → is_end s ≡ false
+frees_ends step.End h = cc
+frees_ends _ h = refl
+
+-- what a step that gives back makes of the words
+pub record FreesAt (w v : World) : Type 0 where
+  pub steady : but_pages (steady_of v) ≡ but_pages (steady_of w)
+  pub marks : v.now.words.marks ≡ w.now.words.marks
+  pub gates : (j : ℕ) → slice_index w.now.words.gates j ≢ 2 → slice_index v.now.words.gates j ≢ 2
+  pub zeros : (n : ℕ) → slice_index w.now.words.heap n ≡ 0 → slice_index v.now.words.heap n ≡ 0
+
+open_stays : (p q : PassState) → ((j : ℕ) → slice_index (now_of p).words.gates j ≢ 2 → slice_index (now_of q).words.gates j ≢ 2)
+    → (j : ℕ) → is_held (now_of p).words j ≡ false → is_held (now_of q).words j ≡ false
+open_stays p q h j e = ne_eqb _ 2 (h j (eqb-false _ 2 e))
+
+module _ (p : PassState) (s : Step) (q : PassState) (a : Acts p s q) (t : InTurn p) (u : InTurn q)
+    (kind : frees_calmly s ≡ true) (gives : gives_back s ≡ true) (free : IsFreeForCycle p) (at : IsAtPhase p 4) where
+  pub frees_step : FreesAt (world_at a.makes) (world_behind p.table.config (world_at a.makes) (event_of p s)) → Frees p q
+  frees_step x =
+      let c : Config = p.table.config in
+      let w : World = world_at a.makes in
+      let m : Moment = w.now in
+      let f : Flight = flight_of m p.seat in
+      let d = made p s q a.makes t.own u.history in
+      let pending : is_pending_free f ≡ false = ap is_pending_free a.own.flight ∙ free.decided in
+      let st : (n : ℕ) → progress c m f n s ≡ still f = λ n. frees_still c m f n s kind pending in
+      let four : is_phase m.words 4 ≡ true = eq-eqb (phase_of m.words) 4 (ap (λ (y : Steady). y.phase) a.turn.steady ∙ at) in
+      let finds : HolderFinds c p.seat (world_of p) w = holder_finds c p.seat p.seen a.makes.others d.history d.others t.holds in
+      record {
+        does = does_step gives_back p q s t.own a.makes gives;
+        keeps = record {
+          call = keeps_call p s q a t.own t.holds u.history st (λ n. frees_done c m p.seat f n s m.seats.holding kind pending four) (frees_stores s kind);
+          steady = ap (λ (y : World). but_pages (steady_of y)) a.world ∙ x.steady ∙ ap but_pages a.turn.steady;
+          counts = keeps_counts p s q a t.own t.holds u.history st (frees_ends s kind);
+        };
+        marks = ap (λ (y : World). y.now.words.marks) a.world ∙ x.marks ∙ (a.turn.unmarked (λ e. absurd (omega arith)) (λ e. absurd (omega arith))).0;
+        gates = open_stays p q (λ j ne.
+            subst (λ (y : World). slice_index y.now.words.gates j ≢ 2) (sym a.world) (x.gates j (a.turn.other_gates j ne)));
+        zeros = λ n un zero.
+            ap (λ (y : World). slice_index y.now.words.heap n) a.world ∙ x.zeros n (finds.outside n un ∙ zero);
+      }
+
+-- by kind
+
+pub look_gives : (c : Config) (w : World) (seat : Seat) (x : Word) → FreesAt w (world_behind c w (record { seat = seat; step = step.Look x }))
+look_gives c w seat x = record { steady = refl; marks = refl; gates = λ j h. h; zeros = λ n h. h }
+
+pub wipe_gives : (c : Config) (w : World) (seat : Seat) (n : ℕ) → FreesAt w (world_behind c w (record { seat = seat; step = step.Wipe n }))
+wipe_gives c w seat n = record { steady = refl; marks = refl; gates = λ j h. h; zeros = zero_stays w.now.words.heap n }
+
+pub used_gives : (c : Config) (w : World) (seat : Seat) (p v : ℕ) → FreesAt w (world_behind c w (record { seat = seat; step = step.Used p v }))
+used_gives c w seat p v = record { steady = refl; marks = refl; gates = λ j h. h; zeros = λ n h. h }
+
+pub head_gives : (c : Config) (w : World) (seat : Seat) (p v : ℕ) → FreesAt w (world_behind c w (record { seat = seat; step = step.Head p v }))
+head_gives c w seat p v = record { steady = refl; marks = refl; gates = λ j h. h; zeros = λ n h. h }
+
+pub quar_gives : (c : Config) (w : World) (seat : Seat) (p v : ℕ) → is_pending_free (flight_of w.now seat) ≡ false
+    → FreesAt w (world_behind c w (record { seat = seat; step = step.Quar p v }))
+quar_gives c w seat p v free =
+    record {
+      steady = ap (λ (xs : List PlacedAllocation). record (but_pages (steady_of w)) { allocations = xs }) (quar_frees_none c w seat p v free);
+      marks = refl;
+      gates = λ j h. h;
+      zeros = λ n h. h;
+    }
+
+still_open : (gs : List ℕ) (i j : ℕ) → slice_index gs j ≢ 2 → slice_index (slice_set gs i 0) j ≢ 2
+still_open gs i j h two = elim (cases_eq j i) [
+  | inr ne ↦ h (sym (get_or-set_other gs i j 0 0 ne) ∙ two)
+  | inl e ↦ elim (cases_lt i (length gs)) [
+    | inl near ↦
+        let zero : slice_index (slice_set gs i 0) j ≡ 0 = ap (λ (k : ℕ). slice_index (slice_set gs i 0) k) e ∙ get_or-set_same gs i 0 0 near in
+        absurd (omega arith)
+    | inr past ↦ h (sym (ap (λ (ys : List ℕ). slice_index ys j) (set_past gs i 0 past)) ∙ two)
+  ]
+]
+
+pub open_gives : (c : Config) (w : World) (seat : Seat) (j : ℕ) → FreesAt w (world_behind c w (record { seat = seat; step = step.Open j }))
+open_gives c w seat j = record { steady = refl; marks = refl; gates = still_open w.now.words.gates j; zeros = λ n h. h }
+
+-- what others leave is left
+pub others_free : (p : PassState) (more : List Event) → InTurn p → AreOfOthers p.seats more → IsHistory p.table.config (p.seen ++ more)
+    → IsAtPhase p 4 → Frees p (record p { seen = p.seen ++ more })
+others_free p more t others history at =
+    let c : Config = p.table.config in
+    let q : PassState = record p { seen = p.seen ++ more } in
+    let away = others_own p.seats p.seat more t.own others in
+    let before = earlier_part_is_history c p.seen more history in
+    let frame = others_leave c p.seen more p.seat before.within_limits history.enabled away in
+    let turn = frame.turn t.holds in
+    let finds = holder_finds c p.seat p.seen more history away t.holds in
+    record {
+      does = record {
+        more = more;
+        is = refl;
+        own_or_others = others_are_so p.seats p.seat more t.own others;
+        of_kinds = ap (λ (xs : List Finding). are_of gives_back xs) (none_own c p.seats p.seat (world_of p) more t.own others);
+      };
+      keeps = record {
+        call = record {
+          pass = refl;
+          call = frame.own.flight;
+          done = ap (λ (h : Holding). done_in h) finds.holding;
+          gone = λ g. ap (λ (h : Holding). is_run_gone (now_of q).words h.freed) finds.holding ∙ finds.gone g;
+        };
+        steady = ap but_pages turn.0.steady;
+        counts = turn.1;
+      };
+      marks = (turn.0.unmarked (λ e. absurd (omega arith)) (λ e. absurd (omega arith))).0;
+      gates = open_stays p q turn.0.other_gates;
+      zeros = λ n un zero. finds.outside n un ∙ zero;
+    }
+
+pub freed_table : (p q : PassState) (w : WordsState) → Frees p q → p.table ≡ w → q.table ≡ w
+freed_table p q w k is = ap (λ (x : PassState). x.table) k.keeps.call.pass ∙ is

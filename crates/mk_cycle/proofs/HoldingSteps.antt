@@ -1,0 +1,101 @@
+-- Gates are held one after the other.
+use Rattle.std.proofs.Common.{◌≡◌, ◌≢◌, ℕ, ◌<◌, Bool, true, false, List, length, refl, sym, ap, subst, ◌∙◌, arith, inl, inr}
+use Rattle.std.specs.Prelude.{slice_index, slice_set, ◌==◌, ◌&&◌, ◌||◌, not, nat_lt, if◌then◌else◌}
+use Rattle.std.proofs.lemmas.Bool.{and_from, cases_Bool, cases_eq, cases_lt, eq-eqb, eqb-true, lt-ltb, ne_eqb}
+use Rattle.std.proofs.lemmas.List.{get_or-set_same, get_or-set_other, set_past}
+use Rattle.mk_core.specs.declared.config.Config.{Config}
+use Rattle.mk_core.specs.declared.events.Seat.{Seat}
+use Rattle.mk_core.specs.declared.events.Step.{Step}
+use Rattle.mk_core.specs.declared.events.Word.TheVariants as word
+use Rattle.mk_core.specs.declared.events.Step.TheVariants as step
+use Rattle.mk_core.specs.Frames.{Steady}
+use Rattle.mk_core.specs.History.{World}
+use Rattle.mk_core.specs.Moments.{is_held, is_number_of, others_are_held}
+use Rattle.mk_words.specs.States.{WordsState, PassState, now_of}
+use Rattle.mk_words.specs.Steps.{IsEnabledTo}
+use Rattle.mk_words.specs.TurnSteps.{world_at, Acts}
+use Rattle.mk_turns.proofs.Doing.{does_nothing, does_then, does_step}
+use Rattle.mk_cycle.specs.EngineLaw.{IsFreeForCycle}
+use Rattle.mk_cycle.specs.Holding.{HoldsGates, IsHeldOrOwn}
+use Rattle.mk_cycle.specs.Kinds.{holds_gates}
+use Rattle.mk_cycle.specs.TurnKeeps.{InTurn, whole}
+use Rattle.mk_cycle.proofs.Allowed.{protocol}
+use Rattle.mk_cycle.proofs.BeginSteps.{all_from}
+use Rattle.mk_cycle.proofs.CleaningSteps.{calm_keeps}
+use Rattle.mk_cycle.proofs.KeptInParts.{free_then, keeps_at_once, keeps_then}
+use Rattle.mk_cycle.proofs.MayAct.{may_act}
+
+pub holds_nothing : (p : PassState) → HoldsGates p p
+holds_nothing p = record { does = does_nothing holds_gates p; keeps = keeps_at_once whole p; held = λ j h. h }
+
+pub holds_then : (p q r : PassState) → HoldsGates p q → HoldsGates q r → HoldsGates p r
+holds_then p q r a b =
+    record {
+      does = does_then holds_gates p q r a.does b.does;
+      keeps = keeps_then whole p q r a.keeps b.keeps;
+      held = λ j h. b.held j (a.held j h);
+    }
+
+pub held_free : (p q : PassState) → HoldsGates p q → IsFreeForCycle p → IsFreeForCycle q
+held_free p q k free = free_then p q k.keeps.call free
+
+pub held_table : (p q : PassState) (w : WordsState) → HoldsGates p q → p.table ≡ w → q.table ≡ w
+held_table p q w k is = ap (λ (x : PassState). x.table) k.keeps.call.pass ∙ is
+
+pub held_seat : (p q : PassState) → HoldsGates p q → q.seat ≡ p.seat
+held_seat p q k = ap (λ (x : PassState). x.seat) k.keeps.call.pass
+
+pub hold_allowed : (p : PassState) → InTurn p → IsFreeForCycle p → (j : ℕ) → j < p.table.config.callers → is_number_of p.seat j ≡ false
+    → is_held (now_of p).words j ≡ false → IsEnabledTo p (step.Hold j)
+hold_allowed p t free j lt other none =
+    may_act p (step.Hold j) (protocol p t free) t.holds free.decided refl
+    (and_from (nat_lt j p.table.config.callers) (not (is_number_of p.seat j)) (lt-ltb j p.table.config.callers lt) (ap not other))
+    (ap not none) refl refl
+
+-- A gate that is held stays so where one that was found open is held.
+stays_held : (gs : List ℕ) (i j : ℕ) → slice_index gs j ≡ 2 → slice_index (slice_set gs i (if slice_index gs i == 0 then 2 else slice_index gs i)) j ≡ 2
+stays_held gs i j two = elim (cases_eq j i) [
+  | inr ne ↦ get_or-set_other gs i j _ 0 ne ∙ two
+  | inl e ↦ elim (cases_lt i (length gs)) [
+    | inr past ↦ ap (λ (ys : List ℕ). slice_index ys j) (set_past gs i _ past) ∙ two
+    | inl near ↦
+        let here : slice_index gs i ≡ 2 = ap (λ (k : ℕ). slice_index gs k) (sym e) ∙ two in
+        ap (λ (k : ℕ). slice_index (slice_set gs i (if slice_index gs i == 0 then 2 else slice_index gs i)) k) e
+        ∙ get_or-set_same gs i _ 0 near
+        ∙ ap (λ (b : Bool). if b then 2 else slice_index gs i) (ne_eqb (slice_index gs i) 0 (λ z. absurd (omega arith))) ∙ here
+  ]
+]
+
+module _ (p q : PassState) (t : InTurn p) (free : IsFreeForCycle p) (u : InTurn q) where
+  pub look_holds : (j : ℕ) → Acts p (step.Look (word.Gate j)) q → HoldsGates p q
+  look_holds j a =
+      record {
+        does = does_step holds_gates p q (step.Look (word.Gate j)) t.own a.makes refl;
+        keeps = calm_keeps p (step.Look (word.Gate j)) q a t u.history refl free whole refl;
+        held = λ i h. eq-eqb _ 2 (ap (λ (w : World). slice_index w.now.words.gates i) a.world ∙ a.turn.held_gates i (eqb-true _ 2 h));
+      }
+
+  pub hold_holds : (j : ℕ) → Acts p (step.Hold j) q → HoldsGates p q
+  hold_holds j a =
+      record {
+        does = does_step holds_gates p q (step.Hold j) t.own a.makes refl;
+        keeps = calm_keeps p (step.Hold j) q a t u.history refl free whole refl;
+        held = λ i h. eq-eqb _ 2
+            (ap (λ (w : World). slice_index w.now.words.gates i) a.world
+            ∙ stays_held (world_at a.makes).now.words.gates j i (a.turn.held_gates i (eqb-true _ 2 h)));
+      }
+
+pub all_held_below : (p : PassState) (callers : ℕ) → ((j : ℕ) → j < callers → IsHeldOrOwn p j)
+    → others_are_held callers (now_of p).words p.seat ≡ true
+all_held_below p callers h = all_from callers (λ j. is_number_of p.seat j || is_held (now_of p).words j) h
+
+pub still_held_or_own : (p q : PassState) (j : ℕ) → HoldsGates p q → IsHeldOrOwn p j → IsHeldOrOwn q j
+still_held_or_own p q j k h = elim (cases_Bool (is_number_of p.seat j)) [
+  | inl own ↦ ap (λ (b : Bool). b || is_held (now_of q).words j) (ap (λ (s : Seat). is_number_of s j) (held_seat p q k) ∙ own)
+  | inr other ↦ or_right (is_number_of q.seat j) (is_held (now_of q).words j)
+      (k.held j (sym (ap (λ (b : Bool). b || is_held (now_of p).words j) other) ∙ h))
+]
+  where
+    or_right : (a b : Bool) → b ≡ true → (a || b) ≡ true
+    or_right true b e = refl
+    or_right false b e = e

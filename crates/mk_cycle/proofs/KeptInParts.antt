@@ -1,0 +1,82 @@
+-- What is kept in parts is kept.
+use Rattle.std.proofs.Common.{◌≡◌, ◌≢◌, ℕ, ◌<◌, Bool, true, false, refl, sym, ap, subst, ◌∙◌, arith, inl, inr}
+use Rattle.std.specs.Prelude.{slice_index, ◌==◌}
+use Rattle.std.proofs.lemmas.Bool.{cases_eq, eq-eqb, ne_eqb}
+use Rattle.mk_core.specs.declared.config.Config.{Config}
+use Rattle.mk_core.specs.declared.events.Step.{Step}
+use Rattle.mk_core.specs.Counts.{ends, fulls}
+use Rattle.mk_core.specs.Frames.{Steady}
+use Rattle.mk_core.specs.History.{World, world_behind}
+use Rattle.mk_core.specs.Moments.{is_held}
+use Rattle.mk_core.specs.declared.seats.Flight.{Flight}
+use Rattle.mk_protocol.specs.Protocol.{has_place}
+use Rattle.mk_words.specs.Seats.{Has}
+use Rattle.mk_words.specs.States.{PassState, world_of, now_of, call_of, event_of}
+use Rattle.mk_words.specs.TurnSteps.{world_at, Acts}
+use Rattle.mk_cycle.specs.EngineLaw.{IsFreeForCycle, is_pending_free}
+use Rattle.mk_cycle.specs.TurnKeeps.{Done, KeepsCall, KeepsTurn, KeepsGates}
+
+pub calls_then : (p q r : PassState) → KeepsCall p q → KeepsCall q r → KeepsCall p r
+calls_then p q r a b =
+    record {
+      pass = b.pass ∙ ap (λ (x : PassState). record x { seen = r.seen }) a.pass;
+      call = b.call ∙ a.call;
+      done = b.done ∙ a.done;
+      gone = λ g. b.gone (a.gone g);
+    }
+
+pub same_config : (p q : PassState) → q ≡ record p { seen = q.seen } → q.table.config ≡ p.table.config
+same_config p q is = ap (λ (x : PassState). x.table.config) is
+
+pub keeps_at_once : (view : Steady → Steady) (p : PassState) → KeepsTurn view p p
+keeps_at_once view p =
+    record {
+      call = record { pass = refl; call = refl; done = refl; gone = λ g. g };
+      steady = refl;
+      counts = record { ends = refl; fulls = refl };
+    }
+
+pub keeps_then : (view : Steady → Steady) (p q r : PassState) → KeepsTurn view p q → KeepsTurn view q r → KeepsTurn view p r
+keeps_then view p q r a b =
+    record {
+      call = calls_then p q r a.call b.call;
+      steady = b.steady ∙ a.steady;
+      counts =
+          record {
+            ends = b.counts.ends ∙ a.counts.ends;
+            fulls = subst (λ (c : Config). fulls c r.seen ≡ fulls c q.seen) (same_config p q a.call.pass) b.counts.fulls ∙ a.counts.fulls;
+          };
+    }
+
+-- Less is seen by another view of the view.
+pub keeps_less : (view more : Steady → Steady) (p q : PassState) → KeepsTurn view p q → KeepsTurn (λ s. more (view s)) p q
+keeps_less view more p q a = record { call = a.call; steady = ap more a.steady; counts = a.counts }
+
+pub gates_then : (p q r : PassState) → q ≡ record p { seen = q.seen } → KeepsGates p q → KeepsGates q r → KeepsGates p r
+gates_then p q r is a b j lt =
+    b j (subst (λ (c : Config). j < c.callers) (sym (same_config p q is)) lt) ∙ a j lt
+
+held_so : (a b : ℕ) → (a ≡ 2 → b ≡ 2) → (a ≢ 2 → b ≢ 2) → (b == 2) ≡ (a == 2)
+held_so a b held free = elim (cases_eq a 2) [
+  | inl e ↦ eq-eqb b 2 (held e) ∙ sym (eq-eqb a 2 e)
+  | inr ne ↦ ne_eqb b 2 (free ne) ∙ sym (ne_eqb a 2 ne)
+]
+
+-- A step that changes no gate: others neither hold one nor open one that is held.
+pub gates_behind : (p : PassState) (s : Step) (q : PassState) (a : Acts p s q)
+    → (world_behind p.table.config (world_at a.makes) (event_of p s)).now.words.gates ≡ (world_at a.makes).now.words.gates → KeepsGates p q
+gates_behind p s q a same j lt =
+    ap (λ (w : World). is_held w.now.words j) a.world
+    ∙ ap (λ gs. slice_index gs j == 2) same
+    ∙ held_so _ _ (a.turn.held_gates j) (a.turn.other_gates j)
+
+pub own_then : (p q : PassState) → q ≡ record p { seen = q.seen } → Has p.seats p.seat → Has q.seats q.seat
+own_then p q is h = subst (λ (x : PassState). Has x.seats x.seat) (sym is) h
+
+pub free_then : (p q : PassState) → KeepsCall p q → IsFreeForCycle p → IsFreeForCycle q
+free_then p q k free =
+    record {
+      decided = ap is_pending_free k.call ∙ free.decided;
+      unplaced = ap (λ (x : Done). has_place x.placing) k.done ∙ free.unplaced;
+      gone = k.gone free.gone;
+    }

@@ -1,0 +1,16 @@
+pub mod OwnSteps
+pub mod MayAct
+pub mod Calm
+pub mod KeptInParts
+pub mod CleaningSteps
+pub mod Allowed
+pub mod BeginSteps
+pub mod HoldingSteps
+pub mod ReleaseSteps
+pub mod FreeingSteps
+pub mod OpeningSteps
+pub mod GivingSteps
+pub mod CellBits
+pub mod PageSteps
+pub mod GiveBack
+pub mod SettledPages

@@ -1,0 +1,119 @@
+-- The gates are opened behind a `release`.
+use Rattle.std.proofs.Common.{◌≡◌, ℕ, Bool, true, false, List, [], ◌∷◌, ◌++◌, refl, sym, ap, subst, ◌∙◌, inl, inr, append-nil, append_assoc}
+use Rattle.std.specs.Prelude.{◌⊎◌}
+use Rattle.mk_core.specs.declared.config.Config.{Config}
+use Rattle.mk_core.specs.declared.events.Event.{Event}
+use Rattle.mk_core.specs.declared.events.Seat.{Seat}
+use Rattle.mk_core.specs.declared.events.Step.{Step}
+use Rattle.mk_core.specs.declared.events.Step.TheVariants as step
+use Rattle.mk_core.specs.Growing.{AreOfOthers, is_one_of}
+use Rattle.mk_core.specs.History.{IsHistory}
+use Rattle.mk_core.specs.Readings.{Holds}
+use Rattle.mk_core.proofs.HistoryParts.{earlier_part_is_history}
+use Rattle.mk_protocol.proofs.Actors.{is_holders}
+use Rattle.mk_protocol.proofs.Frames.{others_leave}
+use Rattle.mk_protocol.proofs.Known.{holds_turn}
+use Rattle.mk_protocol.proofs.Orderly.{same_holder}
+use Rattle.mk_protocol.proofs.OrderlyLists.{actor_of}
+use Rattle.mk_protocol.proofs.Views.{view_of}
+use Rattle.mk_frames.proofs.Holders.{acts_as_holder}
+use Rattle.mk_frames.proofs.LastEvents.{comes_last, stands}
+use Rattle.mk_words.specs.Opening.{is_open, OnlyOpen, Opens}
+use Rattle.mk_words.specs.States.{PassState, now_of, call_of, event_of}
+use Rattle.mk_words.specs.Steps.{Makes}
+use Rattle.mk_words.specs.TurnSteps.{op_for, world_at}
+use Rattle.mk_words.proofs.Seats.{others_own}
+use Rattle.mk_words.proofs.TurnSteps.{acts, still_turn}
+use Rattle.mk_cycle.specs.EngineLaw.{IsFreeForCycle, IsAtPhase}
+use Rattle.mk_cycle.specs.Freeing.{Frees}
+use Rattle.mk_cycle.specs.TurnKeeps.{InTurn}
+use Rattle.mk_cycle.proofs.FreeingSteps.{freed_free, freed_phase, frees_nothing, frees_step, frees_then, open_gives, others_free}
+
+open_is_holders : (x : Step) → is_open x ≡ true → is_holders x ≡ true
+open_is_holders (step.Open j) h = refl
+open_is_holders _ h = cc
+
+-- Only the turn's holder opens a gate.
+opens_itself : (p : PassState) (e : Event) → InTurn p → IsHistory p.table.config (p.seen ++ e ∷ []) → is_open e.step ≡ true → e.seat ≡ p.seat
+opens_itself p e t h is =
+    let c : Config = p.table.config in
+    let last = comes_last c p.seen e h in
+    let orderly = (stands c p.seen t.history).known.now.orderly in
+    same_holder c (view_of (now_of p)) e.seat p.seat orderly
+    (acts_as_holder c (now_of p) e.seat e.step (actor_of c (now_of p) e.seat e.step orderly last.meets) (open_is_holders e.step is))
+    (holds_turn c (now_of p) p.seat orderly t.holds)
+
+-- one event further
+record Further (p q : PassState) : Type 0 where
+  frees : Frees p q
+  turn : InTurn q
+
+behind : PassState → List Event → PassState
+behind p es = record p { seen = p.seen ++ es }
+
+by_another : (p : PassState) (e : Event) → InTurn p → IsAtPhase p 4 → IsHistory p.table.config (p.seen ++ e ∷ [])
+    → is_one_of p.seats e.seat ≡ false → Further p (behind p (e ∷ []))
+unfolding behind AreOfOthers
+by_another p e t at h other =
+    let c : Config = p.table.config in
+    let others : AreOfOthers p.seats (e ∷ []) = (other, tt) in
+    let before = earlier_part_is_history c p.seen (e ∷ []) h in
+    let frame = others_leave c p.seen (e ∷ []) p.seat before.within_limits h.enabled (others_own p.seats p.seat (e ∷ []) t.own others) in
+    record {
+      frees = others_free p (e ∷ []) t others h at;
+      turn = record { own = t.own; holds = (frame.own.holding t.holds).0; history = h };
+    }
+
+by_itself : (p : PassState) (j : ℕ) → InTurn p → IsFreeForCycle p → IsAtPhase p 4
+    → IsHistory p.table.config (p.seen ++ event_of p (step.Open j) ∷ []) → Further p (behind p (event_of p (step.Open j) ∷ []))
+unfolding behind AreOfOthers
+by_itself p j t free at h =
+    let q : PassState = record p { seen = p.seen ++ event_of p (step.Open j) ∷ [] } in
+    let makes : Makes p (step.Open j) q =
+    record {
+      others = [];
+      of_others = tt;
+      is = ap (λ (es : List Event). record p { seen = es ++ event_of p (step.Open j) ∷ [] }) (sym (append-nil p.seen));
+    } in
+    let a = acts p (step.Open j) q makes t.own h t.holds in
+    let turn = still_turn p (step.Open j) q makes t.own h (op_for p.seat (call_of p)) refl (record { holds = t.holds; op = refl }) in
+    let next : InTurn q = record { own = t.own; holds = turn.holds; history = h } in
+    record {
+      frees = frees_step p (step.Open j) q a t next refl refl free at (open_gives p.table.config (world_at a.makes) p.seat j);
+      turn = next;
+    }
+
+opens_one : (p : PassState) (e : Event) → InTurn p → IsFreeForCycle p → IsAtPhase p 4 → IsHistory p.table.config (p.seen ++ e ∷ [])
+    → is_open e.step ≡ true → Further p (behind p (e ∷ []))
+opens_one p e t free at h is = by e.step refl is (opens_itself p e t h is)
+  where
+    by : (x : Step) → e.step ≡ x → is_open x ≡ true → e.seat ≡ p.seat → Further p (behind p (e ∷ []))
+    by (step.Open j) at_step kind same =
+        let it : event_of p (step.Open j) ≡ e =
+        ap (λ (s : Seat). record { seat = s; step = step.Open j }) (sym same) ∙ ap (λ (x : Step). record { seat = e.seat; step = x }) (sym at_step) in
+        subst (λ (f : Event). Further p (behind p (f ∷ []))) it
+        (by_itself p j t free at (subst (λ (f : Event). IsHistory p.table.config (p.seen ++ f ∷ [])) (sym it) h))
+    by _ at_step kind same = cc
+
+opens_all : (more : List Event) (p : PassState) → InTurn p → IsFreeForCycle p → IsAtPhase p 4 → OnlyOpen p.seats more
+    → IsHistory p.table.config (p.seen ++ more) → Frees p (behind p more)
+unfolding behind OnlyOpen
+opens_all [] p t free at only h =
+    subst (λ (es : List Event). Frees p (record p { seen = es })) (sym (append-nil p.seen)) (frees_nothing p)
+opens_all (e ∷ es) p t free at only h =
+    let c : Config = p.table.config in
+    let split : (p.seen ++ e ∷ []) ++ es ≡ p.seen ++ e ∷ es = append_assoc p.seen (e ∷ []) es in
+    let whole : IsHistory c ((p.seen ++ e ∷ []) ++ es) = subst (λ (xs : List Event). IsHistory c xs) (sym split) h in
+    let first : IsHistory c (p.seen ++ e ∷ []) = earlier_part_is_history c (p.seen ++ e ∷ []) es whole in
+    let one : Further p (record p { seen = p.seen ++ e ∷ [] }) = elim only.0 [
+      | inl other ↦ by_another p e t at first other
+      | inr opens ↦ opens_one p e t free at first opens
+    ] in
+    let rest = opens_all es (record p { seen = p.seen ++ e ∷ [] }) one.turn (freed_free p _ one.frees free) (freed_phase p _ one.frees at) only.1 whole in
+    subst (λ (xs : List Event). Frees p (record p { seen = xs })) split (frees_then p _ _ one.frees rest)
+
+pub opens_frees : (p q : PassState) → InTurn p → IsFreeForCycle p → IsAtPhase p 4 → Opens p q → IsHistory q.table.config q.seen → Frees p q
+unfolding behind
+opens_frees p q t free at o h =
+    subst (λ (x : PassState). Frees p x) (sym o.is)
+    (opens_all o.more p t free at o.only (subst (λ (x : PassState). IsHistory x.table.config x.seen) o.is h))

@@ -1,0 +1,35 @@
+use Rattle.std.proofs.Common.{◌≡◌, ℕ, ◌<◌, ap, subst, ◌∙◌}
+use Rattle.mk_core.specs.History.{World}
+use Rattle.mk_words.specs.States.{WordsState}
+use Rattle.mk_cycle.proofs.BeginSteps.{begins_cycle, begun_free}
+use Rattle.mk_cycle.proofs.CleaningSteps.{clean_stays, cleaned_free, cleaned_phase, cleaned_table, cleans_then, tallied}
+use Rattle.mk_cycle.proofs.beginning.begin_cycle.Goals as goal
+
+pub begin-requires-clause-free : goal.begin-requires-clause-free
+begin-requires-clause-free g c =
+    let first = c.clean_pages.ensures.cleans in
+    let free = cleaned_free _ _ first c.requires.free in
+    let none = cleaned_phase _ _ first c.requires.phase in
+    cleaned_free _ _ (tallied _ _ c.tally.ensures.was free none c.tally.ensures.is 0 c.tally.ensures.acts) free
+
+pub begin-requires-2-clause-free : goal.begin-requires-2-clause-free
+begin-requires-2-clause-free g c =
+    let first = c.clean_pages.ensures.cleans in
+    let free = cleaned_free _ _ first c.requires.free in
+    let none = cleaned_phase _ _ first c.requires.phase in
+    let next = tallied _ _ c.tally.ensures.was free none c.tally.ensures.is 0 c.tally.ensures.acts in
+    begun_free _ _ c.begin.ensures.was (cleaned_free _ _ next free) (cleaned_phase _ _ next none) c.begin.ensures.is c.begin.ensures.acts
+
+pub returns-clause-law : goal.returns-clause-law
+returns-clause-law g c =
+    let first = c.clean_pages.ensures.cleans in
+    let free = cleaned_free _ _ first c.requires.free in
+    let none = cleaned_phase _ _ first c.requires.phase in
+    let next = tallied _ _ c.tally.ensures.was free none c.tally.ensures.is 0 c.tally.ensures.acts in
+    let all = cleans_then _ _ _ first next in
+    let p = c.args.turn.now.pass in
+    let b = c.tally.new.turn.pass in
+    begins_cycle p b c.begin.new.turn.pass c.begin-2.new.turn.pass all c.begin.ensures.was (cleaned_free _ _ next free) (cleaned_phase _ _ next none)
+    (λ page lt. clean_stays _ _ page next
+    (c.clean_pages.ensures.clean page (subst (λ (w : WordsState). page < w.config.pages) (cleaned_table p b c.args.words.now all c.requires.one_table) lt)))
+    (ap (λ (w : World). w.now.words.fresh) c.tally.ensures.acts.world) c.begin.ensures.acts c.begin.ensures.is c.begin-2.ensures.law

@@ -1,0 +1,10 @@
+use Rattle.std.proofs.Common.{◌≡◌}
+use Rattle.mk_cycle.specs.Holding.{HoldsGates}
+use Rattle.mk_cycle.proofs.holding.hold_gate.Given as goal
+
+abbrev pub invariant-trying : goal.invariant-trying
+invariant-trying g l =
+    record {
+      op : l.turn.op ≡ l.fn.turn.op;
+      holds : HoldsGates l.fn.turn.pass l.turn.pass;
+    }

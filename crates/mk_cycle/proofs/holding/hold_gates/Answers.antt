@@ -1,0 +1,21 @@
+use Rattle.std.proofs.Common.{◌≡◌, ℕ, ◌<◌, refl, ◌∙◌, arith, below_more}
+use Rattle.mk_cycle.proofs.HoldingSteps.{all_held_below, holds_nothing, holds_then, still_held_or_own}
+use Rattle.mk_cycle.proofs.holding.hold_gates.Goals as goal
+
+pub loop-caller-init : goal.loop-caller-init
+loop-caller-init g c = record { op = refl; holds = holds_nothing c.args.turn.now.pass; held = λ j lt. absurd (omega arith) }
+
+pub loop-caller-preserved : goal.loop-caller-preserved
+loop-caller-preserved g c =
+    record {
+      op = c.hold_other.ensures.op ∙ c.loop-caller.invariant.op;
+      holds = holds_then _ _ _ c.loop-caller.invariant.holds c.hold_other.ensures.holds;
+      held = below_more _ _
+          (λ j lt. still_held_or_own _ _ j c.hold_other.ensures.holds (c.loop-caller.invariant.held j lt))
+          c.hold_other.ensures.held;
+    }
+
+pub returns-clause-held : goal.returns-clause-held
+returns-clause-held g c =
+    let last = c.loop-caller-test.false in
+    all_held_below c.loop-caller.turn.pass c.args.words.now.config.callers (λ j lt. c.loop-caller.invariant.held j (omega (arith, last, c.callers-caller-end.ensures)))

@@ -1,0 +1,30 @@
+-- What is made ready for a `begin`: no mark is left of the cycle before, and the freed cells are the snapshot.
+use Rattle.std.specs.Prelude.{◌≡◌, ℕ, slice_index}
+use Rattle.mk_words.specs.States.{PassState, now_of}
+use Rattle.mk_turns.specs.Doing.{Does}
+use Rattle.mk_cycle.specs.Kinds.{clears}
+use Rattle.mk_cycle.specs.TurnKeeps.{KeepsTurn, KeepsGates, but_cleaned}
+
+abbrev pub IsUnmarked : PassState → ℕ → Type 0
+IsUnmarked p page = slice_index (now_of p).words.marks page ≡ 0
+
+abbrev pub IsUnscanned : PassState → ℕ → Type 0
+IsUnscanned p page = slice_index (now_of p).words.blacks page ≡ 0
+
+-- The page's freed cells are its snapshot.
+abbrev pub HasSnapshot : PassState → ℕ → Type 0
+HasSnapshot p page = slice_index (now_of p).words.snapshot page ≡ slice_index (now_of p).words.freed page
+
+pub record IsClean (p : PassState) (page : ℕ) : Type 0 where
+  pub unmarked : IsUnmarked p page
+  pub unscanned : IsUnscanned p page
+  pub snapshot : HasSnapshot p page
+
+-- From one to the other pages were cleaned: what is clean stays so.
+pub record Cleans (p q : PassState) : Type 0 where
+  pub does : Does clears p q
+  pub keeps : KeepsTurn but_cleaned p q
+  pub gates : KeepsGates p q
+  pub unmarked : (page : ℕ) → IsUnmarked p page → IsUnmarked q page
+  pub unscanned : (page : ℕ) → IsUnscanned p page → IsUnscanned q page
+  pub snapshot : (page : ℕ) → HasSnapshot p page → HasSnapshot q page

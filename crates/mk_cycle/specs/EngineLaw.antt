@@ -1,0 +1,56 @@
+-- The law of an engine: what it makes of a cycle, and what it leaves alone.
+use Rattle.std.specs.Prelude.{◌≡◌, ℕ, Bool, true, false}
+use Rattle.mk_never.specs.declared.operations.Op.{Op}
+use Rattle.mk_never.specs.declared.operations.Op.TheVariants as op
+use Rattle.mk_core.specs.declared.events.Word.{Word}
+use Rattle.mk_core.specs.declared.events.Word.TheVariants as word
+use Rattle.mk_core.specs.declared.events.Step.TheVariants as step
+use Rattle.mk_core.specs.declared.seats.Flight.{Flight}
+use Rattle.mk_core.specs.declared.seats.Stage.{Stage}
+use Rattle.mk_core.specs.declared.seats.Stage.TheVariants as stage
+use Rattle.mk_core.specs.Words.{phase_of}
+use Rattle.mk_core.specs.ClosedMarks.{MarksAreClosed}
+use Rattle.mk_protocol.specs.Protocol.{has_place}
+use Rattle.mk_words.specs.States.{PassState, world_of, now_of, call_of}
+use Rattle.mk_words.specs.Steps.{IsEnabledTo}
+use Rattle.mk_turns.specs.Doing.{Does, count_done}
+use Rattle.mk_cycle.specs.Kinds.{is_want, begins_marking, closes_marks}
+use Rattle.mk_cycle.specs.TurnKeeps.{KeepsTurn, KeepsGates, IsGone, whole, but_phase}
+
+-- a Free that hasn't decided its answer yet
+abbrev pub is_pending_free_at : Op → Stage → Bool
+is_pending_free_at (op.Free p) stage.Give = false
+is_pending_free_at (op.Free p) _ = true
+is_pending_free_at _ _ = false
+
+abbrev pub is_pending_free : Flight → Bool
+is_pending_free f = is_pending_free_at f.op f.stage
+
+-- A turn is free for a cycle: it is not for an undecided Free, no place of its New is under way, and the run of a large
+-- Free that it decided is unmapped and wiped.
+pub record IsFreeForCycle (p : PassState) : Type 0 where
+  pub decided : is_pending_free (call_of p) ≡ false
+  pub unplaced : has_place (now_of p).seats.holding.placing ≡ false
+  pub gone : IsGone p
+
+abbrev pub IsAtPhase : PassState → ℕ → Type 0
+IsAtPhase p n = phase_of (now_of p).words ≡ n
+
+-- What an engine does in `begin`: it looks, marks, and holds gates that it opens again.
+pub record BeginsMarking (p q : PassState) : Type 0 where
+  pub does : Does begins_marking p q
+  pub keeps : KeepsTurn whole p q
+  pub gates : KeepsGates p q
+
+-- What it does in `close_marks`: it wants the close, once, and then it may close, with all marks closed.
+pub record ClosesMarks (p q : PassState) : Type 0 where
+  pub does : Does closes_marks p q
+  pub one_want : count_done is_want does ≡ 1
+  pub keeps : KeepsTurn but_phase p q
+  pub phase : IsAtPhase q 2
+  pub close : IsEnabledTo q step.Close
+  pub closed : MarksAreClosed q.table.config (world_of q)
+
+abbrev pub is_register : Word → Bool
+is_register (word.Reg j r) = true
+is_register _ = false

@@ -1,0 +1,80 @@
+-- Behind a `release` what was released is wiped and given back, page by page.
+use Rattle.std.specs.Prelude.{◌≡◌, ◌≢◌, ℕ, ◌+◌, ◌*◌, ◌<◌, true, false, List, [], slice_index}
+use Rattle.mk_geom.specs.declared.pages.Page.{Page}
+use Rattle.mk_core.specs.Bits.{has_bit}
+use Rattle.mk_core.specs.Cells.{left_unmarked, header_in, words_under}
+use Rattle.mk_core.specs.Frames.{Steady}
+use Rattle.mk_core.specs.Moments.{is_held}
+use Rattle.mk_core.specs.StopConditions.{has_settled_page}
+use Rattle.mk_core.specs.Words.{page_of, header_at, quarantine_word}
+use Rattle.mk_zeros.specs.Zeros.{IsMappedWord}
+use Rattle.mk_words.specs.States.{PassState, world_of, now_of}
+use Rattle.mk_turns.specs.Doing.{Does}
+use Rattle.mk_cycle.specs.Kinds.{gives_back}
+use Rattle.mk_cycle.specs.TurnKeeps.{KeepsTurn}
+
+-- without what is given back, and the count of fresh words
+abbrev pub but_pages : Steady → Steady
+but_pages s = record s { pages = []; freed = []; snapshot = []; fresh_words = 0 }
+
+-- No mapped allocation has the word.
+abbrev pub IsUnmapped : PassState → ℕ → Type 0
+IsUnmapped p n = IsMappedWord p.table.config (world_of p).allocations n → ⊥
+
+-- and lies in the heap
+pub record IsUnmappedWord (p : PassState) (n : ℕ) : Type 0 where
+  pub within : n < 64 * p.table.config.pages
+  pub unmapped : IsUnmapped p n
+
+abbrev pub IsZero : PassState → ℕ → Type 0
+IsZero p n = slice_index (now_of p).words.heap n ≡ 0
+
+-- From one to the other cells were given back: marks and open gates stay, and words of no mapped allocation that are 0.
+pub record Frees (p q : PassState) : Type 0 where
+  pub does : Does gives_back p q
+  pub keeps : KeepsTurn but_pages p q
+  pub marks : (now_of q).words.marks ≡ (now_of p).words.marks
+  pub gates : (j : ℕ) → is_held (now_of p).words j ≡ false → is_held (now_of q).words j ≡ false
+  pub zeros : (n : ℕ) → IsUnmapped p n → IsZero p n → IsZero q n
+
+-- the words of a page that cells are given back on
+pub record PageState : Type 0 where
+  pub page : Page
+  pub freed : ℕ
+  pub snapshot : ℕ
+
+abbrev pub page_state : PassState → ℕ → PageState
+page_state p r =
+    record { page = page_of (now_of p).words r; freed = slice_index (now_of p).words.freed r; snapshot = slice_index (now_of p).words.snapshot r }
+
+abbrev pub SamePage : PassState → PassState → ℕ → Type 0
+SamePage p q r = page_state q r ≡ page_state p r
+
+-- Nothing of the words of pages was changed.
+pub record FreesNone (p q : PassState) : Type 0 where
+  pub frees : Frees p q
+  pub same : (r : ℕ) → SamePage p q r
+
+-- but for one page
+pub record FreesPage (page : ℕ) (p q : PassState) : Type 0 where
+  pub frees : Frees p q
+  pub others : (r : ℕ) → r ≢ page → SamePage p q r
+
+-- The words of the page's released cells are those of no mapped allocation.
+abbrev pub HasFreeCells : PassState → ℕ → Type 0
+HasFreeCells p page =
+    (k i : ℕ) → has_bit (left_unmarked (now_of p).words page) k ≡ true → i < words_under (header_in (now_of p).words page)
+    → IsUnmappedWord p (64 * page + k * words_under (header_in (now_of p).words page) + i)
+
+abbrev pub IsQuarantineWord : PassState → ℕ → ℕ → Type 0
+IsQuarantineWord p page n = n ≡ quarantine_word (slice_index (now_of p).words.freed page) (slice_index (now_of p).words.snapshot page)
+
+-- The released cells of the page were given back; its header is as it was.
+pub record GivesBack (page : ℕ) (p q : PassState) : Type 0 where
+  pub frees : FreesPage page p q
+  pub header : header_at (now_of q).words page ≡ header_at (now_of p).words page
+  pub none_left : left_unmarked (now_of q).words page ≡ 0
+
+-- No cell of the page is released, and its run has a used cell, if it has a header.
+abbrev pub IsSettledPage : PassState → ℕ → Type 0
+IsSettledPage p page = has_settled_page (now_of p).words page ≡ true

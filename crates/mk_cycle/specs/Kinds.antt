@@ -1,0 +1,53 @@
+-- The kinds of step that the parts of a cycle are made of.
+use Rattle.std.specs.Prelude.{Bool, true, false, ◌||◌}
+use Rattle.mk_core.specs.declared.events.Step.{Step}
+use Rattle.mk_core.specs.declared.events.Step.TheVariants as step
+
+abbrev pub is_want : Step → Bool
+is_want step.Want = true
+is_want _ = false
+
+-- what an engine does behind a `begin`
+abbrev pub begins_marking : Step → Bool
+begins_marking (step.Look x) = true
+begins_marking (step.Hold j) = true
+begins_marking (step.Open j) = true
+begins_marking (step.Mark p v) = true
+begins_marking _ = false
+
+-- what it does up to a `close`
+abbrev pub closes_marks : Step → Bool
+closes_marks (step.Look x) = true
+closes_marks step.Want = true
+closes_marks (step.Mark p v) = true
+closes_marks (step.Undirty p) = true
+closes_marks (step.Black p v) = true
+closes_marks (step.Unblack p) = true
+closes_marks _ = false
+
+-- before a `begin`: the marks of the cycle before are cleared, the snapshot is taken, and nothing is fresh
+abbrev pub clears : Step → Bool
+clears (step.Look x) = true
+clears (step.Clear p) = true
+clears (step.Unblack p) = true
+clears (step.Undirty p) = true
+clears (step.Quar p v) = true
+clears (step.Tally n v) = true
+clears _ = false
+
+-- before the stop: the gates are held
+abbrev pub holds_gates : Step → Bool
+holds_gates (step.Look x) = true
+holds_gates (step.Hold j) = true
+holds_gates _ = false
+
+-- behind a `release`: the gates are opened, and what is released is wiped and given back
+abbrev pub gives_back : Step → Bool
+gives_back (step.Look x) = true
+gives_back (step.Open j) = true
+gives_back (step.Wipe n) = true
+gives_back (step.Used p v) = true
+gives_back (step.Quar p v) = true
+gives_back (step.Head p v) = true
+gives_back (step.Tally n v) = true
+gives_back _ = false

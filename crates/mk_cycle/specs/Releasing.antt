@@ -1,0 +1,29 @@
+-- What is made in the stop: the marks are closed, and what is unmarked is released.
+use Rattle.std.specs.Prelude.{◌≡◌, ℕ, map}
+use Rattle.mk_core.specs.declared.events.Step.TheVariants as step
+use Rattle.mk_core.specs.Allocations.{with_released}
+use Rattle.mk_core.specs.Frames.{steady_of, CountsAreLeft}
+use Rattle.mk_core.specs.Words.{Words}
+use Rattle.mk_words.specs.States.{PassState, world_of}
+use Rattle.mk_words.specs.Steps.{Makes, moment_of}
+use Rattle.mk_cycle.specs.EngineLaw.{ClosesMarks}
+use Rattle.mk_cycle.specs.TurnKeeps.{KeepsCall}
+
+-- One `want`, one `close` and one `release`, in this order.
+pub record MakesRelease (p q : PassState) : Type 0 where
+  pub closing : PassState
+  pub closed : PassState
+  pub marks : ClosesMarks p closing
+  pub close : Makes closing step.Close closed
+  pub release : Makes closed step.Release q
+
+-- the words as the `release` found them
+abbrev pub words_released : {p q : PassState} → MakesRelease p q → Words
+words_released m = (moment_of m.release).words
+
+pub record ReleasesUnmarked (p q : PassState) : Type 0 where
+  pub makes : MakesRelease p q
+  pub call : KeepsCall p q
+  pub steady : steady_of (world_of q)
+      ≡ record (steady_of (world_of p)) { phase = 4; allocations = map (with_released p.table.config (words_released makes)) (world_of p).allocations }
+  pub counts : CountsAreLeft p.table.config p.seen q.seen

@@ -1,0 +1,35 @@
+//! The beginning of a cycle.
+ghost use Rattle.std.specs.Prelude.{◌≡◌};
+ghost use Rattle.mk_cycle.specs.BeginCycle.{BeginsCycle};
+ghost use Rattle.mk_cycle.specs.EngineLaw.{IsFreeForCycle, IsAtPhase};
+
+use crate::bench::Bench;
+use crate::cleaning::clean_pages;
+use crate::engine::Engine;
+use crate::turn_steps::{begin, tally};
+use mk_core::Tally;
+use mk_words::{Turn, Words};
+use std::sync::Wait;
+use std::thread::Threads;
+
+/// Begins a cycle: its snapshot is what is freed now.
+pub fn begin_cycle<E: Engine, R: Threads + Wait + Sync>(
+    rt: &R,
+    words: &Words,
+    turn: &mut Turn,
+    bench: &mut Bench<E>,
+)
+    requires one_table { turn.old.pass.table ≡ words.now }
+    requires made_for { E.made_for bench.old.engine ≡ words.now.config.pages }
+    requires phase { IsAtPhase turn.old.pass 0 }
+    requires free { IsFreeForCycle turn.old.pass }
+    ensures op { turn.new.op ≡ turn.old.op }
+    ensures made_for { E.made_for bench.new.engine ≡ E.made_for bench.old.engine }
+    ensures book { bench.new.book ≡ bench.old.book }
+    ensures law { BeginsCycle turn.old.pass turn.new.pass }
+{
+    clean_pages(turn, words);
+    tally(turn, words, Tally::Fresh, 0);
+    begin(turn, words);
+    bench.engine.begin(rt, words, turn);
+}

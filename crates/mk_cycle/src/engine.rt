@@ -1,0 +1,45 @@
+//! Engines: how the marks of a cycle are made.
+ghost use Rattle.std.specs.Prelude.{◌≡◌, ℕ, Bool, IfOk};
+ghost use Rattle.mk_cycle.specs.EngineLaw.{IsFreeForCycle, IsAtPhase, BeginsMarking, ClosesMarks};
+
+use mk_never::NoMemory;
+use mk_words::{Stopped, Turn, Words};
+use std::alloc::Global;
+use std::sync::Wait;
+use std::thread::Threads;
+
+/// What makes the marks of a cycle, for a heap of so many pages. What it answers to `keeps_on` is the same for all
+/// values of its type.
+pub trait Engine: Drop {
+    ghost on: { Bool };
+
+    ghost made_for: { Self → ℕ };
+
+    /// An engine for so many pages. It takes all its memory here.
+    fn make(alloc: Global, pages: u64) -> Result<Self, NoMemory>
+        ensures { IfOk result (λ engine. made_for engine ≡ pages) };
+
+    /// Whether a cycle that a free begins goes on behind the call.
+    fn keeps_on(&self) -> bool
+        ensures { result ≡ on };
+
+    /// What comes directly behind a cycle's `begin`.
+    fn begin<R: Threads + Wait + Sync>(&mut self, rt: &R, words: &Words, turn: &mut Turn)
+        requires one_table { turn.old.pass.table ≡ words.now }
+        requires made_for { made_for self.old ≡ words.now.config.pages }
+        requires marking { IsAtPhase turn.old.pass 1 }
+        requires free { IsFreeForCycle turn.old.pass }
+        ensures made_for { made_for self.new ≡ made_for self.old }
+        ensures op { turn.new.op ≡ turn.old.op }
+        ensures law { BeginsMarking turn.old.pass turn.new.pass };
+
+    /// Wants the close, and makes the marks that are left to make, so that the phase may be closed.
+    fn close_marks<R: Threads + Wait + Sync>(&mut self, rt: &R, words: &Words, stop: &mut Stopped)
+        requires one_table { stop.old.pass.table ≡ words.now }
+        requires made_for { made_for self.old ≡ words.now.config.pages }
+        requires marking { IsAtPhase stop.old.pass 1 }
+        requires free { IsFreeForCycle stop.old.pass }
+        ensures made_for { made_for self.new ≡ made_for self.old }
+        ensures op { stop.new.op ≡ stop.old.op }
+        ensures law { ClosesMarks stop.old.pass stop.new.pass };
+}

@@ -1,0 +1,33 @@
+//! The stop of a cycle: the marks are closed, and what is unmarked is released.
+ghost use Rattle.std.specs.Prelude.{◌≡◌};
+ghost use Rattle.mk_cycle.specs.EngineLaw.{IsFreeForCycle, IsAtPhase};
+ghost use Rattle.mk_cycle.specs.Releasing.{ReleasesUnmarked};
+
+use crate::engine::Engine;
+use mk_words::{Stopped, Words};
+use std::sync::Wait;
+use std::thread::Threads;
+
+/// Closes the marks, and releases what the cycle found unmarked.
+pub(crate) fn release_unmarked<E: Engine, R: Threads + Wait + Sync>(
+    rt: &R,
+    words: &Words,
+    stop: &mut Stopped,
+    engine: &mut E,
+)
+    requires one_table { stop.old.pass.table ≡ words.now }
+    requires made_for { E.made_for engine.old ≡ words.now.config.pages }
+    requires phase { IsAtPhase stop.old.pass 1 }
+    requires free { IsFreeForCycle stop.old.pass }
+    ensures op { stop.new.op ≡ stop.old.op }
+    ensures made_for { E.made_for engine.new ≡ E.made_for engine.old }
+    ensures releases { ReleasesUnmarked stop.old.pass stop.new.pass }
+{
+    stop.is_in_order();
+    engine.close_marks(rt, words, stop);
+    stop.is_in_order();
+    stop.close_phase(words);
+    stop.is_in_order();
+    stop.release(words);
+    stop.is_in_order();
+}

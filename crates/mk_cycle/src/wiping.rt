@@ -1,0 +1,77 @@
+//! Released cells are wiped: their words are looked at, and what isn't 0 is stored to.
+ghost use Rattle.std.specs.Prelude.{◌≡◌, ◌<◌, ◌+◌, ◌*◌, ℕ, true};
+ghost use Rattle.mk_core.specs.Bits.{has_bit};
+ghost use Rattle.mk_cycle.specs.EngineLaw.{IsFreeForCycle, IsAtPhase};
+ghost use Rattle.mk_cycle.specs.Freeing.{FreesNone, IsUnmapped, IsZero, IsUnmappedWord};
+
+use crate::bits::has_bit;
+use crate::turn_steps::{look, wipe};
+use mk_core::Word;
+use mk_words::{Turn, Words};
+
+/// Makes a word of no mapped allocation 0.
+fn wipe_word(turn: &mut Turn, words: &Words, word: u64)
+    requires one_table { turn.old.pass.table ≡ words.now }
+    requires free { IsFreeForCycle turn.old.pass }
+    requires phase { IsAtPhase turn.old.pass 4 }
+    requires unmapped { IsUnmappedWord turn.old.pass word }
+    ensures op { turn.new.op ≡ turn.old.op }
+    ensures frees { FreesNone turn.old.pass turn.new.pass }
+    ensures zero { IsZero turn.new.pass word }
+{
+    if look(turn, words, Word::Heap(word)) != 0 {
+        wipe(turn, words, word);
+    }
+}
+
+/// Makes so many words from a first one on 0.
+fn wipe_cell(turn: &mut Turn, words: &Words, first: u64, count: u64)
+    requires one_table { turn.old.pass.table ≡ words.now }
+    requires free { IsFreeForCycle turn.old.pass }
+    requires phase { IsAtPhase turn.old.pass 4 }
+    requires unmapped { (i : ℕ) → i < count → IsUnmappedWord turn.old.pass (first + i) }
+    ensures op { turn.new.op ≡ turn.old.op }
+    ensures frees { FreesNone turn.old.pass turn.new.pass }
+    ensures zeros { (i : ℕ) → i < count → IsZero turn.new.pass (first + i) }
+{
+    words.is_within_limits();
+    for i in 0..count {
+        wipe_word(turn, words, first + i);
+    }
+}
+
+/// Makes the words of a cell of a page 0, if it has its bit here.
+fn wipe_chosen(turn: &mut Turn, words: &Words, page: u64, cells: u64, size: u64, k: u64)
+    requires one_table { turn.old.pass.table ≡ words.now }
+    requires free { IsFreeForCycle turn.old.pass }
+    requires phase { IsAtPhase turn.old.pass 4 }
+    requires within { page < words.now.config.pages }
+    requires few { size < 4097 }
+    requires small { k < 32 }
+    requires unmapped { (i : ℕ) → has_bit cells k ≡ true → i < size → IsUnmappedWord turn.old.pass (64 * page + k * size + i) }
+    ensures op { turn.new.op ≡ turn.old.op }
+    ensures frees { FreesNone turn.old.pass turn.new.pass }
+    ensures zeros { (i : ℕ) → has_bit cells k ≡ true → i < size → IsZero turn.new.pass (64 * page + k * size + i) }
+{
+    words.is_within_limits();
+    if has_bit(cells, k) {
+        wipe_cell(turn, words, 64 * page + k * size, size);
+    }
+}
+
+/// Makes the words of a page's cells that have their bits here 0.
+pub(crate) fn wipe_cells(turn: &mut Turn, words: &Words, page: u64, cells: u64, size: u64)
+    requires one_table { turn.old.pass.table ≡ words.now }
+    requires free { IsFreeForCycle turn.old.pass }
+    requires phase { IsAtPhase turn.old.pass 4 }
+    requires within { page < words.now.config.pages }
+    requires few { size < 4097 }
+    requires unmapped { (k i : ℕ) → has_bit cells k ≡ true → i < size → IsUnmappedWord turn.old.pass (64 * page + k * size + i) }
+    ensures op { turn.new.op ≡ turn.old.op }
+    ensures frees { FreesNone turn.old.pass turn.new.pass }
+    ensures zeros { (k : ℕ) → k < 32 → (i : ℕ) → has_bit cells k ≡ true → i < size → IsZero turn.new.pass (64 * page + k * size + i) }
+{
+    for k in 0..32 {
+        wipe_chosen(turn, words, page, cells, size, k);
+    }
+}
