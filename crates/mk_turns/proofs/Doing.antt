@@ -67,8 +67,8 @@ then_at kinds p xs own ok r d =
       is = d.is ∙ ap (λ (es : List Event). record p { seen = es }) (append_assoc p.seen xs d.more);
       own_or_others = own_or_others_in_parts p.seat p.seats xs d.more own d.own_or_others;
       of_kinds =
-        ap (λ (zs : List Finding). are_of kinds zs) (done_in_parts p xs d.more)
-        ∙ of_kinds_in_parts kinds (done_in p xs) (done_in (record p { seen = p.seen ++ xs }) d.more) ok d.of_kinds;
+          ap (λ (zs : List Finding). are_of kinds zs) (done_in_parts p xs d.more)
+          ∙ of_kinds_in_parts kinds (done_in p xs) (done_in (record p { seen = p.seen ++ xs }) d.more) ok d.of_kinds;
     }
 
 pub does_then : DoneInTurn
@@ -118,13 +118,13 @@ does_step kinds p q s has made allowed =
       more = made.others ++ e ∷ [];
       is = made.is ∙ ap (λ (es : List Event). record p { seen = es }) (append_assoc p.seen made.others (e ∷ []));
       own_or_others =
-        own_or_others_in_parts p.seat p.seats made.others (e ∷ [])
-        (others_are_so p.seats p.seat made.others has made.of_others) (itself p.seat p.seats e refl has);
+          own_or_others_in_parts p.seat p.seats made.others (e ∷ [])
+          (others_are_so p.seats p.seat made.others has made.of_others) (itself p.seat p.seats e refl has);
       of_kinds =
-        ap (λ (zs : List Finding). are_of kinds zs) (
+          ap (λ (zs : List Finding). are_of kinds zs) (
           done_in_parts p made.others (e ∷ [])
           ∙ ap (λ (zs : List Finding). zs ++ done_in v (e ∷ []))
-            (none_own p.table.config p.seats p.seat (left p.table.config p.seen) made.others has made.of_others)
+          (none_own p.table.config p.seats p.seat (left p.table.config p.seen) made.others has made.of_others)
           ∙ one_own p.table.config p.seat w e (same_self p.seat))
-        ∙ ap (λ (b : Bool). b && true) allowed;
+          ∙ ap (λ (b : Bool). b && true) allowed;
     }

@@ -232,16 +232,28 @@ first_in_order c me limits is =
 pub kept_by_split : (me n : Mine) (seat x picked : Seat) → IsInOrder me seat → picked ≡ x → is_same_seat x seat ≡ false → is_same_seat x Host ≡ false → n ≡ (stays_with picked me.0, me.1) → IsInOrder n seat
 kept_by_split me n seat x picked order picked_is other another is =
     subst (λ (m : Mine). IsInOrder m seat) (sym (is ∙ ap (λ (y : Seat). (stays_with y me.0, me.1)) picked_is))
-    (record { no_slot = order.no_slot; settled = order.settled; own = without_keeps x me.0.own.seats seat other order.own; history = order.history; tidy = order.tidy;
-      before_over = λ k lt h over. without_keeps x me.0.own.seats Host another (order.before_over k lt (without_less x me.0.own.seats (Caller k) h) over) })
+    (record {
+      no_slot = order.no_slot;
+      settled = order.settled;
+      own = without_keeps x me.0.own.seats seat other order.own;
+      history = order.history;
+      tidy = order.tidy;
+      before_over = λ k lt h over. without_keeps x me.0.own.seats Host another (order.before_over k lt (without_less x me.0.own.seats (Caller k) h) over);
+    })
 
 pub made_by_split : (me n : Mine) (seat x picked : Seat) → IsInOrder me seat → picked ≡ x → (is_caller x ≡ true → has_over me.0.own.seen ≡ false) → n ≡ (goes_with picked me.0, []) → IsInOrder n x
 made_by_split me n seat x picked order picked_is early is =
     subst (λ (m : Mine). IsInOrder m x) (sym (is ∙ ap (λ (y : Seat). (goes_with y me.0, [])) picked_is))
-    (record { no_slot = refl; settled = refl; own = has_first x []; history = order.history; tidy = order.tidy;
+    (record {
+      no_slot = refl;
+      settled = refl;
+      own = has_first x [];
+      history = order.history;
+      tidy = order.tidy;
       before_over = λ k lt h over.
           let caller : is_caller x ≡ true = ap (λ (z : Seat). is_caller z) (sym (only_one x (Caller k) h)) in
-          let both : true ≡ false = sym over ∙ early caller in cc })
+          let both : true ≡ false = sym over ∙ early caller in cc;
+    })
 
 -- behind a join
 

@@ -44,7 +44,7 @@ admitted_now p o f s i op_is h plain =
     let here = subst (λ (es : List Event). IsAdmitted c.globals (never_behind c es) (caller_number p.seat) o) same
     (i.admitted [] (subst (λ (es : List Event). IsHistory c es) (sym same) h)) in
     op_step p s h (λ a. subst (λ (x : Op). IsAdmitted c.globals (never_behind c p.seen) (caller_number p.seat) x)
-      (sym (ap (λ (y : Op). flagged y a) (ap (λ (y : Flight). y.op) i.call ∙ op_is) ∙ plain a)) here)
+    (sym (ap (λ (y : Op). flagged y a) (ap (λ (y : Flight). y.op) i.call ∙ op_is) ∙ plain a)) here)
 
 pub next_may : (p : PassState) (o : Op) (f : Flight) (s : Step) → IsIn p o f → group_of s ≡ group.Callers → comes_next f.stage f.op s ≡ true
     → ((k : ℕ) → is_in_range p.table.config (Caller k) f s ≡ true) → IsEnabledTo p s
