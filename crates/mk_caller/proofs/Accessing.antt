@@ -83,13 +83,6 @@ null_value {p} {q} {o} r ready access is a null =
     sym (value_kept a.makes (q_of o) (access_is_small (never_of p) o access ready.admits.in_range))
     ∙ ap (λ x. value_of q x) (sym is) ∙ null
 
-pub some_value : {p q : PassState} {o : Op} {ss : List Step} {f : Flight} (r : ℕ) → IsReady p o → is_access o ≡ true
-    → r ≡ q_of o → At p o ss None f q
-    → value_of p r ≡ NullValue → value_of q r ≡ NullValue
-some_value {p} {q} {o} r ready access is a null =
-    value_kept a.makes r (subst (λ x. x < 8) (sym is) (access_is_small (never_of p) o access ready.admits.in_range))
-    ∙ null
-
 pub fault_ends : {p q r : PassState} → At p (call_of p).op (step.Probe ∷ []) (Some answer.Fault)
     (refused (call_of p) answer.Fault).flight q
     → At q (call_of q).op (refused_steps (call_of q).op) None at_rest r

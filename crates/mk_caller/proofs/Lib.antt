@@ -9,6 +9,5 @@ pub mod Stepping
 pub mod Probing
 pub mod Chains
 pub mod Accessing
-pub mod Telling
 pub mod Idle
 pub mod After
