@@ -4,5 +4,6 @@
 mod accesses;
 mod calls;
 mod markers;
+mod stops;
 mod threads;
 mod turns;
