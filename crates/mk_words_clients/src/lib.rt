@@ -3,6 +3,7 @@
 
 mod accesses;
 mod calls;
+mod lives;
 mod markers;
 mod stops;
 mod threads;
