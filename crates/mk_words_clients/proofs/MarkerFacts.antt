@@ -4,7 +4,7 @@ use Rattle.std.specs.Prelude.{None, Some, is_none, is_some, not, nat_lt, ◌&&�
 use Rattle.std.proofs.lemmas.Bool.{lt-ltb, ltb-true, and_from, false_from_ne_true, eq-eqb, ne_eqb}
 use Rattle.mk_core.specs.declared.config.Config.{Config}
 use Rattle.mk_core.specs.declared.events.Seat.{Seat}
-use Rattle.mk_core.specs.declared.events.Seat.TheVariants.{Caller, Marker, Host}
+use Rattle.mk_core.specs.declared.events.Seat.TheVariants.{Marker}
 use Rattle.mk_core.specs.declared.events.Step.{Step}
 use Rattle.mk_core.specs.declared.events.Step.TheVariants as step
 use Rattle.mk_core.specs.declared.events.Group.{Group}
@@ -19,7 +19,7 @@ use Rattle.mk_core.specs.Ranges.{is_in_range, has_gates, has_phase}
 use Rattle.mk_core.specs.Enabled.{IsEnabled, marker_may, holder_may}
 use Rattle.mk_core.proofs.Conditions.{meets_enabled}
 use Rattle.mk_words.specs.Markers.{marker_in}
-use Rattle.mk_words.specs.States.{PassState, now_of, event_of}
+use Rattle.mk_words.specs.States.{PassState, now_of}
 use Rattle.mk_words.specs.Steps.{IsEnabledTo, Makes}
 use Rattle.mk_core.specs.declared.events.Word.TheVariants as word
 use Rattle.mk_core.specs.declared.seats.Scan.{Scan}
@@ -121,14 +121,14 @@ pub claim_may : (p : PassState) (page k : ℕ) → IsAttending p → page < p.ta
 claim_may p page k a lt few none seen =
     marker_step p (step.Claim page k) a.number a.seat a.few refl (and_from (nat_lt page p.table.config.pages) (nat_lt k 32) (lt-ltb page p.table.config.pages lt) (lt-ltb k 32 few))
     (and_from (is_attending (marker_in p).presence && is_none (marker_in p).scan) (has_seen_cell (marker_in p).seen page k)
-      (and_from (is_attending (marker_in p).presence) (is_none (marker_in p).scan) a.attends (ap (λ (s : Option Scan). is_none s) none)) seen)
+    (and_from (is_attending (marker_in p).presence) (is_none (marker_in p).scan) a.attends (ap (λ (s : Option Scan). is_none s) none)) seen)
 
 pub black_may : (p : PassState) (page k n : ℕ) → IsAttending p → IsAt p page k n n → IsEnabledTo p step.Mblack
 black_may p page k n a at =
     marker_step p step.Mblack a.number a.seat a.few refl refl
     (and_from (is_scanned (marker_in p).scan) (is_none (marker_in p).hand)
-      (ap (λ (s : Option Scan). is_scanned s) at ∙ ap not (false_from_ne_true (nat_lt n n) (λ e. let lt = ltb-true n n e in omega arith)))
-      (ap (λ (h : Option ℕ). is_none h) a.hand))
+    (ap (λ (s : Option Scan). is_scanned s) at ∙ ap not (false_from_ne_true (nat_lt n n) (λ e. let lt = ltb-true n n e in omega arith)))
+    (ap (λ (h : Option ℕ). is_none h) a.hand))
 
 pub quit_may : (p : PassState) (k : ℕ) → p.seat ≡ Marker k → k < 8 → is_out (marker_in p).presence ≡ false → IsEnabledTo p step.Quit
 quit_may p k seat few inside = marker_step p step.Quit k seat few refl refl (ap not inside)
@@ -169,4 +169,4 @@ pub seen_cell : (p q : PassState) (page n class k : ℕ) → IsAttending p → M
 seen_cell p q page n class k a m is lt =
     ap (λ (y : MarkerState). has_seen_cell y.seen page k) m.marker
     ∙ and_from (page == page) (nat_lt k (cells_under (header_of n))) (eq-eqb page page refl)
-      (lt-ltb k (cells_under (header_of n)) (subst (λ (h : Option Header). k < cells_under h) (sym is) lt))
+    (lt-ltb k (cells_under (header_of n)) (subst (λ (h : Option Header). k < cells_under h) (sym is) lt))

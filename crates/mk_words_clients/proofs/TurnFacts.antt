@@ -1,6 +1,6 @@
 -- What a turn knows of the table behind its own steps.
 use Rattle.std.proofs.Common.{◌≡◌, ◌≢◌, ◌⊎◌, inl, inr, ℕ, ◌+◌, ◌<◌, ◌≤◌, Bool, true, false, List, [], ◌∷◌, ◌++◌, length, Option, refl, sym, ◌∙◌, ap, subst, arith}
-use Rattle.std.specs.Prelude.{slice_index, slice_set, ◌==◌, not, nat_lt, None}
+use Rattle.std.specs.Prelude.{slice_index, slice_set, ◌==◌, not, nat_lt}
 use Rattle.std.proofs.lemmas.Bool.{cases_lt, cases_eq, eqb-false, eqb-true, ne_eqb, eq-eqb, lt-ltb, and_from, true≢false}
 use Rattle.std.proofs.lemmas.List.{get_or-set_other, get_or-set_same, get_or_past, length-set}
 use Rattle.mk_geom.specs.PageUses.{words_held_among}
@@ -17,7 +17,6 @@ use Rattle.mk_core.specs.declared.seats.RunPages.{RunPages}
 use Rattle.mk_core.specs.Words.{phase_of}
 use Rattle.mk_core.specs.Moments.{Moment, none_is_held, is_held}
 use Rattle.mk_core.specs.Ranges.{has_phase}
-use Rattle.mk_core.specs.TurnConditions.{words_held}
 use Rattle.mk_core.specs.Effects.{moment_behind}
 use Rattle.mk_core.specs.History.{World, world_behind}
 use Rattle.mk_core.specs.Frames.{Steady, steady_of}

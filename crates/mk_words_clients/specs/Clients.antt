@@ -1,5 +1,5 @@
 -- What the clients ask of a pass and of a turn, and keep.
-use Rattle.std.specs.Prelude.{slice_index, ◌≢◌, ◌≡◌, ℕ, ◌<◌, ◌≤◌, ◌+◌, ◌*◌, true, false, Option, Some, None, List, ◌++◌}
+use Rattle.std.specs.Prelude.{slice_index, ◌≢◌, ◌≡◌, ℕ, ◌<◌, ◌≤◌, ◌+◌, ◌*◌, true, false, Some, None, List, ◌++◌}
 use Rattle.mk_never.specs.declared.operations.Op.{Op}
 use Rattle.mk_never.specs.Admitted.{IsAdmitted}
 use Rattle.mk_core.specs.declared.events.Event.{Event}

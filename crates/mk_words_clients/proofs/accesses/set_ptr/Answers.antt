@@ -1,12 +1,10 @@
-use Rattle.std.proofs.Common.{◌≡◌, ◌≢◌, ◌<◌, ℕ, ◌+◌, ◌*◌, ◌≤◌, Bool, true, refl, sym, ◌∙◌, ap, subst, arith}
-use Rattle.std.specs.Prelude.{Some, None, if◌then◌else◌, ◌==◌, ◌&&◌, nat_lt, nat_le}
+use Rattle.std.proofs.Common.{◌≡◌, ◌≢◌, ◌<◌, ℕ, ◌+◌, ◌*◌, Bool, true, refl, sym, ◌∙◌, ap, subst, arith}
+use Rattle.std.specs.Prelude.{Some, None, if◌then◌else◌, ◌&&◌, nat_lt, nat_le}
 use Rattle.std.proofs.lemmas.Bool.{ne_eqb, and_from, lt-ltb, le-leb}
-use Rattle.mk_core.specs.declared.config.Config.{Config}
 use Rattle.mk_core.specs.declared.events.Answer.TheVariants as answer
 use Rattle.mk_core.specs.declared.events.Step.TheVariants as step
 use Rattle.mk_core.specs.declared.seats.Flight.{Flight}
-use Rattle.mk_core.specs.declared.seats.Progress.{Progress}
-use Rattle.mk_core.specs.declared.seats.Stage.TheVariants.{LoadQ, LoadP, Probe, Write, Dirty, Leave}
+use Rattle.mk_core.specs.declared.seats.Stage.TheVariants.{LoadP, Probe, Write, Dirty, Leave}
 use Rattle.mk_core.specs.Calls.{begun, onward, refused, progress_reg, word_met, value_written}
 use Rattle.mk_core.specs.Effects.{progress_probe}
 use Rattle.mk_never.specs.declared.operations.Op.{Op}
@@ -41,8 +39,8 @@ reg_load-value-requires-clause-admitted c =
     let a = c.reg_load-to.new.self in
     let at1 : IsIn a o f1 =
     goes_on e a step.Reg _ o f0 f1 at0 c.reg_load-to.ensures.goes
-      (ap (λ (f : Flight). (progress_reg f f.stage n).flight) at0.call
-      ∙ ap (λ (b : Bool). (if b then refused (record f0 { q = n }) answer.Null else onward (record f0 { q = n }) None).flight) (ne_eqb n 0 some)) in
+    (ap (λ (f : Flight). (progress_reg f f.stage n).flight) at0.call
+    ∙ ap (λ (b : Bool). (if b then refused (record f0 { q = n }) answer.Null else onward (record f0 { q = n }) None).flight) (ne_eqb n 0 some)) in
     admitted_now a o f1 step.Reg at1 refl c.is_in_order-2.ensures.history (λ x. refl)
 
 pub probe-header-requires-clause-admitted : goal.probe-header-requires-clause-admitted
@@ -60,8 +58,8 @@ probe-header-requires-clause-admitted c =
     let a = c.reg_load-to.new.self in
     let at1 : IsIn a o f1 =
     goes_on e a step.Reg _ o f0 f1 at0 c.reg_load-to.ensures.goes
-      (ap (λ (f : Flight). (progress_reg f f.stage n).flight) at0.call
-      ∙ ap (λ (b : Bool). (if b then refused (record f0 { q = n }) answer.Null else onward (record f0 { q = n }) None).flight) (ne_eqb n 0 some)) in
+    (ap (λ (f : Flight). (progress_reg f f.stage n).flight) at0.call
+    ∙ ap (λ (b : Bool). (if b then refused (record f0 { q = n }) answer.Null else onward (record f0 { q = n }) None).flight) (ne_eqb n 0 some)) in
     let v : ℕ = c.reg_load-value.result in
     let f2 : Flight = record f1 { stage = Probe; p = v } in
     let b = c.reg_load-value.new.self in
@@ -84,8 +82,8 @@ write-requires-clause-enabled c =
     let a = c.reg_load-to.new.self in
     let at1 : IsIn a o f1 =
     goes_on e a step.Reg _ o f0 f1 at0 c.reg_load-to.ensures.goes
-      (ap (λ (f : Flight). (progress_reg f f.stage n).flight) at0.call
-      ∙ ap (λ (b : Bool). (if b then refused (record f0 { q = n }) answer.Null else onward (record f0 { q = n }) None).flight) (ne_eqb n 0 some)) in
+    (ap (λ (f : Flight). (progress_reg f f.stage n).flight) at0.call
+    ∙ ap (λ (b : Bool). (if b then refused (record f0 { q = n }) answer.Null else onward (record f0 { q = n }) None).flight) (ne_eqb n 0 some)) in
     let v : ℕ = c.reg_load-value.result in
     let f2 : Flight = record f1 { stage = Probe; p = v } in
     let b = c.reg_load-value.new.self in
@@ -96,16 +94,16 @@ write-requires-clause-enabled c =
     let d = c.probe-header.new.self in
     let at3 : IsIn d o f3 =
     goes_on b d step.Probe _ o f2 f3 at2 c.probe-header.ensures.goes
-      (ap (λ (f : Flight). (progress_probe f h).flight) at2.call
-      ∙ ap (λ (x : Bool). (if x then refused f2 answer.Fault else onward f2 None).flight) (sym c.is_unmapped.ensures ∙ c.if-is_unmapped.false)) in
+    (ap (λ (f : Flight). (progress_probe f h).flight) at2.call
+    ∙ ap (λ (x : Bool). (if x then refused f2 answer.Fault else onward f2 None).flight) (sym c.is_unmapped.ensures ∙ c.if-is_unmapped.false)) in
     let t0 = ap (λ (r : PassState). r.table) c.in_ok-enter.ensures.goes.makes.is in
     let t1 = ap (λ (r : PassState). r.table) c.reg_load-to.ensures.goes.makes.is in
     let t2 = ap (λ (r : PassState). r.table) c.reg_load-value.ensures.goes.makes.is in
     let t3 = ap (λ (r : PassState). r.table) c.probe-header.ensures.goes.makes.is in
     let met : nat_le 65536 n && nat_lt (word_met f3) (64 * d.table.config.pages) ≡ true =
     and_from (nat_le 65536 n) (nat_lt (word_met f3) (64 * d.table.config.pages)) (le-leb 65536 n (omega arith)) (lt-ltb (word_met f3) (64 * d.table.config.pages)
-      (subst (λ (t : WordsState). word_met f3 < 64 * t.config.pages) (sym (t3 ∙ t2 ∙ t1 ∙ t0))
-      (subst (λ (x : ℕ). heap_word_at x + c.args.i < 64 * c.args.pass.now.table.config.pages) (sym (own ∙ kept)) c.requires.points.word))) in
+    (subst (λ (t : WordsState). word_met f3 < 64 * t.config.pages) (sym (t3 ∙ t2 ∙ t1 ∙ t0))
+    (subst (λ (x : ℕ). heap_word_at x + c.args.i < 64 * c.args.pass.now.table.config.pages) (sym (own ∙ kept)) c.requires.points.word))) in
     next_may d o f3 step.Write at3 refl refl (λ k. met)
 
 pub write-requires-clause-admitted : goal.write-requires-clause-admitted
@@ -123,8 +121,8 @@ write-requires-clause-admitted c =
     let a = c.reg_load-to.new.self in
     let at1 : IsIn a o f1 =
     goes_on e a step.Reg _ o f0 f1 at0 c.reg_load-to.ensures.goes
-      (ap (λ (f : Flight). (progress_reg f f.stage n).flight) at0.call
-      ∙ ap (λ (b : Bool). (if b then refused (record f0 { q = n }) answer.Null else onward (record f0 { q = n }) None).flight) (ne_eqb n 0 some)) in
+    (ap (λ (f : Flight). (progress_reg f f.stage n).flight) at0.call
+    ∙ ap (λ (b : Bool). (if b then refused (record f0 { q = n }) answer.Null else onward (record f0 { q = n }) None).flight) (ne_eqb n 0 some)) in
     let v : ℕ = c.reg_load-value.result in
     let f2 : Flight = record f1 { stage = Probe; p = v } in
     let b = c.reg_load-value.new.self in
@@ -135,8 +133,8 @@ write-requires-clause-admitted c =
     let d = c.probe-header.new.self in
     let at3 : IsIn d o f3 =
     goes_on b d step.Probe _ o f2 f3 at2 c.probe-header.ensures.goes
-      (ap (λ (f : Flight). (progress_probe f h).flight) at2.call
-      ∙ ap (λ (x : Bool). (if x then refused f2 answer.Fault else onward f2 None).flight) (sym c.is_unmapped.ensures ∙ c.if-is_unmapped.false)) in
+    (ap (λ (f : Flight). (progress_probe f h).flight) at2.call
+    ∙ ap (λ (x : Bool). (if x then refused f2 answer.Fault else onward f2 None).flight) (sym c.is_unmapped.ensures ∙ c.if-is_unmapped.false)) in
     admitted_now d o f3 step.Write at3 refl c.is_in_order-4.ensures.history (λ x. refl)
 
 pub write-requires-clause-value : goal.write-requires-clause-value
@@ -154,8 +152,8 @@ write-requires-clause-value c =
     let a = c.reg_load-to.new.self in
     let at1 : IsIn a o f1 =
     goes_on e a step.Reg _ o f0 f1 at0 c.reg_load-to.ensures.goes
-      (ap (λ (f : Flight). (progress_reg f f.stage n).flight) at0.call
-      ∙ ap (λ (b : Bool). (if b then refused (record f0 { q = n }) answer.Null else onward (record f0 { q = n }) None).flight) (ne_eqb n 0 some)) in
+    (ap (λ (f : Flight). (progress_reg f f.stage n).flight) at0.call
+    ∙ ap (λ (b : Bool). (if b then refused (record f0 { q = n }) answer.Null else onward (record f0 { q = n }) None).flight) (ne_eqb n 0 some)) in
     let v : ℕ = c.reg_load-value.result in
     let f2 : Flight = record f1 { stage = Probe; p = v } in
     let b = c.reg_load-value.new.self in
@@ -166,8 +164,8 @@ write-requires-clause-value c =
     let d = c.probe-header.new.self in
     let at3 : IsIn d o f3 =
     goes_on b d step.Probe _ o f2 f3 at2 c.probe-header.ensures.goes
-      (ap (λ (f : Flight). (progress_probe f h).flight) at2.call
-      ∙ ap (λ (x : Bool). (if x then refused f2 answer.Fault else onward f2 None).flight) (sym c.is_unmapped.ensures ∙ c.if-is_unmapped.false)) in
+    (ap (λ (f : Flight). (progress_probe f h).flight) at2.call
+    ∙ ap (λ (x : Bool). (if x then refused f2 answer.Fault else onward f2 None).flight) (sym c.is_unmapped.ensures ∙ c.if-is_unmapped.false)) in
     sym (ap (λ (f : Flight). value_written f f.op) at3.call)
 
 pub dirty-requires-clause-enabled : goal.dirty-requires-clause-enabled
@@ -185,8 +183,8 @@ dirty-requires-clause-enabled c =
     let a = c.reg_load-to.new.self in
     let at1 : IsIn a o f1 =
     goes_on e a step.Reg _ o f0 f1 at0 c.reg_load-to.ensures.goes
-      (ap (λ (f : Flight). (progress_reg f f.stage n).flight) at0.call
-      ∙ ap (λ (b : Bool). (if b then refused (record f0 { q = n }) answer.Null else onward (record f0 { q = n }) None).flight) (ne_eqb n 0 some)) in
+    (ap (λ (f : Flight). (progress_reg f f.stage n).flight) at0.call
+    ∙ ap (λ (b : Bool). (if b then refused (record f0 { q = n }) answer.Null else onward (record f0 { q = n }) None).flight) (ne_eqb n 0 some)) in
     let v : ℕ = c.reg_load-value.result in
     let f2 : Flight = record f1 { stage = Probe; p = v } in
     let b = c.reg_load-value.new.self in
@@ -197,8 +195,8 @@ dirty-requires-clause-enabled c =
     let d = c.probe-header.new.self in
     let at3 : IsIn d o f3 =
     goes_on b d step.Probe _ o f2 f3 at2 c.probe-header.ensures.goes
-      (ap (λ (f : Flight). (progress_probe f h).flight) at2.call
-      ∙ ap (λ (x : Bool). (if x then refused f2 answer.Fault else onward f2 None).flight) (sym c.is_unmapped.ensures ∙ c.if-is_unmapped.false)) in
+    (ap (λ (f : Flight). (progress_probe f h).flight) at2.call
+    ∙ ap (λ (x : Bool). (if x then refused f2 answer.Fault else onward f2 None).flight) (sym c.is_unmapped.ensures ∙ c.if-is_unmapped.false)) in
     let f4 : Flight = record f3 { stage = Dirty } in
     let w = c.write.new.self in
     let at4 : IsIn w o f4 =
@@ -210,8 +208,8 @@ dirty-requires-clause-enabled c =
     let t4 = ap (λ (r : PassState). r.table) c.write.ensures.goes.makes.is in
     let met : nat_le 65536 n && nat_lt (word_met f4) (64 * w.table.config.pages) ≡ true =
     and_from (nat_le 65536 n) (nat_lt (word_met f4) (64 * w.table.config.pages)) (le-leb 65536 n (omega arith)) (lt-ltb (word_met f4) (64 * w.table.config.pages)
-      (subst (λ (t : WordsState). word_met f4 < 64 * t.config.pages) (sym (t4 ∙ t3 ∙ t2 ∙ t1 ∙ t0))
-      (subst (λ (x : ℕ). heap_word_at x + c.args.i < 64 * c.args.pass.now.table.config.pages) (sym (own ∙ kept)) c.requires.points.word))) in
+    (subst (λ (t : WordsState). word_met f4 < 64 * t.config.pages) (sym (t4 ∙ t3 ∙ t2 ∙ t1 ∙ t0))
+    (subst (λ (x : ℕ). heap_word_at x + c.args.i < 64 * c.args.pass.now.table.config.pages) (sym (own ∙ kept)) c.requires.points.word))) in
     next_may w o f4 step.Dirty at4 refl refl (λ k. met)
 
 pub leave-requires-2-clause-enabled : goal.leave-requires-2-clause-enabled
@@ -229,8 +227,8 @@ leave-requires-2-clause-enabled c =
     let a = c.reg_load-to.new.self in
     let at1 : IsIn a o f1 =
     goes_on e a step.Reg _ o f0 f1 at0 c.reg_load-to.ensures.goes
-      (ap (λ (f : Flight). (progress_reg f f.stage n).flight) at0.call
-      ∙ ap (λ (b : Bool). (if b then refused (record f0 { q = n }) answer.Null else onward (record f0 { q = n }) None).flight) (ne_eqb n 0 some)) in
+    (ap (λ (f : Flight). (progress_reg f f.stage n).flight) at0.call
+    ∙ ap (λ (b : Bool). (if b then refused (record f0 { q = n }) answer.Null else onward (record f0 { q = n }) None).flight) (ne_eqb n 0 some)) in
     let v : ℕ = c.reg_load-value.result in
     let f2 : Flight = record f1 { stage = Probe; p = v } in
     let b = c.reg_load-value.new.self in
@@ -241,8 +239,8 @@ leave-requires-2-clause-enabled c =
     let d = c.probe-header.new.self in
     let at3 : IsIn d o f3 =
     goes_on b d step.Probe _ o f2 f3 at2 c.probe-header.ensures.goes
-      (ap (λ (f : Flight). (progress_probe f h).flight) at2.call
-      ∙ ap (λ (x : Bool). (if x then refused f2 answer.Fault else onward f2 None).flight) (sym c.is_unmapped.ensures ∙ c.if-is_unmapped.false)) in
+    (ap (λ (f : Flight). (progress_probe f h).flight) at2.call
+    ∙ ap (λ (x : Bool). (if x then refused f2 answer.Fault else onward f2 None).flight) (sym c.is_unmapped.ensures ∙ c.if-is_unmapped.false)) in
     let f4 : Flight = record f3 { stage = Dirty } in
     let w = c.write.new.self in
     let at4 : IsIn w o f4 =

@@ -1,15 +1,15 @@
-use Rattle.std.proofs.Common.{◌≡◌, ◌<◌, ℕ, List, ◌∷◌, [], ◌++◌, true, false, Bool, refl, sym, ◌∙◌, ap, subst, inl, inr, arith}
+use Rattle.std.proofs.Common.{◌≡◌, List, ◌∷◌, [], ◌++◌, true, refl, sym, ◌∙◌, ap, subst, inl, inr, arith}
 use Rattle.std.proofs.lemmas.Bool.{cases_Bool, lt-ltb}
 use Rattle.mk_core.specs.declared.config.Config.{Config}
 use Rattle.mk_core.specs.declared.events.Seat.{Seat}
-use Rattle.mk_core.specs.declared.events.Seat.TheVariants.{Caller, Marker, Host}
+use Rattle.mk_core.specs.declared.events.Seat.TheVariants.{Caller, Marker}
 use Rattle.mk_core.specs.Growing.{is_same_seat}
 use Rattle.mk_core.specs.Moments.{marker_at, outside}
 use Rattle.mk_core.specs.Order.{seat_exists}
 use Rattle.mk_core.specs.History.{left_from}
 use Rattle.mk_core.specs.declared.events.Event.{Event}
 use Rattle.mk_words.specs.Seats.{Has, all_seats, without_seat}
-use Rattle.mk_words.specs.States.{PassState, WordsState, now_of}
+use Rattle.mk_words.specs.States.{PassState, now_of}
 use Rattle.mk_words.proofs.Seats.{same_seat, has_all, has_first, has_left, has_right, without_keeps}
 use Rattle.mk_words_clients.proofs.lives.one_life.Goals as goal
 

@@ -1,8 +1,7 @@
-use Rattle.std.proofs.Common.{◌≡◌, ◌≤◌, ◌<◌, ◌+◌, ◌-◌, ℕ, refl, sym, ◌∙◌, ap, subst, arith}
+use Rattle.std.proofs.Common.{ℕ, refl, ◌∙◌, ap, arith}
 use Rattle.mk_core.specs.declared.events.Step.TheVariants as step
 use Rattle.mk_words.specs.States.{PassState}
-use Rattle.mk_words_clients.specs.Clients.{HoldsBelow}
-use Rattle.mk_words_clients.proofs.TurnFacts.{settled, settled_kept, holds_none, holds_one_more, holds_no_more, tidy_kept}
+use Rattle.mk_words_clients.proofs.TurnFacts.{settled, settled_kept, holds_none, holds_one_more, tidy_kept}
 use Rattle.mk_words_clients.proofs.stops.hold_all.Goals as goal
 
 pub loop-caller-init : goal.loop-caller-init

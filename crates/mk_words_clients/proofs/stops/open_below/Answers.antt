@@ -1,4 +1,4 @@
-use Rattle.std.proofs.Common.{◌≡◌, ◌≤◌, ◌<◌, ◌+◌, ◌-◌, ℕ, refl, sym, ◌∙◌, ap, subst, arith}
+use Rattle.std.proofs.Common.{◌≡◌, ◌+◌, ◌-◌, ℕ, refl, ◌∙◌, ap, subst, arith}
 use Rattle.mk_core.specs.declared.events.Step.TheVariants as step
 use Rattle.mk_words.specs.States.{PassState}
 use Rattle.mk_words_clients.specs.Clients.{HoldsBelow}

@@ -1,5 +1,5 @@
-use Rattle.std.proofs.Common.{◌≡◌, ◌≤◌, true, false, ℕ, ◌+◌, ◌-◌, ◌*◌, ◌<◌, length}
-use Rattle.mk_words_clients.specs.Clients.{MayGiveBack, Settled, HoldsBelow, StaysTidy}
+use Rattle.std.proofs.Common.{◌≡◌, ◌≤◌}
+use Rattle.mk_words_clients.specs.Clients.{Settled, HoldsBelow, StaysTidy}
 use Rattle.mk_words_clients.proofs.stops.open_below.Given as goal
 
 pub record IsOpening (l : goal.Live-loop-caller) : Type 0 where
