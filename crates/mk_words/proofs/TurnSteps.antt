@@ -63,7 +63,7 @@ use Rattle.mk_words.specs.States.{PassState, now_of, call_of, world_of, event_of
 use Rattle.mk_words.specs.Steps.{IsEnabledTo, Makes, moment_of, found_by, Finds, Tells}
 use Rattle.mk_words.specs.TurnSteps.{op_for, IsTurn, begun_for, IsFresh, turn_stays, gates_stay, world_at, Acts, may_take_cell, KnowsCell, KeepsTurn, cell_behind, register_granted, cell_base}
 use Rattle.mk_words.proofs.Made.{Made, made}
-use Rattle.mk_words.proofs.CallSteps.{begins, waits}
+use Rattle.mk_words.proofs.CallSteps.{begins, goes, waits}
 
 -- who holds the turn, by the turn word
 
@@ -178,6 +178,7 @@ module _ (p : PassState) (s : Step) (q : PassState) (m : Makes p s q) (own : Has
         counts = turn.1;
         stop = d.frame.stop;
         world = d.world;
+        call = λ k is. (goes p s q m own history k is).call;
       }
 
   holds_then : Holds p.table.config (now_of p) p.seat → Holds p.table.config (moment_of m) p.seat

@@ -23,7 +23,8 @@ use Rattle.mk_core.specs.Readings.{Holds}
 use Rattle.mk_core.specs.History.{World, world_behind, left}
 use Rattle.mk_core.specs.Frames.{OwnIsLeft, HoldsAll, TurnIsLeft, CountsAreLeft, written_of}
 use Rattle.mk_words.specs.States.{PassState, TurnState, world_of, now_of, call_of, event_of}
-use Rattle.mk_words.specs.Steps.{Makes}
+use Rattle.mk_core.specs.Effects.{progress}
+use Rattle.mk_words.specs.Steps.{Makes, found_by}
 
 -- the operation for which a seat has the turn, whose call is this; the host has none
 abbrev pub op_for : Seat → Flight → Option Op
@@ -62,6 +63,7 @@ abbrev pub world_at : {p : PassState} {s : Step} {q : PassState} → Makes p s q
 world_at {p} m = left p.table.config (p.seen ++ m.others)
 
 -- The holder of the turn made the step. Others had left it its own up to then, and behind it stands what it does there.
+-- A caller's call goes on by it.
 pub record Acts (p : PassState) (s : Step) (q : PassState) : Type 0 where
   pub makes : Makes p s q
   pub own : OwnIsLeft p.table.config p.seat (world_of p) (world_at makes)
@@ -70,6 +72,7 @@ pub record Acts (p : PassState) (s : Step) (q : PassState) : Type 0 where
   pub counts : CountsAreLeft p.table.config p.seen (p.seen ++ makes.others)
   pub stop : HoldsAll p.table.config (now_of p) p.seat → written_of (world_at makes) ≡ written_of (world_of p)
   pub world : world_of q ≡ world_behind p.table.config (world_at makes) (event_of p s)
+  pub call : (k : ℕ) → p.seat ≡ Caller k → call_of q ≡ (progress p.table.config (world_at makes).now (call_of p) (found_by makes) s).flight
 
 -- No gate is changed but by these.
 abbrev pub gates_stay : Step → Bool

@@ -1,11 +1,10 @@
 -- What a caller's call needs at each of its steps.
-use Rattle.std.proofs.Common.{◌≡◌, ℕ, ◌<◌, Bool, true, List, [], ◌∷◌, ◌++◌, Option, refl, sym, ◌∙◌, ap, subst, append-nil, append_assoc}
-use Rattle.std.specs.Prelude.{Some, None}
+use Rattle.std.proofs.Common.{◌≡◌, ℕ, ◌<◌, true, List, [], ◌∷◌, ◌++◌, sym, ◌∙◌, ap, subst, append-nil, append_assoc}
+use Rattle.std.specs.Prelude.{None}
 use Rattle.mk_never.specs.declared.operations.Op.{Op}
 use Rattle.mk_never.specs.Admitted.{IsAdmitted}
 use Rattle.mk_core.specs.declared.config.Config.{Config}
 use Rattle.mk_core.specs.declared.events.Answer.{Answer}
-use Rattle.mk_core.specs.declared.events.Seat.{Seat}
 use Rattle.mk_core.specs.declared.events.Seat.TheVariants.{Caller}
 use Rattle.mk_core.specs.declared.events.Event.{Event}
 use Rattle.mk_core.specs.declared.events.Step.{Step}
@@ -19,7 +18,7 @@ use Rattle.mk_core.specs.Decided.{flagged}
 use Rattle.mk_core.specs.History.{never_behind, IsHistory}
 use Rattle.mk_core.specs.Order.{group_of, comes_next}
 use Rattle.mk_core.specs.Ranges.{is_in_range}
-use Rattle.mk_words.specs.States.{PassState, WordsState, call_of, event_of}
+use Rattle.mk_words.specs.States.{PassState, WordsState, event_of}
 use Rattle.mk_words.specs.Steps.{IsEnabledTo, IsAdmittedTo, Makes, Goes}
 use Rattle.mk_words_clients.specs.Clients.{IsCallers, IsIn, StaysAdmitted}
 use Rattle.mk_words_clients.proofs.Admitting.{op_step}

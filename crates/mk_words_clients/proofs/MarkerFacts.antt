@@ -4,7 +4,7 @@ use Rattle.std.specs.Prelude.{None, Some, is_none, is_some, not, nat_lt, â—Œ&&â—
 use Rattle.std.proofs.lemmas.Bool.{lt-ltb, ltb-true, and_from, false_from_ne_true, eq-eqb, ne_eqb}
 use Rattle.mk_core.specs.declared.config.Config.{Config}
 use Rattle.mk_core.specs.declared.events.Seat.{Seat}
-use Rattle.mk_core.specs.declared.events.Seat.TheVariants.{Caller, Marker, Host}
+use Rattle.mk_core.specs.declared.events.Seat.TheVariants.{Marker}
 use Rattle.mk_core.specs.declared.events.Step.{Step}
 use Rattle.mk_core.specs.declared.events.Step.TheVariants as step
 use Rattle.mk_core.specs.declared.events.Group.{Group}
@@ -19,7 +19,7 @@ use Rattle.mk_core.specs.Ranges.{is_in_range, has_gates, has_phase}
 use Rattle.mk_core.specs.Enabled.{IsEnabled, marker_may, holder_may}
 use Rattle.mk_core.proofs.Conditions.{meets_enabled}
 use Rattle.mk_words.specs.Markers.{marker_in}
-use Rattle.mk_words.specs.States.{PassState, now_of, event_of}
+use Rattle.mk_words.specs.States.{PassState, now_of}
 use Rattle.mk_words.specs.Steps.{IsEnabledTo, Makes}
 use Rattle.mk_core.specs.declared.events.Word.TheVariants as word
 use Rattle.mk_core.specs.declared.seats.Scan.{Scan}

@@ -1,6 +1,6 @@
 -- What a turn knows of the table behind its own steps.
 use Rattle.std.proofs.Common.{◌≡◌, ◌≢◌, ◌⊎◌, inl, inr, ℕ, ◌+◌, ◌<◌, ◌≤◌, Bool, true, false, List, [], ◌∷◌, ◌++◌, length, Option, refl, sym, ◌∙◌, ap, subst, arith}
-use Rattle.std.specs.Prelude.{slice_index, slice_set, ◌==◌, not, nat_lt, None}
+use Rattle.std.specs.Prelude.{slice_index, slice_set, ◌==◌, not, nat_lt}
 use Rattle.std.proofs.lemmas.Bool.{cases_lt, cases_eq, eqb-false, eqb-true, ne_eqb, eq-eqb, lt-ltb, and_from, true≢false}
 use Rattle.std.proofs.lemmas.List.{get_or-set_other, get_or-set_same, get_or_past, length-set}
 use Rattle.mk_geom.specs.PageUses.{words_held_among}
@@ -17,7 +17,6 @@ use Rattle.mk_core.specs.declared.seats.RunPages.{RunPages}
 use Rattle.mk_core.specs.Words.{phase_of}
 use Rattle.mk_core.specs.Moments.{Moment, none_is_held, is_held}
 use Rattle.mk_core.specs.Ranges.{has_phase}
-use Rattle.mk_core.specs.TurnConditions.{words_held}
 use Rattle.mk_core.specs.Effects.{moment_behind}
 use Rattle.mk_core.specs.History.{World, world_behind}
 use Rattle.mk_core.specs.Frames.{Steady, steady_of}
@@ -41,7 +40,9 @@ use Rattle.mk_core.proofs.Conditions.{meets_enabled}
 use Rattle.mk_placement.proofs.TallySteps.{CountsNothing}
 use Rattle.mk_words.specs.Steps.{IsEnabledTo}
 use Rattle.mk_words.proofs.Tallies.{counts_tidy_more}
-use Rattle.mk_words_clients.specs.Clients.{MayGiveBack}
+use Rattle.mk_words.specs.Opening.{Opens, OthersMayOpen}
+use Rattle.mk_core.specs.Moments.{others_are_held}
+use Rattle.mk_words_clients.specs.Clients.{MayGiveBack, Settled, HoldsBelow, StaysTidy}
 
 -- kinds that leave the steady words, the allocations and the freed run alone
 abbrev pub leaves_steady : Step → Bool
@@ -88,14 +89,6 @@ freed_behind c m seat _ h = cc
 pub freed_kept : (p q : PassState) (s : Step) → Acts p s q → leaves_steady s ≡ true → (now_of q).seats.holding.freed ≡ (now_of p).seats.holding.freed
 freed_kept p q s a h =
     ap (λ (w : World). w.now.seats.holding.freed) a.world ∙ freed_behind p.table.config (world_at a.makes).now p.seat s h ∙ ap (λ (x : Holding). x.freed) a.holding
-
--- what `give` asks but for the gates
-pub record Settled (p : PassState) : Type 0 where
-  pub seat : p.seat ≡ Host
-  pub phase : has_phase (phase_of (now_of p).words) step.Give ≡ true
-  pub freed : (now_of p).seats.holding.freed ≡ None
-  pub held : (now_of p).words.held ≡ words_held (now_of p).words
-  pub fresh : (now_of p).words.fresh ≡ (now_of p).fresh_words
 
 pub settled_kept : (p q : PassState) (s : Step) → Acts p s q → leaves_steady s ≡ true → Settled p → Settled q
 settled_kept p q s a h x =
@@ -259,3 +252,96 @@ pub open_may : (p : PassState) (j : ℕ) → Settled p → Holds p.table.config 
 open_may p j x holds lt held =
     host_step p (step.Open j) x.seat holds refl refl (and_from (nat_lt j p.table.config.callers) true (lt-ltb j p.table.config.callers lt) refl)
     held (not_closed (phase_of (now_of p).words) x.phase) refl (ap (λ (f : Option RunPages). is_run_gone (now_of p).words f) x.freed)
+
+-- Gates are held one after the other, and opened so.
+
+stays_held : (p q : PassState) (s : Step) (a : Acts p s q) (i : ℕ) → slice_index (now_of q).words.gates i ≡ slice_index (world_at a.makes).now.words.gates i
+    → is_held (now_of p).words i ≡ true → is_held (now_of q).words i ≡ true
+stays_held p q s a i same held =
+    eq-eqb (slice_index (now_of q).words.gates i) 2 (same ∙ a.turn.held_gates i (eqb-true (slice_index (now_of p).words.gates i) 2 held))
+
+hold_elsewhere : (p q : PassState) (j : ℕ) (a : Acts p (step.Hold j) q) (i : ℕ) → i ≢ j → slice_index (now_of q).words.gates i ≡ slice_index (world_at a.makes).now.words.gates i
+hold_elsewhere p q j a i other =
+    ap (λ (w : World). slice_index w.now.words.gates i) a.world ∙ get_or-set_other (world_at a.makes).now.words.gates j i _ 0 other
+
+open_elsewhere : (p q : PassState) (j : ℕ) (a : Acts p (step.Open j) q) (i : ℕ) → i ≢ j → slice_index (now_of q).words.gates i ≡ slice_index (world_at a.makes).now.words.gates i
+open_elsewhere p q j a i other =
+    ap (λ (w : World). slice_index w.now.words.gates i) a.world ∙ get_or-set_other (world_at a.makes).now.words.gates j i 0 0 other
+
+pub holds_one_more : (p q : PassState) (j : ℕ) → HoldsBelow p j → Acts p (step.Hold j) q → is_held (now_of q).words j ≡ true → HoldsBelow q (j + 1)
+holds_one_more p q j h a now =
+    record {
+      held = λ i lt. elim (cases_eq i j) [
+        | inl same ↦ subst (λ (k : ℕ). is_held (now_of q).words k ≡ true) (sym same) now
+        | inr other ↦ stays_held p q (step.Hold j) a i (hold_elsewhere p q j a i other) (h.held i (omega arith))
+      ];
+      free = λ i le lt two. (let other : i ≢ j = λ e. omega arith in
+          a.turn.other_gates i (h.free i (omega arith) (within p q (step.Hold j) a i lt)) (sym (hold_elsewhere p q j a i other) ∙ two));
+    }
+
+pub holds_no_more : (p q : PassState) (j : ℕ) → HoldsBelow p j → Acts p (step.Hold j) q → is_held (now_of q).words j ≡ false → HoldsBelow q j
+holds_no_more p q j h a missed =
+    record {
+      held = λ i lt. (let other : i ≢ j = λ e. omega arith in
+          stays_held p q (step.Hold j) a i (hold_elsewhere p q j a i other) (h.held i lt));
+      free = λ i le lt two. elim (cases_eq i j) [
+        | inl same ↦ eqb-false (slice_index (now_of q).words.gates j) 2 missed (sym (ap (λ (k : ℕ). slice_index (now_of q).words.gates k) same) ∙ two)
+        | inr other ↦ a.turn.other_gates i (h.free i le (within p q (step.Hold j) a i lt)) (sym (hold_elsewhere p q j a i other) ∙ two)
+      ];
+    }
+
+pub opens_last : (p q : PassState) (j : ℕ) → HoldsBelow p (j + 1) → Acts p (step.Open j) q → HoldsBelow q j
+opens_last p q j h a =
+    record {
+      held = λ i lt. (let other : i ≢ j = λ e. omega arith in
+          stays_held p q (step.Open j) a i (open_elsewhere p q j a i other) (h.held i (omega arith)));
+      free = λ i le lt two. elim (cases_eq i j) [
+        | inl same ↦ zero_there (world_at a.makes).now.words.gates j
+            (sym (ap (λ (k : ℕ). slice_index (slice_set (world_at a.makes).now.words.gates j 0) k) same) ∙ sym (ap (λ (w : World). slice_index w.now.words.gates i) a.world) ∙ two)
+        | inr other ↦ a.turn.other_gates i (h.free i (omega arith) (within p q (step.Open j) a i lt)) (sym (open_elsewhere p q j a i other) ∙ two)
+      ];
+    }
+
+pub holds_none : (p : PassState) → none_is_held p.table.config.callers (now_of p).words ≡ true → HoldsBelow p 0
+holds_none p h = record { held = λ i lt. absurd (omega arith); free = λ i le lt. none_held_is p h i lt }
+
+pub none_below : (p : PassState) → Settled p → HoldsBelow p 0 → MayGiveBack p
+none_below p x h = given_back p x (λ i lt. h.free i (omega arith) lt)
+
+pub all_are_held : (p : PassState) → p.seat ≡ Host → HoldsBelow p p.table.config.callers → others_are_held p.table.config.callers (now_of p).words p.seat ≡ true
+all_are_held p host h =
+    ap (λ (s : Seat). others_are_held p.table.config.callers (now_of p).words s) host
+    ∙ all_from p.table.config.callers (λ j. is_held (now_of p).words j) (λ j lt. h.held j lt)
+
+pub others_may_open : (p : PassState) → Settled p → Holds p.table.config (now_of p) p.seat → HoldsBelow p p.table.config.callers → OthersMayOpen p 0
+others_may_open p x holds h j le lt other = open_may p j x holds lt (h.held j lt)
+
+pub settled_opened : (p q : PassState) → Opens p q → Settled p → Settled q
+settled_opened p q o x =
+    record {
+      seat = ap (λ (r : PassState). r.seat) o.is ∙ x.seat;
+      phase = ap (λ (y : Steady). has_phase y.phase step.Give) o.steady ∙ x.phase;
+      freed = ap (λ (y : Holding). y.freed) o.holding ∙ x.freed;
+      held = ap (λ (y : Steady). y.held) o.steady ∙ x.held ∙ sym (ap (λ (y : Steady). words_held_among (uses_of_pages y.pages)) o.steady);
+      fresh = ap (λ (y : Steady). y.fresh) o.steady ∙ x.fresh ∙ sym (ap (λ (y : Steady). y.fresh_words) o.steady);
+    }
+
+pub back_opened : (p q : PassState) → Opens p q → Settled p → none_is_held p.table.config.callers (now_of q).words ≡ true → MayGiveBack q
+back_opened p q o x none =
+    let y = settled_opened p q o x in
+    record {
+      seat = y.seat;
+      gates = ap (λ (r : PassState). none_is_held r.table.config.callers (now_of q).words) o.is ∙ none;
+      phase = y.phase;
+      freed = y.freed;
+      held = y.held;
+      fresh = y.fresh;
+    }
+
+pub tidy_opened : (p q : PassState) → Opens p q → StaysTidy p q
+tidy_opened p q o t =
+    subst (λ (d : Config). TalliesAreTidy d q.seen) (sym (ap (λ (r : PassState). r.table.config) o.is))
+    (tidy_behind_others p.table.config p.seen q.seen (left_same o) o.counts t)
+  where
+    left_same : Opens p q → steady_of (left p.table.config q.seen) ≡ steady_of (left p.table.config p.seen)
+    left_same x = sym (ap (λ (r : PassState). steady_of (left r.table.config q.seen)) x.is) ∙ x.steady

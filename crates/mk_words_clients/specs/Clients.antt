@@ -1,5 +1,5 @@
 -- What the clients ask of a pass and of a turn, and keep.
-use Rattle.std.specs.Prelude.{◌≡◌, ℕ, ◌<◌, ◌≤◌, ◌+◌, ◌*◌, true, false, Option, Some, None, List, ◌++◌}
+use Rattle.std.specs.Prelude.{slice_index, ◌≢◌, ◌≡◌, ℕ, ◌<◌, ◌≤◌, ◌+◌, ◌*◌, true, false, Some, None, List, ◌++◌}
 use Rattle.mk_never.specs.declared.operations.Op.{Op}
 use Rattle.mk_never.specs.Admitted.{IsAdmitted}
 use Rattle.mk_core.specs.declared.events.Event.{Event}
@@ -8,9 +8,10 @@ use Rattle.mk_core.specs.History.{IsHistory, never_behind}
 use Rattle.mk_core.specs.declared.events.Seat.TheVariants.{Caller, Marker, Host}
 use Rattle.mk_core.specs.declared.events.Step.TheVariants as step
 use Rattle.mk_core.specs.Calls.{at_rest}
+use Rattle.mk_core.specs.Counts.{TalliesAreTidy}
 use Rattle.mk_core.specs.Words.{phase_of}
 use Rattle.mk_core.specs.Ranges.{has_phase}
-use Rattle.mk_core.specs.Moments.{none_is_held, outside}
+use Rattle.mk_core.specs.Moments.{none_is_held, outside, is_held}
 use Rattle.mk_core.specs.StopConditions.{is_attending}
 use Rattle.mk_words.specs.Markers.{marker_in}
 use Rattle.mk_core.specs.Order.{host_has_turn}
@@ -78,3 +79,20 @@ pub record IsIn (p : PassState) (o : Op) (f : Flight) : Type 0 where
 pub record PointsWell (p : PassState) (q i : ℕ) : Type 0 where
   pub least : 65536 ≤ register_of p q
   pub word : heap_word_at (register_of p q) + i < 64 * p.table.config.pages
+
+-- what `give` asks of the host's turn but for the gates
+pub record Settled (p : PassState) : Type 0 where
+  pub seat : p.seat ≡ Host
+  pub phase : has_phase (phase_of (now_of p).words) step.Give ≡ true
+  pub freed : (now_of p).seats.holding.freed ≡ None
+  pub held : (now_of p).words.held ≡ words_held (now_of p).words
+  pub fresh : (now_of p).words.fresh ≡ (now_of p).fresh_words
+
+-- The gates of the callers below this one are held, and those of the others aren't.
+pub record HoldsBelow (p : PassState) (end : ℕ) : Type 0 where
+  pub held : (i : ℕ) → i < end → is_held (now_of p).words i ≡ true
+  pub free : (i : ℕ) → end ≤ i → i < p.table.config.callers → slice_index (now_of p).words.gates i ≢ 2
+
+-- The tallies are tidy in the latter, if they are in the former.
+abbrev pub StaysTidy : PassState → PassState → Type 0
+StaysTidy p q = TalliesAreTidy p.table.config p.seen → TalliesAreTidy q.table.config q.seen

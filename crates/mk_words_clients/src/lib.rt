@@ -3,6 +3,8 @@
 
 mod accesses;
 mod calls;
+mod lives;
 mod markers;
+mod stops;
 mod threads;
 mod turns;

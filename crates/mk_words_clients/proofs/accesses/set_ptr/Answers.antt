@@ -1,12 +1,10 @@
-use Rattle.std.proofs.Common.{◌≡◌, ◌≢◌, ◌<◌, ℕ, ◌+◌, ◌*◌, ◌≤◌, Bool, true, refl, sym, ◌∙◌, ap, subst, arith}
-use Rattle.std.specs.Prelude.{Some, None, if◌then◌else◌, ◌==◌, ◌&&◌, nat_lt, nat_le}
+use Rattle.std.proofs.Common.{◌≡◌, ◌≢◌, ◌<◌, ℕ, ◌+◌, ◌*◌, Bool, true, refl, sym, ◌∙◌, ap, subst, arith}
+use Rattle.std.specs.Prelude.{Some, None, if◌then◌else◌, ◌&&◌, nat_lt, nat_le}
 use Rattle.std.proofs.lemmas.Bool.{ne_eqb, and_from, lt-ltb, le-leb}
-use Rattle.mk_core.specs.declared.config.Config.{Config}
 use Rattle.mk_core.specs.declared.events.Answer.TheVariants as answer
 use Rattle.mk_core.specs.declared.events.Step.TheVariants as step
 use Rattle.mk_core.specs.declared.seats.Flight.{Flight}
-use Rattle.mk_core.specs.declared.seats.Progress.{Progress}
-use Rattle.mk_core.specs.declared.seats.Stage.TheVariants.{LoadQ, LoadP, Probe, Write, Dirty, Leave}
+use Rattle.mk_core.specs.declared.seats.Stage.TheVariants.{LoadP, Probe, Write, Dirty, Leave}
 use Rattle.mk_core.specs.Calls.{begun, onward, refused, progress_reg, word_met, value_written}
 use Rattle.mk_core.specs.Effects.{progress_probe}
 use Rattle.mk_never.specs.declared.operations.Op.{Op}

@@ -1,10 +1,5 @@
-use Rattle.std.proofs.Common.{◌-◌, ◌≡◌, ◌<◌, ◌≤◌, ◌+◌, ◌*◌, true, false, Some, None, IfSome, IfNone, ℕ, length}
-use Rattle.mk_core.specs.Effects.{scan_onward}
-use Rattle.mk_core.specs.MarkerConditions.{has_next_word}
-use Rattle.mk_geom.specs.Addresses.{is_heap_address, page_at_address}
-use Rattle.mk_geom.specs.Classes.{class_words_of}
-use Rattle.mk_words.specs.Markers.{marker_in}
-use Rattle.mk_words_clients.specs.Clients.{IsOutside, IsAttending, IsAt}
+use Rattle.std.proofs.Common.{◌-◌, ◌≡◌, ◌≤◌, ◌+◌, ◌*◌}
+use Rattle.mk_words_clients.specs.Clients.{IsAttending, IsAt}
 use Rattle.mk_words_clients.proofs.markers.scan_words.Given as goal
 
 pub record IsScanning (l : goal.Live-loop-done) : Type 0 where
