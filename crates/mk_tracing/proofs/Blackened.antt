@@ -32,10 +32,13 @@ sum_below (suc n) f = sum_below n f + f n
 pub white_cells : ℕ → List ℕ → ℕ
 white_cells pages blacks = sum_below pages (λ p. misses 32 (has_bit (slice_index blacks p)))
 
-misses_less : (n : ℕ) (before after : ℕ → Bool) → ((k : ℕ) → before k ≡ true → after k ≡ true) → misses n after ≤ misses n before
+misses_less : (n : ℕ) (before after : ℕ → Bool) → ((k : ℕ) → before k ≡ true → after k ≡ true)
+    → misses n after ≤ misses n before
 unfolding misses
 misses_less zero before after grow = omega arith
-misses_less (suc n) before after grow = let less = misses_less n before after grow in let here = by (before n) (after n) (grow n) in omega arith
+misses_less (suc n) before after grow =
+    let less = misses_less n before after grow in
+    let here = by (before n) (after n) (grow n) in omega arith
   where
     by : (a b : Bool) → (a ≡ true → b ≡ true) → one_unless b ≤ one_unless a
     by true true h = omega arith
@@ -43,7 +46,8 @@ misses_less (suc n) before after grow = let less = misses_less n before after gr
     by false true h = omega arith
     by false false h = omega arith
 
-misses_fewer : (n i : ℕ) (before after : ℕ → Bool) → ((k : ℕ) → before k ≡ true → after k ≡ true) → i < n → before i ≡ false → after i ≡ true
+misses_fewer : (n i : ℕ) (before after : ℕ → Bool) → ((k : ℕ) → before k ≡ true → after k ≡ true) → i < n
+    → before i ≡ false → after i ≡ true
     → misses n after < misses n before
 unfolding misses
 misses_fewer zero i before after grow lt no_more now = absurd (omega arith)
@@ -83,33 +87,41 @@ sums_fewer (suc n) i f g each lt here = elim (cases_lt i n) [
 ]
 
 -- One more black cell leaves fewer white ones.
-pub fewer_white : (pages page index : ℕ) (blacks : List ℕ) → page < pages → page < length blacks → index < 32 → has_bit (slice_index blacks page) index ≡ false
-    → white_cells pages (slice_set blacks page (bit_or (slice_index blacks page) (2 ^ index))) < white_cells pages blacks
+pub fewer_white : (pages page index : ℕ) (blacks : List ℕ) → page < pages → page < length blacks → index < 32
+    → has_bit (slice_index blacks page) index ≡ false
+    → white_cells pages (slice_set blacks page (bit_or (slice_index blacks page) (2 ^ index))) < white_cells pages
+    blacks
 unfolding white_cells
 fewer_white pages page index blacks lt within small white =
     let after : List ℕ = slice_set blacks page (bit_or (slice_index blacks page) (2 ^ index)) in
-    sums_fewer pages page (λ p. misses 32 (has_bit (slice_index blacks p))) (λ p. misses 32 (has_bit (slice_index after p)))
-    (λ p. misses_less 32 (has_bit (slice_index blacks p)) (has_bit (slice_index after p)) (λ k h. bits_stay blacks page (2 ^ index) p k h)) lt
-    (misses_fewer 32 index (has_bit (slice_index blacks page)) (has_bit (slice_index after page)) (λ k h. bits_stay blacks page (2 ^ index) page k h) small white
+    sums_fewer pages page (λ p. misses 32 (has_bit (slice_index blacks p)))
+    (λ p. misses 32 (has_bit (slice_index after p)))
+    (λ p. misses_less 32 (has_bit (slice_index blacks p)) (has_bit (slice_index after p))
+    (λ k h. bits_stay blacks page (2 ^ index) p k h)) lt
+    (misses_fewer 32 index (has_bit (slice_index blacks page)) (has_bit (slice_index after page))
+    (λ k h. bits_stay blacks page (2 ^ index) page k h) small white
     (bits_added blacks page (2 ^ index) index within
     (subst (λ n. has_bit n index ≡ true) (bit_for_small index (omega arith)) (bit_for_has index (omega arith)))))
 
 -- A gray cell goes on being marked, with its header; it may turn black.
 
 pub gray_turns : (pages : ℕ) (w v : Words) (cell : Cell) → IsGray pages w cell → MarksMore w v
-    → (has_no_pointers (header_in w cell.page) ≡ true) ⊎ (words_point_well pages v cell ≡ true) → may_turn_black pages v cell ≡ true
+    → (has_no_pointers (header_in w cell.page) ≡ true) ⊎ (words_point_well pages v cell ≡ true)
+    → may_turn_black pages v cell ≡ true
 unfolding may_turn_black
 gray_turns pages w v cell gray more either =
     and_from (nat_lt cell.index (cells_under (header_in v cell.page)) && is_marked v cell) _
     (and_from (nat_lt cell.index (cells_under (header_in v cell.page))) (is_marked v cell)
-    (ap (λ (y : Words). nat_lt cell.index (cells_under (header_in y cell.page))) more.is ∙ lt-ltb cell.index (cells_under (header_in w cell.page)) gray.index)
+    (ap (λ (y : Words). nat_lt cell.index (cells_under (header_in y cell.page))) more.is ∙ lt-ltb cell.index
+    (cells_under (header_in w cell.page)) gray.index)
     (more.grow cell.page cell.index gray.marked))
     (by either)
   where
     by : (has_no_pointers (header_in w cell.page) ≡ true) ⊎ (words_point_well pages v cell ≡ true)
         → (has_no_pointers (header_in v cell.page) || words_point_well pages v cell) ≡ true
     by (inl bare) =
-        ap (λ (b : Bool). b || words_point_well pages v cell) (ap (λ (y : Words). has_no_pointers (header_in y cell.page)) more.is ∙ bare)
+        ap (λ (b : Bool). b || words_point_well pages v cell)
+        (ap (λ (y : Words). has_no_pointers (header_in y cell.page)) more.is ∙ bare)
     by (inr well) = by_second (has_no_pointers (header_in v cell.page)) (words_point_well pages v cell) well
       where
         by_second : (a b : Bool) → b ≡ true → (a || b) ≡ true
@@ -121,20 +133,25 @@ pub gray_kept : (pages : ℕ) (w v : Words) (cell : Cell) → IsGray pages w cel
 gray_kept pages w v cell gray more =
     record {
       page = gray.page;
-      index = subst (λ n. cell.index < n) (sym (ap (λ (y : Words). cells_under (header_in y cell.page)) more.is)) gray.index;
+      index = subst (λ n. cell.index < n) (sym (ap (λ (y : Words). cells_under (header_in y cell.page)) more.is))
+          gray.index;
       marked = more.grow cell.page cell.index gray.marked;
       not_black = ap (λ (y : Words). has_bit (slice_index y.blacks cell.page) cell.index) more.is ∙ gray.not_black;
     }
 
 -- Once each of its words points well, they all do.
 pub scan_done : (pages : ℕ) (w v : Words) (cell : Cell) → MarksMore w v
-    → ((j : ℕ) → j < cell_words w cell → points_well pages v (slice_index w.heap (first_word w cell + j)) ≡ true) → words_point_well pages v cell ≡ true
+    → ((j : ℕ) → j < cell_words w cell → points_well pages v (slice_index w.heap (first_word w cell + j)) ≡ true)
+    → words_point_well pages v cell ≡ true
 scan_done pages w v cell more each =
-    let all : Words → Type 0 = λ (y : Words). all_below (cell_words y cell) (λ i. points_well pages v (slice_index y.heap (first_word y cell + i))) ≡ true in
-    subst all (sym more.is) (all_below_from (cell_words w cell) (λ i. points_well pages v (slice_index w.heap (first_word w cell + i))) each)
+    let all : Words → Type 0 = λ (y : Words). all_below (cell_words y cell)
+    (λ i. points_well pages v (slice_index y.heap (first_word y cell + i))) ≡ true in
+    subst all (sym more.is) (all_below_from (cell_words w cell)
+    (λ i. points_well pages v (slice_index w.heap (first_word w cell + i))) each)
 
 -- what stays behind marks, of the cell
-pub cell_kept : (w v : Words) (cell : Cell) (i : ℕ) → MarksMore w v → slice_index v.heap (first_word v cell + i) ≡ slice_index w.heap (first_word w cell + i)
+pub cell_kept : (w v : Words) (cell : Cell) (i : ℕ) → MarksMore w v
+    → slice_index v.heap (first_word v cell + i) ≡ slice_index w.heap (first_word w cell + i)
 cell_kept w v cell i more = ap (λ (y : Words). slice_index y.heap (first_word y cell + i)) more.is
 
 -- A page has at most 32 cells.
@@ -161,13 +178,25 @@ cells_few None = lit≤ tt
 
 -- A cell is blackened behind marks.
 pub blackens_one : (w x v : Words) (cell : Cell) → MarksMore w x
-    → v ≡ record x { blacks = slice_set x.blacks cell.page (bit_or (slice_index x.blacks cell.page) (2 ^ cell.index)) } → BlackensOne w cell v
+    → v ≡ record x { blacks = slice_set x.blacks cell.page (bit_or (slice_index x.blacks cell.page) (2 ^ cell.index)) }
+    → BlackensOne w cell v
 blackens_one w x v cell more is =
-    let from : v ≡ record w { marks = x.marks; blacks = slice_set w.blacks cell.page (bit_or (slice_index w.blacks cell.page) (2 ^ cell.index)) } =
-    is ∙ ap (λ (y : Words). record y { blacks = slice_set y.blacks cell.page (bit_or (slice_index y.blacks cell.page) (2 ^ cell.index)) }) more.is in
+    let from : v ≡ record w {
+      marks = x.marks;
+      blacks = slice_set w.blacks cell.page
+          (bit_or (slice_index w.blacks cell.page) (2 ^ cell.index));
+    } =
+    is ∙ ap (λ (y : Words). record y {
+      blacks = slice_set y.blacks cell.page
+          (bit_or (slice_index y.blacks cell.page) (2 ^ cell.index));
+    }) more.is in
     let marks : v.marks ≡ x.marks = ap (λ (y : Words). y.marks) from in
     record {
-      is = from ∙ ap (λ (ms : List ℕ). record w { marks = ms; blacks = slice_set w.blacks cell.page (bit_or (slice_index w.blacks cell.page) (2 ^ cell.index)) }) (sym marks);
+      is = from ∙ ap (λ (ms : List ℕ). record w {
+        marks = ms;
+        blacks = slice_set w.blacks cell.page
+            (bit_or (slice_index w.blacks cell.page) (2 ^ cell.index));
+      }) (sym marks);
       grow = λ p k h. subst (λ (ms : List ℕ). has_bit (slice_index ms p) k ≡ true) (sym marks) (more.grow p k h);
     }
 
@@ -184,18 +213,23 @@ colours_then w v x cell one two =
     let bs : List ℕ = slice_set v.blacks cell.page (bit_or (slice_index v.blacks cell.page) (2 ^ cell.index)) in
     let blacks : x.blacks ≡ bs = ap (λ (y : Words). y.blacks) two.is in
     record {
-      is = two.is ∙ ap (λ (y : Words). coloured_as y x.marks bs) one.is ∙ ap (λ (xs : List ℕ). coloured_as w x.marks xs) (sym blacks);
+      is = two.is ∙ ap (λ (y : Words). coloured_as y x.marks bs) one.is ∙ ap (λ (xs : List ℕ). coloured_as w x.marks xs)
+          (sym blacks);
       marks = λ p k h. two.grow p k (one.marks p k h);
-      blacks = λ p k h. subst (λ (xs : List ℕ). has_bit (slice_index xs p) k ≡ true) (sym blacks) (bits_stay v.blacks cell.page (2 ^ cell.index) p k (one.blacks p k h));
+      blacks = λ p k h. subst (λ (xs : List ℕ). has_bit (slice_index xs p) k ≡ true) (sym blacks)
+          (bits_stay v.blacks cell.page (2 ^ cell.index) p k (one.blacks p k h));
     }
 
 -- one fewer is white
-pub one_fewer_white : (pages : ℕ) (w v x : Words) (cell : Cell) → IsGray pages w cell → pages ≡ length w.blacks → v ≡ w → BlackensOne v cell x
+pub one_fewer_white : (pages : ℕ) (w v x : Words) (cell : Cell) → IsGray pages w cell → pages ≡ length w.blacks → v ≡ w
+    → BlackensOne v cell x
     → white_cells pages x.blacks < white_cells pages w.blacks
 one_fewer_white pages w v x cell gray count same one =
     let few = cells_few (header_in w cell.page) in
     let known = gray.index in
     let blacks : x.blacks ≡ slice_set w.blacks cell.page (bit_or (slice_index w.blacks cell.page) (2 ^ cell.index)) =
-    ap (λ (y : Words). y.blacks) one.is ∙ ap (λ (y : Words). slice_set y.blacks cell.page (bit_or (slice_index y.blacks cell.page) (2 ^ cell.index))) same in
+    ap (λ (y : Words). y.blacks) one.is ∙ ap (λ (y : Words). slice_set y.blacks cell.page
+    (bit_or (slice_index y.blacks cell.page) (2 ^ cell.index))) same in
     subst (λ (xs : List ℕ). white_cells pages xs < white_cells pages w.blacks) (sym blacks)
-    (fewer_white pages cell.page cell.index w.blacks gray.page (subst (λ n. cell.page < n) count gray.page) (omega arith) gray.not_black)
+    (fewer_white pages cell.page cell.index w.blacks gray.page (subst (λ n. cell.page < n) count gray.page)
+    (omega arith) gray.not_black)

@@ -33,9 +33,11 @@ use Rattle.mk_invariant.proofs.Histories.{histories_keep_the_invariant}
 
 -- the page is behind its head as its header says
 abbrev LiesBehind : Words → ℕ → ℕ → Type 0
-LiesBehind w p page = (page ≡ p) ⊎ ((distance : ℕ) × (mapped : Bool) × (header_in w page ≡ Some (Later distance mapped)) × (p + distance ≡ page))
+LiesBehind w p page = (page ≡ p) ⊎ ((distance : ℕ) × (mapped : Bool) ×
+    (header_in w page ≡ Some (Later distance mapped)) × (p + distance ≡ page))
 
-part_behind : (w : Words) (o : Object) (p distance page : ℕ) (x : Option Header) → ShowsPart o distance x → header_in w page ≡ x
+part_behind : (w : Words) (o : Object) (p distance page : ℕ) (x : Option Header) → ShowsPart o distance x
+    → header_in w page ≡ x
     → p + distance ≡ page → LiesBehind w p page
 part_behind w o p distance page x (OfBlock first small leaf) is at = inl (omega arith)
 part_behind w o p distance page x (OfLeafBlock first small leaf) is at = inl (omega arith)
@@ -51,11 +53,15 @@ behind_head c w n p q some head =
     let shown = shown_there c w x.claim q x.among in
     let at = x.at in
     let page : x.claim.page ≡ p =
-    sym (claimed_head w.now.words.pages x.claim x.distance shown x.near) ∙ ap (λ i. head_page w.now.words i) at ∙ head in
-    part_behind w.now.words x.claim.object p x.distance (n / 64) (shows_on w.now.words.pages (x.claim.page + x.distance))
-    (claimed w.now.words.pages x.claim x.distance shown x.near) (ap (λ i. header_in w.now.words i) (sym at)) (omega arith)
+    sym (claimed_head w.now.words.pages x.claim x.distance shown x.near) ∙ ap (λ i. head_page w.now.words i) at
+    ∙ head in
+    part_behind w.now.words x.claim.object p x.distance (n / 64)
+    (shows_on w.now.words.pages (x.claim.page + x.distance))
+    (claimed w.now.words.pages x.claim x.distance shown x.near) (ap (λ i. header_in w.now.words i) (sym at))
+    (omega arith)
 
-unreleasing_behind : (c : Config) (es : List Event) → IsHistory c es → phase_of (left c es).now.words ≡ 2 → Unreleasing c (left c es)
+unreleasing_behind : (c : Config) (es : List Event) → IsHistory c es → phase_of (left c es).now.words ≡ 2
+    → Unreleasing c (left c es)
 unreleasing_behind c es h two =
     let all : Invariant c (left c es) (never_behind c es) = histories_keep_the_invariant c es h in
     let w : World = left c es in
@@ -70,7 +76,8 @@ unreleasing_behind c es h two =
 
 in_heap : (pages n : ℕ) → n < 64 * pages → is_heap_address pages (address_of n) ≡ true
 in_heap pages n lt =
-    and_from (nat_le 65536 (address_of n)) (nat_lt (address_of n) (65536 + 512 * pages)) (le-leb _ _ (omega arith)) (lt-ltb _ _ (omega arith))
+    and_from (nat_le 65536 (address_of n)) (nat_lt (address_of n) (65536 + 512 * pages)) (le-leb _ _ (omega arith))
+    (lt-ltb _ _ (omega arith))
 
 page_there : (n : ℕ) → page_at_address (address_of n) ≡ n / 64
 page_there n = omega arith
@@ -83,10 +90,12 @@ found_at : (pages : ℕ) (w : Words) (n : ℕ) (h : Header) (cell : Cell) → n 
 unfolding pointed_cell
 found_at pages w n h cell lt is under =
     let here : header_in w (page_at_address (address_of n)) ≡ Some h = ap (λ p. header_in w p) (page_there n) ∙ is in
-    let find : Option Header → Option Cell = λ (o : Option Header). option_and_then (λ x. cell_under x (page_at_address (address_of n)) (word_at_address (address_of n))) o in
+    let find : Option Header → Option Cell = λ (o : Option Header). option_and_then
+    (λ x. cell_under x (page_at_address (address_of n)) (word_at_address (address_of n))) o in
     ap (λ (b : Bool). if b then find (header_in w (page_at_address (address_of n))) else None) (in_heap pages n lt)
     ∙ ap find here
-    ∙ ap (λ p. cell_under h p (word_at_address (address_of n))) (page_there n) ∙ ap (λ i. cell_under h (n / 64) i) (word_there n) ∙ under
+    ∙ ap (λ p. cell_under h p (word_at_address (address_of n))) (page_there n) ∙ ap (λ i. cell_under h (n / 64) i)
+    (word_there n) ∙ under
 
 abbrev cell_of : ℕ → ℕ → Cell
 cell_of p k = record { page = p; index = k }
@@ -97,14 +106,18 @@ some_where b cell = if b then Some cell else None
 block_there : (size cells p k i : ℕ) → k < cells → i < size
     → some_where (nat_lt (k * size + i) (cells * size)) (cell_of p ((k * size + i) / size)) ≡ Some (cell_of p k)
 block_there size cells p k i lk li =
-    ap (λ (b : Bool). some_where b (cell_of p ((k * size + i) / size))) (lt-ltb (k * size + i) (cells * size) (subst (λ n. k * size + i < n) (mul_comm size cells) (mul-add-lt k size i cells lk li)))
+    ap (λ (b : Bool). some_where b (cell_of p ((k * size + i) / size)))
+    (lt-ltb (k * size + i) (cells * size) (subst (λ n. k * size + i < n) (mul_comm size cells)
+    (mul-add-lt k size i cells lk li)))
     ∙ ap (λ (j : ℕ). Some (cell_of p j)) (div-mul-add k size i li)
 
 -- The cell's words lie in the heap.
 
-in_heap_under : (c : Config) (w : Words) (p k i : ℕ) (x : Option Header) → RunsFit c w.pages → header_in w p ≡ x → p < c.pages → k < cells_under x
+in_heap_under : (c : Config) (w : Words) (p k i : ℕ) (x : Option Header) → RunsFit c w.pages → header_in w p ≡ x
+    → p < c.pages → k < cells_under x
     → has_no_pointers x ≡ false → i < words_under x → 64 * p + k * words_under x + i < 64 * c.pages
-in_heap_under c w p k i (Some (Block class)) fit is lt lk scanned li = let ends = cell_ends k (class_words_of class) lk in omega arith
+in_heap_under c w p k i (Some (Block class)) fit is lt lk scanned li = let ends = cell_ends k
+    (class_words_of class) lk in omega arith
 in_heap_under c w p k i (Some (Run count true)) fit is lt lk scanned li =
     let near : p + count ≤ c.pages = fit p count is in
     let zero : k ≡ 0 = omega arith in
@@ -118,7 +131,8 @@ in_heap_under c w p k i (Some (Later d m)) fit is lt lk scanned li = absurd (ome
 in_heap_under c w p k i None fit is lt lk scanned li = absurd (omega arith)
 
 pub words_in_heap : (c : Config) (es : List Event) (cell : Cell) (i : ℕ) → IsHistory c es → cell.page < c.pages
-    → cell.index < cells_under (header_in (left c es).now.words cell.page) → has_no_pointers (header_in (left c es).now.words cell.page) ≡ false
+    → cell.index < cells_under (header_in (left c es).now.words cell.page)
+    → has_no_pointers (header_in (left c es).now.words cell.page) ≡ false
     → i < cell_words (left c es).now.words cell → first_word (left c es).now.words cell + i < 64 * c.pages
 words_in_heap c es cell i h lt lk scanned li =
     in_heap_under c (left c es).now.words cell.page cell.index i (header_in (left c es).now.words cell.page)
@@ -126,7 +140,8 @@ words_in_heap c es cell i h lt lk scanned li =
 
 -- and a lookup finds the cell at each that isn't 0.
 
-run_at : (pages : ℕ) (w : Words) (n p count : ℕ) → n < 64 * pages → header_in w p ≡ Some (Run count true) → LiesBehind w p (n / 64)
+run_at : (pages : ℕ) (w : Words) (n p count : ℕ) → n < 64 * pages → header_in w p ≡ Some (Run count true)
+    → LiesBehind w p (n / 64)
     → pointed_cell pages w.pages (address_of n) ≡ Some (record { page = p; index = 0 })
 run_at pages w n p count lt is (inl here) =
     found_at pages w n (Run count true) (record { page = p; index = 0 }) lt (ap (λ q. header_in w q) here ∙ is)
@@ -136,19 +151,23 @@ run_at pages w n p count lt is (inr (d, m, shown, at)) =
     (ap (λ (b : Bool). some_where b (cell_of (n / 64 - d) 0)) (le-leb d (n / 64) (omega arith))
     ∙ ap (λ (q : ℕ). Some (cell_of q 0)) (omega arith))
 
-cell_under_word : (c : Config) (v : World) (p k i : ℕ) (x : Option Header) → Unreleasing c v → header_in v.now.words p ≡ x → k < cells_under x
+cell_under_word : (c : Config) (v : World) (p k i : ℕ) (x : Option Header) → Unreleasing c v
+    → header_in v.now.words p ≡ x → k < cells_under x
     → has_no_pointers x ≡ false → i < words_under x → 64 * p + k * words_under x + i < 64 * c.pages
     → slice_index v.now.words.heap (64 * p + k * words_under x + i) ≢ 0
     → head_page v.now.words ((64 * p + k * words_under x + i) / 64) ≡ p
-    → pointed_cell c.pages v.now.words.pages (address_of (64 * p + k * words_under x + i)) ≡ Some (record { page = p; index = k })
+    → pointed_cell c.pages v.now.words.pages (address_of (64 * p + k * words_under x + i))
+    ≡ Some (record { page = p; index = k })
 cell_under_word c v p k i (Some (Block class)) q is lk scanned li within some head =
     let size = class_words_of class in
     let ends = cell_ends k size lk in
     let n = 64 * p + k * size + i in
     let page : n / 64 ≡ p = omega arith in
     let place : n % 64 ≡ k * size + i = omega arith in
-    found_at c.pages v.now.words n (Block class) (record { page = p; index = k }) within (ap (λ j. header_in v.now.words j) page ∙ is)
-    (ap (λ j. cell_of_block class j (n % 64)) page ∙ ap (λ j. cell_of_block class p j) place ∙ block_there size (cells_of class) p k i lk li)
+    found_at c.pages v.now.words n (Block class) (record { page = p; index = k }) within
+    (ap (λ j. header_in v.now.words j) page ∙ is)
+    (ap (λ j. cell_of_block class j (n % 64)) page ∙ ap (λ j. cell_of_block class p j) place ∙ block_there size
+    (cells_of class) p k i lk li)
 cell_under_word c v p k i (Some (Run count true)) q is lk scanned li within some head =
     let n = 64 * p + k * (64 * count) + i in
     let zero : 0 ≡ k = omega arith in
@@ -161,11 +180,14 @@ cell_under_word c v p k i (Some Free) q is lk scanned li within some head = absu
 cell_under_word c v p k i (Some (Later d m)) q is lk scanned li within some head = absurd (omega arith)
 cell_under_word c v p k i None q is lk scanned li within some head = absurd (omega arith)
 
-pub cell_of_word : (c : Config) (es : List Event) (cell : Cell) (i : ℕ) → IsHistory c es → phase_of (left c es).now.words ≡ 2 → cell.page < c.pages
-    → cell.index < cells_under (header_in (left c es).now.words cell.page) → has_no_pointers (header_in (left c es).now.words cell.page) ≡ false
+pub cell_of_word : (c : Config) (es : List Event) (cell : Cell) (i : ℕ) → IsHistory c es
+    → phase_of (left c es).now.words ≡ 2 → cell.page < c.pages
+    → cell.index < cells_under (header_in (left c es).now.words cell.page)
+    → has_no_pointers (header_in (left c es).now.words cell.page) ≡ false
     → i < cell_words (left c es).now.words cell
     → slice_index (left c es).now.words.heap (first_word (left c es).now.words cell + i) ≢ 0
-    → pointed_cell c.pages (left c es).now.words.pages (address_of (first_word (left c es).now.words cell + i)) ≡ Some cell
+    → pointed_cell c.pages (left c es).now.words.pages (address_of (first_word (left c es).now.words cell + i))
+    ≡ Some cell
 cell_of_word c es cell i h two lt lk scanned li some =
     let v : World = left c es in
     let q = unreleasing_behind c es h two in

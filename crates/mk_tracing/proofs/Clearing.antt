@@ -32,11 +32,18 @@ blacks_same w v e = subst (λ (x : Words). BlacksFewer w x) (sym e) (record { is
 
 pub blacks_cleared : (w v : Words) (page : ℕ) → v ≡ blacked_as w (slice_set w.blacks page 0) → BlacksFewer w v
 blacks_cleared w v page e =
-    subst (λ (x : Words). BlacksFewer w x) (sym e) (record { is = refl; fewer = λ p z. cleared_stays w.blacks page p z })
+    subst (λ (x : Words). BlacksFewer w x) (sym e) (record {
+      is = refl;
+      fewer = λ p z. cleared_stays w.blacks page p z;
+    })
 
 pub blacks_then : (u v w : Words) → BlacksFewer u v → BlacksFewer v w → BlacksFewer u w
 blacks_then u v w one two =
-    record { is = two.is ∙ ap (λ (x : Words). blacked_as x w.blacks) one.is; fewer = λ p z. two.fewer p (one.fewer p z) }
+    record {
+      is = two.is ∙ ap (λ (x : Words). blacked_as x w.blacks) one.is;
+      fewer = λ p z. two.fewer p
+          (one.fewer p z);
+    }
 
 pub dirty_same : (w v : Words) → v ≡ w → DirtyFewer w v
 dirty_same w v e = subst (λ (x : Words). DirtyFewer w x) (sym e) (record { is = refl; fewer = λ p z. z })
@@ -49,7 +56,8 @@ pub dirty_then : (u v w : Words) → DirtyFewer u v → DirtyFewer v w → Dirty
 dirty_then u v w one two =
     record { is = two.is ∙ ap (λ (x : Words). dirtied_as x w.dirty) one.is; fewer = λ p z. two.fewer p (one.fewer p z) }
 
-pub black_cleared : (w v : Words) (page : ℕ) → v ≡ blacked_as w (slice_set w.blacks page 0) → slice_index v.blacks page ≡ 0
+pub black_cleared : (w v : Words) (page : ℕ) → v ≡ blacked_as w (slice_set w.blacks page 0)
+    → slice_index v.blacks page ≡ 0
 black_cleared w v page e = ap (λ (x : Words). slice_index x.blacks page) e ∙ cleared_here w.blacks page
 
 pub dirt_cleared : (w v : Words) (page : ℕ) → v ≡ dirtied_as w (slice_set w.dirty page 0) → slice_index v.dirty page ≡ 0
@@ -59,18 +67,21 @@ dirt_cleared w v page e = ap (λ (x : Words). slice_index x.dirty page) e ∙ cl
 
 pub unscanned_still : (w v : Words) (page : ℕ) → BlacksFewer w v → IsUnscanned w page → IsUnscanned v page
 unscanned_still w v page fewer u =
-    let dirty : slice_index v.dirty page ≡ slice_index w.dirty page = ap (λ (x : Words). slice_index x.dirty page) fewer.is in
+    let dirty : slice_index v.dirty page ≡ slice_index w.dirty page = ap
+    (λ (x : Words). slice_index x.dirty page) fewer.is in
     let head : head_page v page ≡ head_page w page = ap (λ (x : Words). head_page x page) fewer.is in
     record {
       own = λ some. fewer.fewer page (u.own (λ z. some (dirty ∙ z)));
-      head = λ some. ap (λ q. slice_index v.blacks q) head ∙ fewer.fewer (head_page w page) (u.head (λ z. some (dirty ∙ z)));
+      head = λ some. ap (λ q. slice_index v.blacks q) head ∙ fewer.fewer (head_page w page)
+          (u.head (λ z. some (dirty ∙ z)));
     }
 
 pub unscanned_clean : (w v : Words) (page : ℕ) → DirtyFewer w v → IsUnscanned w page → IsUnscanned v page
 unscanned_clean w v page fewer u =
     record {
       own = λ some. ap (λ (x : Words). slice_index x.blacks page) fewer.is ∙ u.own (λ z. some (fewer.fewer page z));
-      head = λ some. ap (λ (x : Words). slice_index x.blacks (head_page x page)) fewer.is ∙ u.head (λ z. some (fewer.fewer page z));
+      head = λ some. ap (λ (x : Words). slice_index x.blacks (head_page x page)) fewer.is ∙ u.head
+          (λ z. some (fewer.fewer page z));
     }
 
 pub not_dirty : (w v : Words) (page : ℕ) → v ≡ w → slice_index w.dirty page ≡ 0 → IsUnscanned v page
@@ -79,17 +90,20 @@ not_dirty w v page e z =
     record { own = λ some. absurd (some clean); head = λ some. absurd (some clean) }
 
 -- A dirty page whose black word is cleared, and that of its head.
-pub cleared_unscanned : (v : Words) (page : ℕ) → slice_index v.blacks page ≡ 0 → slice_index v.blacks (head_page v page) ≡ 0 → IsUnscanned v page
+pub cleared_unscanned : (v : Words) (page : ℕ) → slice_index v.blacks page ≡ 0
+    → slice_index v.blacks (head_page v page) ≡ 0 → IsUnscanned v page
 cleared_unscanned v page own head = record { own = λ some. own; head = λ some. head }
 
 pub own_part : (w : Words) (page : ℕ) → slice_index w.dirty page ≢ 0 → HasDirtyPart w page
 own_part w page some = record { part = page; dirty = some; of = inl refl }
 
-pub head_part : (w : Words) (page head : ℕ) → slice_index w.dirty page ≢ 0 → head_page w page ≡ head → HasDirtyPart w head
+pub head_part : (w : Words) (page head : ℕ) → slice_index w.dirty page ≢ 0 → head_page w page ≡ head
+    → HasDirtyPart w head
 head_part w page head some is = record { part = page; dirty = some; of = inr is }
 
 -- what holds of each page below one, and of the next
-pub pages_then : (P Q : ℕ → Type 0) (i : ℕ) → ((p : ℕ) → P p → Q p) → ((p : ℕ) → p < i → P p) → Q i → (p : ℕ) → p < i + 1 → Q p
+pub pages_then : (P Q : ℕ → Type 0) (i : ℕ) → ((p : ℕ) → P p → Q p) → ((p : ℕ) → p < i → P p) → Q i → (p : ℕ)
+    → p < i + 1 → Q p
 pages_then P Q i on before here p lt = elim (cases_lt p i) [
   | inl below ↦ on p (before p below)
   | inr past ↦ let at : i ≡ p = omega arith in subst Q at here

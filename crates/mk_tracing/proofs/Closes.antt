@@ -33,8 +33,10 @@ all_from test (x ∷ xs) each = and_from (test x) (list_all test xs) (each 0) (a
 pub roots_more : (pages : ℕ) (w v : Words) → ColoursMore w v → RootsPointWell pages w → RootsPointWell pages v
 roots_more pages w v more roots =
     record {
-      registers = λ i. ap (λ (y : Words). points_well pages v (slice_index y.registers i)) more.is ∙ well (slice_index w.registers i) (roots.registers i);
-      globals = λ g. ap (λ (y : Words). points_well pages v (slice_index y.globals g)) more.is ∙ well (slice_index w.globals g) (roots.globals g);
+      registers = λ i. ap (λ (y : Words). points_well pages v (slice_index y.registers i)) more.is ∙ well
+          (slice_index w.registers i) (roots.registers i);
+      globals = λ g. ap (λ (y : Words). points_well pages v (slice_index y.globals g)) more.is ∙ well
+          (slice_index w.globals g) (roots.globals g);
     }
   where
     marks : MarksMore w (marked_as w v.marks)
@@ -42,23 +44,29 @@ roots_more pages w v more roots =
 
     well : (u : ℕ) → points_well pages w u ≡ true → points_well pages v u ≡ true
     well u h =
-        ap (λ (ps : List Page). is_none_or (is_marked v) (pointed_cell pages ps u)) (ap (λ (y : Words). y.pages) more.is)
+        ap (λ (ps : List Page). is_none_or (is_marked v) (pointed_cell pages ps u))
+        (ap (λ (y : Words). y.pages) more.is)
         ∙ well_more pages w (marked_as w v.marks) u marks h
 
 pub may_close_now : (p : PassState) → IsWanted p → HoldsAll p.table.config (now_of p) p.seat
-    → ((pg : ℕ) → pg < p.table.config.pages → HasNoGray (still_words p) pg) → ((pg : ℕ) → pg < p.table.config.pages → slice_index (still_words p).dirty pg ≡ 0)
+    → ((pg : ℕ) → pg < p.table.config.pages → HasNoGray (still_words p) pg)
+    → ((pg : ℕ) → pg < p.table.config.pages → slice_index (still_words p).dirty pg ≡ 0)
     → RootsPointWell p.table.config.pages (still_words p) → IsEnabledTo p step.Close
 may_close_now p wanted all black clean roots =
     let w : Words = (now_of p).words in
     let pages : ℕ = p.table.config.pages in
     may_step p step.Close wanted.ready all.0 refl refl all.1 (eq-eqb (phase_of w) 2 wanted.phase) refl
     (and_from (none_attends (now_of p).seats.markers && all_below pages (has_closed_page w)) (roots_point_well pages w)
-    (and_from (none_attends (now_of p).seats.markers) (all_below pages (has_closed_page w)) (none_from (now_of p).seats.markers wanted.none)
-    (all_below_from pages (has_closed_page w) (λ pg lt. and_from _ (slice_index w.dirty pg == 0) (eq-eqb _ 0 (black pg lt)) (eq-eqb (slice_index w.dirty pg) 0 (clean pg lt)))))
+    (and_from (none_attends (now_of p).seats.markers) (all_below pages (has_closed_page w))
+    (none_from (now_of p).seats.markers wanted.none)
+    (all_below_from pages (has_closed_page w) (λ pg lt. and_from _ (slice_index w.dirty pg == 0)
+    (eq-eqb _ 0 (black pg lt)) (eq-eqb (slice_index w.dirty pg) 0 (clean pg lt)))))
     (and_from (list_all (points_well pages w) w.registers) (list_all (points_well pages w) w.globals)
-    (all_from (points_well pages w) w.registers roots.registers) (all_from (points_well pages w) w.globals roots.globals)))
+    (all_from (points_well pages w) w.registers roots.registers)
+    (all_from (points_well pages w) w.globals roots.globals)))
 
-pub marks_closed_now : (p : PassState) → IsHistory p.table.config p.seen → IsEnabledTo p step.Close → MarksAreClosed p.table.config (world_of p)
+pub marks_closed_now : (p : PassState) → IsHistory p.table.config p.seen → IsEnabledTo p step.Close
+    → MarksAreClosed p.table.config (world_of p)
 unfolding AreEnabledFrom
 marks_closed_now p history on =
     let c : Config = p.table.config in

@@ -26,10 +26,12 @@ use Rattle.mk_tracing.specs.Grays.{IsReached}
 use Rattle.mk_tracing.specs.Stops.{IsWanted, still_words, hand_of}
 use Rattle.mk_tracing.proofs.Steps.{may_step}
 
-look_gates : (c : Config) (w : Words) (seat : Seat) (f : Flight) (x : Word) → others_are_held c.callers w seat ≡ true → is_word c x ≡ true
+look_gates : (c : Config) (w : Words) (seat : Seat) (f : Flight) (x : Word) → others_are_held c.callers w seat ≡ true
+    → is_word c x ≡ true
     → has_gates c w seat f (step.Look x) ≡ true
 look_gates c w seat f (word.Reg j r) all is =
-    all_below-at c.callers j (λ k. is_number_of seat k || is_held w k) all (ltb-true j c.callers (and_parts (nat_lt j c.callers) (nat_lt r 8) is).0)
+    all_below-at c.callers j (λ k. is_number_of seat k || is_held w k) all
+    (ltb-true j c.callers (and_parts (nat_lt j c.callers) (nat_lt r 8) is).0)
 look_gates c w seat f _ all is = refl
 
 -- no marker attends, by the test
@@ -44,18 +46,23 @@ or_second true b e = refl
 or_second false b e = e
 
 -- the hand's cell, by its one bit
-pub marks_by : (pages : ℕ) (w : Words) (hand : Option Hand) (u : ℕ) (cell : Cell) (h : Hand) → hand ≡ Some h → h.value ≡ u → pointed_cell pages w.pages u ≡ Some cell
+pub marks_by : (pages : ℕ) (w : Words) (hand : Option Hand) (u : ℕ) (cell : Cell) (h : Hand) → hand ≡ Some h
+    → h.value ≡ u → pointed_cell pages w.pages u ≡ Some cell
     → marks_by_hand pages w hand cell.page (2 ^ cell.index) ≡ true
 marks_by pages w hand u cell h is value points =
     ap (λ (o : Option Hand). marks_by_hand pages w o cell.page (2 ^ cell.index)) is
     ∙ ap (λ v. is_bit_of (pointed_cell pages w.pages v) cell.page (2 ^ cell.index)) value
     ∙ ap (λ (o : Option Cell). is_bit_of o cell.page (2 ^ cell.index)) points
-    ∙ and_from (cell.page == cell.page) (2 ^ cell.index == 2 ^ cell.index) (eq-eqb cell.page cell.page refl) (eq-eqb (2 ^ cell.index) (2 ^ cell.index) refl)
+    ∙ and_from (cell.page == cell.page) (2 ^ cell.index == 2 ^ cell.index) (eq-eqb cell.page cell.page refl)
+    (eq-eqb (2 ^ cell.index) (2 ^ cell.index) refl)
 
-marks_reached : (p : PassState) (cell : Cell) → IsReached p cell → marks_by_hand p.table.config.pages (now_of p).words (hand_of p) cell.page (2 ^ cell.index) ≡ true
-marks_reached p cell r = marks_by p.table.config.pages (now_of p).words (hand_of p) r.value cell r.in_hand.hand r.in_hand.is r.in_hand.value r.points
+marks_reached : (p : PassState) (cell : Cell) → IsReached p cell
+    → marks_by_hand p.table.config.pages (now_of p).words (hand_of p) cell.page (2 ^ cell.index) ≡ true
+marks_reached p cell r = marks_by p.table.config.pages (now_of p).words
+    (hand_of p) r.value cell r.in_hand.hand r.in_hand.is r.in_hand.value r.points
 
-turns_now : (p : PassState) (cell : Cell) → may_turn_black p.table.config.pages (still_words p) cell ≡ true → may_turn_black p.table.config.pages (now_of p).words cell ≡ true
+turns_now : (p : PassState) (cell : Cell) → may_turn_black p.table.config.pages (still_words p) cell ≡ true
+    → may_turn_black p.table.config.pages (now_of p).words cell ≡ true
 unfolding may_turn_black
 turns_now p cell h = h
 
@@ -64,35 +71,49 @@ module _ (p : PassState) (wanted : IsWanted p) (all : HoldsAll p.table.config (n
   phase_two = eq-eqb (phase_of (now_of p).words) 2 wanted.phase
 
   pub may_look : (x : Word) → is_word p.table.config x ≡ true → IsEnabledTo p (step.Look x)
-  may_look x is = may_step p (step.Look x) wanted.ready all.0 refl is (look_gates p.table.config (now_of p).words p.seat (call_of p) x all.1 is) refl refl refl
+  may_look x is = may_step p (step.Look x) wanted.ready all.0 refl is
+      (look_gates p.table.config (now_of p).words p.seat (call_of p) x all.1 is) refl refl refl
 
-  pub may_mark_cell : (cell : Cell) → IsReached p cell → cell.page < p.table.config.pages → IsEnabledTo p (step.Mark cell.page (2 ^ cell.index))
+  pub may_mark_cell : (cell : Cell) → IsReached p cell → cell.page < p.table.config.pages
+      → IsEnabledTo p (step.Mark cell.page (2 ^ cell.index))
   may_mark_cell cell reached lt =
-      may_step p (step.Mark cell.page (2 ^ cell.index)) wanted.ready all.0 refl (lt-ltb cell.page p.table.config.pages lt) refl
+      may_step p (step.Mark cell.page (2 ^ cell.index)) wanted.ready all.0 refl
+      (lt-ltb cell.page p.table.config.pages lt) refl
       (or_second (phase_of (now_of p).words == 1) (phase_of (now_of p).words == 2) phase_two) refl
-      (or_first (marks_by_hand p.table.config.pages (now_of p).words (hand_of p) cell.page (2 ^ cell.index)) _ (marks_reached p cell reached))
+      (or_first (marks_by_hand p.table.config.pages (now_of p).words (hand_of p) cell.page (2 ^ cell.index)) _
+      (marks_reached p cell reached))
 
-  pub may_black_cell : (cell : Cell) → cell.page < p.table.config.pages → cell.index < 32 → may_turn_black p.table.config.pages (still_words p) cell ≡ true
+  pub may_black_cell : (cell : Cell) → cell.page < p.table.config.pages → cell.index < 32
+      → may_turn_black p.table.config.pages (still_words p) cell ≡ true
       → IsEnabledTo p (step.Black cell.page (2 ^ cell.index))
   may_black_cell cell lt small turns =
-      may_step p (step.Black cell.page (2 ^ cell.index)) wanted.ready all.0 refl (lt-ltb cell.page p.table.config.pages lt) all.1 phase_two refl
-      (and_from (none_attends (now_of p).seats.markers) (not (all_below 32 (λ k. not (blackens p.table.config.pages (now_of p).words cell.page (2 ^ cell.index) k))))
+      may_step p (step.Black cell.page (2 ^ cell.index)) wanted.ready all.0 refl
+      (lt-ltb cell.page p.table.config.pages lt) all.1 phase_two refl
+      (and_from (none_attends (now_of p).seats.markers) (not (all_below 32
+      (λ k. not (blackens p.table.config.pages (now_of p).words cell.page (2 ^ cell.index) k))))
       (none_by_test (now_of p) wanted.none)
-      (ap not (all_below_not_is 32 cell.index (λ k. not (blackens p.table.config.pages (now_of p).words cell.page (2 ^ cell.index) k)) small
-      (ap not (and_from (2 ^ cell.index == 2 ^ cell.index) (may_turn_black p.table.config.pages (now_of p).words cell) (eq-eqb (2 ^ cell.index) (2 ^ cell.index) refl) (turns_now p cell turns))))))
+      (ap not (all_below_not_is 32 cell.index (λ k. not (blackens p.table.config.pages (now_of p).words cell.page
+      (2 ^ cell.index) k)) small
+      (ap not (and_from (2 ^ cell.index == 2 ^ cell.index) (may_turn_black p.table.config.pages (now_of p).words cell)
+      (eq-eqb (2 ^ cell.index) (2 ^ cell.index) refl) (turns_now p cell turns))))))
 
   pub may_unblack_page : (page : ℕ) → page < p.table.config.pages → IsEnabledTo p (step.Unblack page)
   may_unblack_page page lt =
       may_step p (step.Unblack page) wanted.ready all.0 refl (lt-ltb page p.table.config.pages lt)
-      (or_second (not (is_phase (now_of p).words 2)) _ all.1) (or_second (phase_of (now_of p).words == 0) (phase_of (now_of p).words == 2) phase_two) refl
-      (or_second (not (is_phase (now_of p).words 2)) (none_attends (now_of p).seats.markers) (none_by_test (now_of p) wanted.none))
+      (or_second (not (is_phase (now_of p).words 2)) _ all.1)
+      (or_second (phase_of (now_of p).words == 0) (phase_of (now_of p).words == 2) phase_two) refl
+      (or_second (not (is_phase (now_of p).words 2)) (none_attends (now_of p).seats.markers)
+      (none_by_test (now_of p) wanted.none))
 
   pub may_undirty_page : (page : ℕ) → page < p.table.config.pages → slice_index (still_words p).blacks page ≡ 0
       → slice_index (still_words p).blacks (head_page (still_words p) page) ≡ 0 → IsEnabledTo p (step.Undirty page)
   may_undirty_page page lt own head =
       may_step p (step.Undirty page) wanted.ready all.0 refl (lt-ltb page p.table.config.pages lt)
-      (or_second (not (is_phase (now_of p).words 2)) _ all.1) (or_second (phase_of (now_of p).words == 0) (phase_of (now_of p).words == 2) phase_two) refl
+      (or_second (not (is_phase (now_of p).words 2)) _ all.1)
+      (or_second (phase_of (now_of p).words == 0) (phase_of (now_of p).words == 2) phase_two) refl
       (or_second (not (is_phase (now_of p).words 2)) _
-      (and_from (none_attends (now_of p).seats.markers && (slice_index (now_of p).words.blacks page == 0)) (slice_index (now_of p).words.blacks (head_page (now_of p).words page) == 0)
-      (and_from (none_attends (now_of p).seats.markers) (slice_index (now_of p).words.blacks page == 0) (none_by_test (now_of p) wanted.none) (eq-eqb _ 0 own))
+      (and_from (none_attends (now_of p).seats.markers && (slice_index (now_of p).words.blacks page == 0))
+      (slice_index (now_of p).words.blacks (head_page (now_of p).words page) == 0)
+      (and_from (none_attends (now_of p).seats.markers) (slice_index (now_of p).words.blacks page == 0)
+      (none_by_test (now_of p) wanted.none) (eq-eqb _ 0 own))
       (eq-eqb _ 0 head)))

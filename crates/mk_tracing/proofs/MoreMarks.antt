@@ -32,15 +32,21 @@ more_then u v w one two =
       grow = λ p k h. two.grow p k (one.grow p k h);
     }
 
-pub more_marked : (w v : Words) (page value : ℕ) → v ≡ marked_as w (slice_set w.marks page (bit_or (slice_index w.marks page) value)) → MarksMore w v
+pub more_marked : (w v : Words) (page value : ℕ)
+    → v ≡ marked_as w (slice_set w.marks page (bit_or (slice_index w.marks page) value)) → MarksMore w v
 more_marked w v page value e =
-    subst (λ (x : Words). MarksMore w x) (sym e) (record { is = refl; grow = λ p k h. bits_stay w.marks page value p k h })
+    subst (λ (x : Words). MarksMore w x) (sym e) (record {
+      is = refl;
+      grow = λ p k h. bits_stay w.marks page value p k h;
+    })
 
-none_or_on : (o : Option Cell) (w v : Words) → ((x : Cell) → is_marked w x ≡ true → is_marked v x ≡ true) → is_none_or (is_marked w) o ≡ true → is_none_or (is_marked v) o ≡ true
+none_or_on : (o : Option Cell) (w v : Words) → ((x : Cell) → is_marked w x ≡ true → is_marked v x ≡ true)
+    → is_none_or (is_marked w) o ≡ true → is_none_or (is_marked v) o ≡ true
 none_or_on None w v f h = refl
 none_or_on (Some x) w v f h = f x h
 
-pub well_more : (pages : ℕ) (w v : Words) (u : ℕ) → MarksMore w v → points_well pages w u ≡ true → points_well pages v u ≡ true
+pub well_more : (pages : ℕ) (w v : Words) (u : ℕ) → MarksMore w v → points_well pages w u ≡ true
+    → points_well pages v u ≡ true
 well_more pages w v u more h =
     ap (λ (ps : List Page). is_none_or (is_marked v) (pointed_cell pages ps u)) (ap (λ (x : Words). x.pages) more.is)
     ∙ none_or_on (pointed_cell pages w.pages u) w v (λ x m. more.grow x.page x.index m) h
@@ -49,20 +55,27 @@ well_more pages w v u more h =
 pub well_none : (pages : ℕ) (w : Words) (u : ℕ) → pointed_cell pages w.pages u ≡ None → points_well pages w u ≡ true
 well_none pages w u e = ap (λ (o : Option Cell). is_none_or (is_marked w) o) e
 
-pub well_some : (pages : ℕ) (w : Words) (u : ℕ) (cell : Cell) → pointed_cell pages w.pages u ≡ Some cell → is_marked w cell ≡ true → points_well pages w u ≡ true
+pub well_some : (pages : ℕ) (w : Words) (u : ℕ) (cell : Cell) → pointed_cell pages w.pages u ≡ Some cell
+    → is_marked w cell ≡ true → points_well pages w u ≡ true
 well_some pages w u cell e marked = ap (λ (o : Option Cell). is_none_or (is_marked w) o) e ∙ marked
 
 -- the marked cell is marked
 pub marked_now : (w v : Words) (cell : Cell) → cell.page < length w.marks → cell.index < 64
-    → v ≡ marked_as w (slice_set w.marks cell.page (bit_or (slice_index w.marks cell.page) (2 ^ cell.index))) → is_marked v cell ≡ true
+    → v ≡ marked_as w (slice_set w.marks cell.page (bit_or (slice_index w.marks cell.page) (2 ^ cell.index)))
+    → is_marked v cell ≡ true
 marked_now w v cell lt small e =
     ap (λ (x : Words). is_marked x cell) e
-    ∙ bits_added w.marks cell.page (2 ^ cell.index) cell.index lt (subst (λ n. has_bit n cell.index ≡ true) (bit_for_small cell.index small) (bit_for_has cell.index small))
+    ∙ bits_added w.marks cell.page (2 ^ cell.index) cell.index lt
+    (subst (λ n. has_bit n cell.index ≡ true) (bit_for_small cell.index small) (bit_for_has cell.index small))
 
 -- what lies outside the heap points into nothing
-pub outside_none : (pages : ℕ) (ps : List Page) (u : ℕ) → (u < 65536) ⊎ (pages ≤ (u - 65536) / 512) → pointed_cell pages ps u ≡ None
+pub outside_none : (pages : ℕ) (ps : List Page) (u : ℕ) → (u < 65536) ⊎ (pages ≤ (u - 65536) / 512)
+    → pointed_cell pages ps u ≡ None
 unfolding pointed_cell
-outside_none pages ps u out = ap (λ (b : Bool). if b then option_and_then (λ h. cell_under h (page_at_address u) (word_at_address u)) (header_of (slice_index_or ps (page_at_address u) free_page).header) else None) (false_from_ne_true (is_heap_address pages u) (λ h.
+outside_none pages ps u out = ap (λ (b : Bool). if b then option_and_then
+    (λ h. cell_under h (page_at_address u) (word_at_address u))
+    (header_of (slice_index_or ps (page_at_address u) free_page).header) else None)
+    (false_from_ne_true (is_heap_address pages u) (λ h.
     let parts = and_parts (nat_le 65536 u) (nat_lt u (65536 + 512 * pages)) h in
     let low = leb-true 65536 u parts.0 in
     let high = ltb-true u (65536 + 512 * pages) parts.1 in
@@ -81,7 +94,8 @@ some_not_zero pages ps u cell is z =
     let bad : None ≡ Some cell = sym (zero_none pages ps) ∙ ap (λ n. pointed_cell pages ps n) (sym z) ∙ is in cc
 
 -- A lookup by the header that is there finds the cell.
-pub found_by_header : (pages : ℕ) (w : Words) (u : ℕ) → cell_at pages (header_at w (page_at_address u)) u ≡ pointed_cell pages w.pages u
+pub found_by_header : (pages : ℕ) (w : Words) (u : ℕ)
+    → cell_at pages (header_at w (page_at_address u)) u ≡ pointed_cell pages w.pages u
 unfolding pointed_cell
 found_by_header pages w u = refl
 
@@ -93,10 +107,12 @@ pub marks_length : (p : PassState) → length (still_words p).marks ≡ p.table.
 marks_length p = (histories_keep_lengths p.table.config p.seen).marks
 
 -- A value is marked by the hand, through looks that leave it and the words.
-module _ (pages u : ℕ) (cell : Cell) (w v x : Words) (e : v ≡ w) (points : pointed_cell pages w.pages u ≡ Some cell) (few : pages ≡ length w.marks)
+module _ (pages u : ℕ) (cell : Cell) (w v x : Words) (e : v ≡ w) (points : pointed_cell pages w.pages u ≡ Some cell)
+    (few : pages ≡ length w.marks)
     (is : x ≡ marked_as v (slice_set v.marks cell.page (bit_or (slice_index v.marks cell.page) (2 ^ cell.index)))) where
   is_from : x ≡ marked_as w (slice_set w.marks cell.page (bit_or (slice_index w.marks cell.page) (2 ^ cell.index)))
-  is_from = is ∙ ap (λ (y : Words). marked_as y (slice_set y.marks cell.page (bit_or (slice_index y.marks cell.page) (2 ^ cell.index)))) e
+  is_from = is ∙ ap (λ (y : Words). marked_as y (slice_set y.marks cell.page
+      (bit_or (slice_index y.marks cell.page) (2 ^ cell.index)))) e
 
   pub then_more : MarksMore w x
   then_more = more_marked w x cell.page (2 ^ cell.index) is_from

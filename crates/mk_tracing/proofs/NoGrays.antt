@@ -17,11 +17,13 @@ use Rattle.mk_tracing.specs.Grays.{HasNoGray}
 no_gray_bits : (marks blacks n : ℕ) → ((k : ℕ) → k < n → has_bit marks k ≡ true → has_bit blacks k ≡ true)
     → without (bit_and marks (2 ^ n - 1)) blacks ≡ 0
 no_gray_bits marks blacks n none =
-    zero_from_bits (without (bit_and marks (2 ^ n - 1)) blacks) (λ k. has_bit_without (bit_and marks (2 ^ n - 1)) blacks k ∙ by k (has_bit (bit_and marks (2 ^ n - 1)) k) refl)
+    zero_from_bits (without (bit_and marks (2 ^ n - 1)) blacks)
+    (λ k. has_bit_without (bit_and marks (2 ^ n - 1)) blacks k ∙ by k (has_bit (bit_and marks (2 ^ n - 1)) k) refl)
   where
     both : (k : ℕ) → has_bit (bit_and marks (2 ^ n - 1)) k ≡ true → (bit_at marks k ≡ 1) × (bit_at (2 ^ n - 1) k ≡ 1)
     both k h =
-        let one : min (bit_at marks k) (bit_at (2 ^ n - 1) k) ≡ 1 = sym (bit_at_and marks (2 ^ n - 1) k) ∙ bit_is_one (bit_and marks (2 ^ n - 1)) k h in
+        let one : min (bit_at marks k) (bit_at (2 ^ n - 1) k) ≡ 1 = sym (bit_at_and marks (2 ^ n - 1) k) ∙ bit_is_one
+        (bit_and marks (2 ^ n - 1)) k h in
         let lt = bit_at-lt marks k in
         let less = bit_at-lt (2 ^ n - 1) k in
         (omega arith, omega arith)
@@ -39,12 +41,15 @@ no_gray_bits marks blacks n none =
     by k false is = refl
     by k true is = let h = both k is in ap not (none k (below k h.1) (eq-eqb (bit_at marks k) 1 h.0))
 
-pub no_gray : (w : Words) (p : ℕ) → ((k : ℕ) → k < cells_under (header_in w p) → has_bit (slice_index w.marks p) k ≡ true → has_bit (slice_index w.blacks p) k ≡ true)
+pub no_gray : (w : Words) (p : ℕ)
+    → ((k : ℕ) → k < cells_under (header_in w p) → has_bit (slice_index w.marks p) k ≡ true
+    → has_bit (slice_index w.blacks p) k ≡ true)
     → HasNoGray w p
 no_gray w p none = no_gray_bits (slice_index w.marks p) (slice_index w.blacks p) (cells_under (header_in w p)) none
 
 -- the words as they were found
-pub no_gray_found : (w : Words) (p header marks blacks : ℕ) → header ≡ header_at w p → marks ≡ slice_index w.marks p → blacks ≡ slice_index w.blacks p
+pub no_gray_found : (w : Words) (p header marks blacks : ℕ) → header ≡ header_at w p → marks ≡ slice_index w.marks p
+    → blacks ≡ slice_index w.blacks p
     → ((k : ℕ) → k < cells_under (header_of header) → has_bit marks k ≡ true → has_bit blacks k ≡ true) → HasNoGray w p
 no_gray_found w p header marks blacks h m b none =
     no_gray w p (λ k lt is.

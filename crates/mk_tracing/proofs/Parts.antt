@@ -30,7 +30,8 @@ keep_in_parts rule c s w [] ys one two = two
 keep_in_parts rule c s w (e ∷ es) ys one two = (one.0, keep_in_parts rule c s (world_behind c w e) es ys one.1 two)
 
 -- events of others keep to it, since none is the seat's own
-others_keep : (rule : Config → Moment → Step → Type 0) (c : Config) (s : Seat) (seats : List Seat) (w : World) (xs : List Event)
+others_keep : (rule : Config → Moment → Step
+    → Type 0) (c : Config) (s : Seat) (seats : List Seat) (w : World) (xs : List Event)
     → Has seats s → AreOfOthers seats xs → OwnStepsKeep rule c s w xs
 unfolding OwnStepsKeep AreOfOthers
 others_keep rule c s seats w [] has others = tt
@@ -66,11 +67,13 @@ nothing_own : (s : Seat) (seats : List Seat) → AreOwnOrOfOthers s seats []
 unfolding AreOwnOrOfOthers
 nothing_own s seats = tt
 
-nothing_keeps : (rule : Config → Moment → Step → Type 0) (c : Config) (s : Seat) (w : World) → OwnStepsKeep rule c s w []
+nothing_keeps : (rule : Config → Moment → Step → Type 0) (c : Config) (s : Seat) (w : World)
+    → OwnStepsKeep rule c s w []
 unfolding OwnStepsKeep
 nothing_keeps rule c s w = tt
 
-pub traces_nothing : (kinds : Step → Bool) (rule : Config → Moment → Step → Type 0) (p : PassState) → Traces kinds rule p p
+pub traces_nothing : (kinds : Step → Bool) (rule : Config → Moment → Step → Type 0) (p : PassState)
+    → Traces kinds rule p p
 traces_nothing kinds rule p =
     record {
       does = record {
@@ -86,13 +89,16 @@ traces_nothing kinds rule p =
 
 -- One part is traced behind another, and what is done of a kind adds up.
 
-counts_then : (c : Config) (es fs gs : List Event) → CountsAreLeft c es fs → CountsAreLeft c fs gs → CountsAreLeft c es gs
+counts_then : (c : Config) (es fs gs : List Event) → CountsAreLeft c es fs → CountsAreLeft c fs gs
+    → CountsAreLeft c es gs
 counts_then c es fs gs one two = record { ends = two.ends ∙ one.ends; fulls = two.fulls ∙ one.fulls }
 
-count_in_parts : (test : Finding → Bool) (xs ys : List Finding) → count_by test (xs ++ ys) ≡ count_by test xs + count_by test ys
+count_in_parts : (test : Finding → Bool) (xs ys : List Finding)
+    → count_by test (xs ++ ys) ≡ count_by test xs + count_by test ys
 count_in_parts test xs ys = sum_by-append (λ (x : Finding). cond (test x) 1 0) xs ys
 
-count_first : (test : Finding → Bool) (x : Finding) (xs : List Finding) → test x ≡ false → count_by test (x ∷ xs) ≡ count_by test xs
+count_first : (test : Finding → Bool) (x : Finding) (xs : List Finding) → test x ≡ false
+    → count_by test (x ∷ xs) ≡ count_by test xs
 count_first test x xs unlike =
     let one : count_by test (x ∷ []) ≡ 0 = ap (λ (b : Bool). 0 + cond b 1 0) unlike in
     let both : count_by test (x ∷ xs) ≡ count_by test (x ∷ []) + count_by test xs = count_in_parts test (x ∷ []) xs in
@@ -101,9 +107,11 @@ count_first test x xs unlike =
 module _ (kinds : Step → Bool) (rule : Config → Moment → Step → Type 0) (kind : Step → Bool) where
   then_at : (p : PassState) (xs : List Event) → AreOwnOrOfOthers p.seat p.seats xs → are_of kinds (done_in p xs) ≡ true
       → OwnStepsKeep rule p.table.config p.seat (world_of p) xs
-      → untouched_of (left p.table.config (p.seen ++ xs)) ≡ untouched_of (world_of p) → CountsAreLeft p.table.config p.seen (p.seen ++ xs)
+      → untouched_of (left p.table.config (p.seen ++ xs)) ≡ untouched_of (world_of p)
+      → CountsAreLeft p.table.config p.seen (p.seen ++ xs)
       → (n m : ℕ) → count_by (λ (x : Finding). kind x.event.step) (done_in p xs) ≡ n
-      → (r : PassState) → Counted kinds rule kind (record p { seen = p.seen ++ xs }) r m → Counted kinds rule kind p r (n + m)
+      → (r : PassState) → Counted kinds rule kind (record p { seen = p.seen ++ xs }) r m
+      → Counted kinds rule kind p r (n + m)
   then_at p xs own of_kinds keeps untouched counts n m before r on =
       let d = on.traces.does in
       let test : Finding → Bool = λ (x : Finding). kind x.event.step in
@@ -115,21 +123,25 @@ module _ (kinds : Step → Bool) (rule : Config → Moment → Step → Type 0) 
             own_or_others = own_or_others_in_parts p.seat p.seats xs d.more own d.own_or_others;
             of_kinds =
                 ap (λ (zs : List Finding). are_of kinds zs) (done_in_parts p xs d.more)
-                ∙ of_kinds_in_parts kinds (done_in p xs) (done_in (record p { seen = p.seen ++ xs }) d.more) of_kinds d.of_kinds;
+                ∙ of_kinds_in_parts kinds (done_in p xs) (done_in (record p { seen = p.seen ++ xs }) d.more) of_kinds
+                d.of_kinds;
           };
           keeps =
               keep_in_parts rule p.table.config p.seat (world_of p) xs d.more keeps
-              (subst (λ (w : World). OwnStepsKeep rule p.table.config p.seat w d.more) (left_in_parts p.table.config p.seen xs) on.traces.keeps);
+              (subst (λ (w : World). OwnStepsKeep rule p.table.config p.seat w d.more)
+              (left_in_parts p.table.config p.seen xs) on.traces.keeps);
           untouched = on.traces.untouched ∙ untouched;
           counts = counts_then p.table.config p.seen (p.seen ++ xs) r.seen counts on.traces.counts;
         };
         count =
             ap (λ (zs : List Finding). count_by test zs) (done_in_parts p xs d.more)
             ∙ count_in_parts test (done_in p xs) (done_in (record p { seen = p.seen ++ xs }) d.more)
-            ∙ ap (λ k. k + count_by test (done_in (record p { seen = p.seen ++ xs }) d.more)) before ∙ ap (λ k. n + k) on.count;
+            ∙ ap (λ k. k + count_by test (done_in (record p { seen = p.seen ++ xs }) d.more)) before ∙ ap
+            (λ k. n + k) on.count;
       }
 
-  pub counted_then : (p q r : PassState) (n m : ℕ) → Counted kinds rule kind p q n → Counted kinds rule kind q r m → Counted kinds rule kind p r (n + m)
+  pub counted_then : (p q r : PassState) (n m : ℕ) → Counted kinds rule kind p q n → Counted kinds rule kind q r m
+      → Counted kinds rule kind p r (n + m)
   counted_then p q r n m one two =
       let t = one.traces in
       let d = t.does in
@@ -158,7 +170,8 @@ none_counted : (kinds kind : Step → Bool) (xs : List Finding) → ((s : Step) 
 none_counted kinds kind [] none h = refl
 none_counted kinds kind (x ∷ xs) none h =
     let parts = and_parts (kinds x.event.step) (are_of kinds xs) h in
-    count_first (λ (y : Finding). kind y.event.step) x xs (none x.event.step parts.0) ∙ none_counted kinds kind xs none parts.1
+    count_first (λ (y : Finding). kind y.event.step) x xs (none x.event.step parts.0)
+    ∙ none_counted kinds kind xs none parts.1
 
 pub traces_wider : (kinds more kind : Step → Bool) (rule : Config → Moment → Step → Type 0) (p q : PassState)
     → ((s : Step) → kinds s ≡ true → more s ≡ true) → ((s : Step) → kinds s ≡ true → kind s ≡ false)
@@ -181,8 +194,11 @@ traces_wider kinds more kind rule p q wider none t =
     }
 
 -- One step is made.
-module _ (kinds : Step → Bool) (rule : Config → Moment → Step → Type 0) (kind : Step → Bool) (p q : PassState) (s : Step) (m : Makes p s q) where
-  pub done_by_one : Has p.seats p.seat → done_in p (m.others ++ event_of p s ∷ []) ≡ record { event = event_of p s; found = found p.table.config (world_at m).now (event_of p s) } ∷ []
+module _ (kinds : Step → Bool) (rule : Config → Moment → Step → Type 0) (kind : Step → Bool) (p q : PassState)
+    (s : Step) (m : Makes p s q) where
+  pub done_by_one : Has p.seats p.seat
+      → done_in p (m.others ++ event_of p s ∷ [])
+      ≡ record { event = event_of p s; found = found p.table.config (world_at m).now (event_of p s) } ∷ []
   done_by_one has =
       done_in_parts p m.others (event_of p s ∷ [])
       ∙ ap (λ (zs : List Finding). zs ++ done_in (record p { seen = p.seen ++ m.others }) (event_of p s ∷ []))
@@ -202,13 +218,15 @@ module _ (kinds : Step → Bool) (rule : Config → Moment → Step → Type 0) 
             own_or_others =
                 own_or_others_in_parts p.seat p.seats m.others (e ∷ [])
                 (others_are_so p.seats p.seat m.others has m.of_others) (itself p.seat p.seats e refl has);
-            of_kinds = ap (λ (zs : List Finding). are_of kinds zs) (done_by_one has) ∙ and_from (kinds s) true allowed refl;
+            of_kinds = ap (λ (zs : List Finding). are_of kinds zs) (done_by_one has) ∙ and_from
+                (kinds s) true allowed refl;
           };
           keeps =
               keep_in_parts rule p.table.config p.seat (world_of p) m.others (e ∷ [])
               (others_keep rule p.table.config p.seat p.seats (world_of p) m.others has m.of_others)
               (one_keeps rule p.table.config p.seat (left_from p.table.config (world_of p) m.others) e
-              (subst (λ (w : World). rule p.table.config w.now s) (left_in_parts p.table.config p.seen m.others) ruled));
+              (subst (λ (w : World). rule p.table.config w.now s)
+              (left_in_parts p.table.config p.seen m.others) ruled));
           untouched = untouched;
           counts = counts;
         };
@@ -217,8 +235,10 @@ module _ (kinds : Step → Bool) (rule : Config → Moment → Step → Type 0) 
 
 -- The table, the seat and its seats stay.
 
-pub traces_table : (kinds : Step → Bool) (rule : Config → Moment → Step → Type 0) (p q : PassState) → Traces kinds rule p q → q.table ≡ p.table
+pub traces_table : (kinds : Step → Bool) (rule : Config → Moment → Step → Type 0) (p q : PassState)
+    → Traces kinds rule p q → q.table ≡ p.table
 traces_table kinds rule p q t = ap (λ (x : PassState). x.table) t.does.is
 
-pub traces_seat : (kinds : Step → Bool) (rule : Config → Moment → Step → Type 0) (p q : PassState) → Traces kinds rule p q → q.seat ≡ p.seat
+pub traces_seat : (kinds : Step → Bool) (rule : Config → Moment → Step → Type 0) (p q : PassState)
+    → Traces kinds rule p q → q.seat ≡ p.seat
 traces_seat kinds rule p q t = ap (λ (x : PassState). x.seat) t.does.is

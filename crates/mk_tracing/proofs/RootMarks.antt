@@ -25,7 +25,8 @@ use Rattle.mk_tracing.specs.Stops.{is_root}
 use Rattle.mk_tracing.proofs.MoreMarks.{well_more, well_none, zero_none, marked_as}
 
 -- Each value below one points well, and so does the next.
-pub values_then : (pages : ℕ) (v x : Words) (value : ℕ → ℕ) (i : ℕ) → MarksMore v x → ((k : ℕ) → k < i → points_well pages v (value k) ≡ true)
+pub values_then : (pages : ℕ) (v x : Words) (value : ℕ → ℕ) (i : ℕ) → MarksMore v x
+    → ((k : ℕ) → k < i → points_well pages v (value k) ≡ true)
     → points_well pages x (value i) ≡ true → (k : ℕ) → k < i + 1 → points_well pages x (value k) ≡ true
 values_then pages v x value i more before here k lt = elim (cases_lt k i) [
   | inl below ↦ well_more pages v x (value k) more (before k below)
@@ -42,18 +43,22 @@ root_kept w v x root more = ap (λ (y : Words). named_word y x) more.is ∙ by x
     by _ h = cc
 
 -- A register behind those of the callers is 0.
-pub register_past : (c : Config) (es : List Event) (i : ℕ) → IsHistory c es → 8 * c.callers ≤ i → slice_index (left c es).now.words.registers i ≡ 0
+pub register_past : (c : Config) (es : List Event) (i : ℕ) → IsHistory c es → 8 * c.callers ≤ i
+    → slice_index (left c es).now.words.registers i ≡ 0
 register_past c es i h past =
     let all = histories_keep_the_invariant c es h in
     let count = (lists_keep_the_protocol c es h.within_limits h.enabled).callers in
     let some = all.mirrors.register_count in
-    let idle : flight_among (left c es).now.seats.flights (i / 8) ≡ at_rest = get_or_past (left c es).now.seats.flights (i / 8) at_rest (omega arith) in
-    let null : slice_index_or (never_behind c es).registers i Null ≡ Null = get_or_past (never_behind c es).registers i Null (omega arith) in
+    let idle : flight_among (left c es).now.seats.flights (i / 8) ≡ at_rest = get_or_past (left c es).now.seats.flights
+    (i / 8) at_rest (omega arith) in
+    let null : slice_index_or (never_behind c es).registers i Null ≡ Null = get_or_past
+    (never_behind c es).registers i Null (omega arith) in
     ap (λ (f : Flight). shown f (i % 8) (slice_index (left c es).now.words.registers i)) (sym idle)
     ∙ all.mirrors.images.registers i
     ∙ ap (λ (v : Value). image_of (bases_of (left c es).allocations) v) null
 
-pub roots_well : (p : PassState) (pages : ℕ) (w : Words) → IsHistory p.table.config p.seen → pages ≡ p.table.config.pages
+pub roots_well : (p : PassState) (pages : ℕ) (w : Words) → IsHistory p.table.config p.seen
+    → pages ≡ p.table.config.pages
     → w.registers ≡ (now_of p).words.registers → w.globals ≡ (now_of p).words.globals
     → ((k r : ℕ) → k < p.table.config.callers → r < 8 → points_well pages w (register_word (now_of p).words k r) ≡ true)
     → ((g : ℕ) → g < 64 → points_well pages w (slice_index (now_of p).words.globals g) ≡ true) → RootsPointWell pages w
@@ -70,7 +75,8 @@ roots_well p pages w h same registers globals rs gs =
     register i = elim (cases_lt i (8 * p.table.config.callers)) [
       | inl lt ↦
           let at : 8 * (i / 8) + i % 8 ≡ i = omega arith in
-          subst (λ j. points_well pages w (slice_index (now_of p).words.registers j) ≡ true) at (rs (i / 8) (i % 8) (omega arith) (omega arith))
+          subst (λ j. points_well pages w (slice_index (now_of p).words.registers j) ≡ true) at
+          (rs (i / 8) (i % 8) (omega arith) (omega arith))
       | inr past ↦ null (slice_index (now_of p).words.registers i) (register_past p.table.config p.seen i h past)
     ]
 
@@ -79,5 +85,6 @@ roots_well p pages w h same registers globals rs gs =
       | inl lt ↦ gs g lt
       | inr past ↦
           null (slice_index (now_of p).words.globals g)
-          (get_or_past (now_of p).words.globals g 0 (let long = (histories_keep_lengths p.table.config p.seen).globals in omega arith))
+          (get_or_past (now_of p).words.globals g 0 (let long =
+          (histories_keep_lengths p.table.config p.seen).globals in omega arith))
     ]

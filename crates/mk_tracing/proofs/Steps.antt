@@ -81,7 +81,8 @@ untouched_by s y h =
 pub others_leave_untouched : (p q : PassState) (s : Step) (a : Acts p s q) → HoldsAll p.table.config (now_of p) p.seat
     → untouched_of (world_at a.makes) ≡ untouched_of (world_of p)
 others_leave_untouched p q s a all =
-    ap (λ (x : Steady). untouched_by x (written_of (world_at a.makes)) (world_at a.makes).now.seats.holding) a.turn.steady
+    ap (λ (x : Steady). untouched_by x (written_of (world_at a.makes)) (world_at a.makes).now.seats.holding)
+    a.turn.steady
     ∙ ap (λ (y : Written). untouched_by (steady_of (world_of p)) y (world_at a.makes).now.seats.holding) (a.stop all)
     ∙ ap (λ (h : Holding). untouched_by (steady_of (world_of p)) (written_of (world_of p)) h) a.holding
 
@@ -102,11 +103,14 @@ host_next b (step.Take o) e h = cc
 host_next b step.Over e h = refl
 host_next b s e h = and_from b (is_of_any_holder s) e h
 
-in_order_of : (c : Config) (m : Moment) (seat : Seat) (s : Step) → Holds c m seat → is_loaded seat (flight_of m seat) ≡ true
+in_order_of : (c : Config) (m : Moment) (seat : Seat) (s : Step) → Holds c m seat
+    → is_loaded seat (flight_of m seat) ≡ true
     → is_of_any_holder s ≡ true → is_in_order c m seat s ≡ true
-in_order_of c m (Caller k) s holds loaded any = next_at (flight_of m (Caller k)).stage (flight_of m (Caller k)).op s loaded any
+in_order_of c m (Caller k) s holds loaded any = next_at (flight_of m (Caller k)).stage
+    (flight_of m (Caller k)).op s loaded any
 in_order_of c m (Marker k) s holds loaded any = absurd holds
-in_order_of c m Host s holds loaded any = host_next (host_has_turn c m) s (eq-eqb m.words.turn (1 + c.callers) holds) any
+in_order_of c m Host s holds loaded any = host_next (host_has_turn c m) s
+    (eq-eqb m.words.turn (1 + c.callers) holds) any
 
 any_turn : (s : Step) → is_of_any_holder s ≡ true → is_of_turn (group_of s) ≡ true
 any_turn (step.Take o) h = cc
@@ -119,20 +123,24 @@ exists_of c m (Caller k) holds = lt-ltb k c.callers holds.0
 exists_of c m (Marker k) holds = absurd holds
 exists_of c m Host holds = refl
 
-open_of : (c : Config) (m : Moment) (seat : Seat) (g : Group) → Holds c m seat → is_of_turn g ≡ true → is_open_to seat g ≡ true
+open_of : (c : Config) (m : Moment) (seat : Seat) (g : Group) → Holds c m seat → is_of_turn g ≡ true
+    → is_open_to seat g ≡ true
 open_of c m (Caller k) group.Turn holds h = refl
 open_of c m (Caller k) _ holds h = cc
 open_of c m (Marker k) g holds h = absurd holds
 open_of c m Host group.Turn holds h = refl
 open_of c m Host _ holds h = cc
 
-no_marker : (c : Config) (m : Moment) (seat : Seat) (s : Step) → Holds c m seat → ((x : Seat) → marker_may c outside s ≡ true) → marker_may c (marker_at m seat) s ≡ true
+no_marker : (c : Config) (m : Moment) (seat : Seat) (s : Step) → Holds c m seat
+    → ((x : Seat) → marker_may c outside s ≡ true) → marker_may c (marker_at m seat) s ≡ true
 no_marker c m (Caller k) s holds h = h (Caller k)
 no_marker c m (Marker k) s holds h = absurd holds
 no_marker c m Host s holds h = h Host
 
-pub may_step : (p : PassState) (s : Step) → IsReady p → Holds p.table.config (now_of p) p.seat → is_of_any_holder s ≡ true
-    → is_in_range p.table.config p.seat (call_of p) s ≡ true → has_gates p.table.config (now_of p).words p.seat (call_of p) s ≡ true
+pub may_step : (p : PassState) (s : Step) → IsReady p → Holds p.table.config (now_of p) p.seat
+    → is_of_any_holder s ≡ true
+    → is_in_range p.table.config p.seat (call_of p) s ≡ true
+    → has_gates p.table.config (now_of p).words p.seat (call_of p) s ≡ true
     → has_phase (phase_of (now_of p).words) s ≡ true → marker_may p.table.config outside s ≡ true
     → holder_may p.table.config (now_of p) (call_of p) s ≡ true → IsEnabledTo p s
 may_step p s ready holds any range gates phase marker own =
@@ -152,7 +160,8 @@ may_step p s ready holds any range gates phase marker own =
 flights_stay : (c : Config) (m : Moment) (seat : Seat) (n : ℕ) (s : Step)
     → ((f : Flight) → (progress c m f n s).flight ≡ f) → flights_behind c m seat n s ≡ m.seats.flights
 flights_stay c m (Caller k) n s still =
-    ap (λ (f : Flight). slice_set m.seats.flights k f) (still (flight_of m (Caller k))) ∙ set-get_or m.seats.flights k at_rest
+    ap (λ (f : Flight). slice_set m.seats.flights k f) (still (flight_of m (Caller k)))
+    ∙ set-get_or m.seats.flights k at_rest
 flights_stay c m (Marker k) n s still = refl
 flights_stay c m Host n s still = refl
 
@@ -161,22 +170,26 @@ abbrev pub is_quiet : Step → Bool
 is_quiet (step.Look (word.Quar p)) = false
 is_quiet s = is_tracing s
 
-sees_nothing : (w : Words) (cell : Option Cell) (x : Word) → is_quiet (step.Look x) ≡ true → sees_double w cell x ≡ false
+sees_nothing : (w : Words) (cell : Option Cell) (x : Word) → is_quiet (step.Look x) ≡ true
+    → sees_double w cell x ≡ false
 sees_nothing w cell (word.Quar p) h = cc
 sees_nothing w cell _ h = refl
 
-look_still : (c : Config) (m : Moment) (x : Word) (n : ℕ) → is_quiet (step.Look x) ≡ true → (f : Flight) → (progress c m f n (step.Look x)).flight ≡ f
+look_still : (c : Config) (m : Moment) (x : Word) (n : ℕ) → is_quiet (step.Look x) ≡ true → (f : Flight)
+    → (progress c m f n (step.Look x)).flight ≡ f
 look_still c m x n h f =
     let at : Bool → Progress = λ (b : Bool). if b then decided f answer.Double else still f in
     ap (λ (b : Bool). (at b).flight) (sees_nothing m.words (target c.pages m.words f) x h)
 
 -- no place gets marks in the stop
-no_place_marked : (w : Words) (o : Object) (place : Option Place) (page value : ℕ) → is_phase w 1 ≡ false → marks_place w o place page value ≡ false
+no_place_marked : (w : Words) (o : Object) (place : Option Place) (page value : ℕ) → is_phase w 1 ≡ false
+    → marks_place w o place page value ≡ false
 no_place_marked w o None page value h = refl
 no_place_marked w o (Some x) page value h =
     ap (λ (b : Bool). b && (page == x.page) && (header_at w page == 0) && (value == bits_made o)) h
 
-with_flights : (w : World) (fs : List Flight) → fs ≡ w.now.seats.flights → record (untouched_of w) { flights = fs } ≡ untouched_of w
+with_flights : (w : World) (fs : List Flight) → fs ≡ w.now.seats.flights
+    → record (untouched_of w) { flights = fs } ≡ untouched_of w
 with_flights w fs e = ap (λ (gs : List Flight). record (untouched_of w) { flights = gs }) e
 
 -- a mark while no place is being marked
@@ -188,11 +201,13 @@ untouched_behind : (c : Config) (w : World) (seat : Seat) (s : Step) → is_quie
     → untouched_of (world_behind c w (record { seat = seat; step = s })) ≡ untouched_of w
 untouched_behind c w seat (step.Look (word.Quar p)) h late = cc
 untouched_behind c w seat (step.Look x) h late =
-    with_flights w (flights_behind c w.now seat (found c w.now (record { seat = seat; step = step.Look x })) (step.Look x))
+    with_flights w (flights_behind c w.now seat (found c w.now (record { seat = seat; step = step.Look x }))
+    (step.Look x))
     (flights_stay c w.now seat (found c w.now (record { seat = seat; step = step.Look x })) (step.Look x)
     (look_still c w.now x (found c w.now (record { seat = seat; step = step.Look x })) h))
 untouched_behind c w seat step.Want h late =
-    with_flights w (flights_behind c w.now seat w.now.words.phase step.Want) (flights_stay c w.now seat w.now.words.phase step.Want (λ f. refl))
+    with_flights w (flights_behind c w.now seat w.now.words.phase step.Want)
+    (flights_stay c w.now seat w.now.words.phase step.Want (λ f. refl))
 untouched_behind c w seat (step.Mark p v) h late =
     let f : Flight = flight_of w.now seat in
     let fs : List Flight = flights_behind c w.now seat (slice_index w.now.words.marks p) (step.Mark p v) in
@@ -217,13 +232,16 @@ untouched_behind c w seat _ h late = cc
 ends_more : (es : List Event) (e : Event) → is_end e.step ≡ false → ends (es ++ e ∷ []) ≡ ends es
 ends_more es e none =
     let one : ends (e ∷ []) ≡ 0 = ap (λ (b : Bool). 0 + cond b 1 0) none in
-    let both : ends (es ++ e ∷ []) ≡ ends es + ends (e ∷ []) = sum_by-append (λ (x : Event). cond (is_end x.step) 1 0) es (e ∷ []) in
+    let both : ends (es ++ e ∷ []) ≡ ends es + ends (e ∷ []) = sum_by-append
+    (λ (x : Event). cond (is_end x.step) 1 0) es (e ∷ []) in
     omega arith
 
-no_call_more : (c : Config) (es : List Event) (e : Event) → answer_decided c (left c es).now e ≡ None → calls c (es ++ e ∷ []) ≡ calls c es
+no_call_more : (c : Config) (es : List Event) (e : Event) → answer_decided c (left c es).now e ≡ None
+    → calls c (es ++ e ∷ []) ≡ calls c es
 no_call_more c es e none =
     calls_more c (first_world c) es e
-    ∙ ap (λ (a : Option Answer). calls c es ++ entry_of (caller_number e.seat) (flight_of (left c es).now e.seat).op a) none
+    ∙ ap (λ (a : Option Answer). calls c es ++ entry_of (caller_number e.seat) (flight_of (left c es).now e.seat).op a)
+    none
     ∙ append-nil (calls c es)
 
 quiet_decides_nothing : (s : Step) → is_quiet s ≡ true → may_decide_call s ≡ false
@@ -240,13 +258,15 @@ quiet_ends_nothing : (s : Step) → is_quiet s ≡ true → is_end s ≡ false
 quiet_ends_nothing step.End h = cc
 quiet_ends_nothing _ h = refl
 
-counts_more : (c : Config) (es : List Event) (seat : Seat) (s : Step) → is_quiet s ≡ true → CountsAreLeft c es (es ++ record { seat = seat; step = s } ∷ [])
+counts_more : (c : Config) (es : List Event) (seat : Seat) (s : Step) → is_quiet s ≡ true
+    → CountsAreLeft c es (es ++ record { seat = seat; step = s } ∷ [])
 counts_more c es seat s h =
     record {
       ends = ends_more es (record { seat = seat; step = s }) (quiet_ends_nothing s h);
       fulls =
           ap (λ (xs : List Decided). count_by is_full_answer (answered xs))
-          (no_call_more c es (record { seat = seat; step = s }) (decides_nothing c (left c es).now seat s (quiet_decides_nothing s h)));
+          (no_call_more c es (record { seat = seat; step = s })
+          (decides_nothing c (left c es).now seat s (quiet_decides_nothing s h)));
     }
 
 module _ (p q : PassState) (s : Step) (a : Acts p s q) (quiet : is_quiet s ≡ true) where
@@ -257,12 +277,15 @@ module _ (p q : PassState) (s : Step) (a : Acts p s q) (quiet : is_quiet s ≡ t
       subst (λ (x : PassState). CountsAreLeft p.table.config p.seen x.seen) (sym a.makes.is)
       (record { ends = more.ends ∙ a.counts.ends; fulls = more.fulls ∙ a.counts.fulls })
 
-  pub step_untouched : HoldsAll p.table.config (now_of p) p.seat → is_late (world_at a.makes).now.words s ≡ true → untouched_of (world_of q) ≡ untouched_of (world_of p)
+  pub step_untouched : HoldsAll p.table.config (now_of p) p.seat → is_late (world_at a.makes).now.words s ≡ true
+      → untouched_of (world_of q) ≡ untouched_of (world_of p)
   step_untouched all late =
-      ap untouched_of a.world ∙ untouched_behind p.table.config (world_at a.makes) p.seat s quiet late ∙ others_leave_untouched p q s a all
+      ap untouched_of a.world ∙ untouched_behind p.table.config (world_at a.makes) p.seat s quiet late
+      ∙ others_leave_untouched p q s a all
 
 -- the seat is as it was, and its call
-pub still_ready : (p q : PassState) (s : Step) (m : Makes p s q) → untouched_of (world_of q) ≡ untouched_of (world_of p) → IsReady p → IsReady q
+pub still_ready : (p q : PassState) (s : Step) (m : Makes p s q) → untouched_of (world_of q) ≡ untouched_of (world_of p)
+    → IsReady p → IsReady q
 still_ready p q s m same ready =
     let flights : (now_of q).seats.flights ≡ (now_of p).seats.flights = ap (λ (x : Untouched). x.flights) same in
     let seat : q.seat ≡ p.seat = ap (λ (x : PassState). x.seat) m.is in
@@ -271,7 +294,8 @@ still_ready p q s m same ready =
           ap (λ (t : Seat). is_loaded t (flight_of (now_of q) t)) seat ∙ same_call p.seat flights ∙ ready.loaded;
     }
   where
-    same_call : (t : Seat) → (now_of q).seats.flights ≡ (now_of p).seats.flights → is_loaded t (flight_of (now_of q) t) ≡ is_loaded t (flight_of (now_of p) t)
+    same_call : (t : Seat) → (now_of q).seats.flights ≡ (now_of p).seats.flights
+        → is_loaded t (flight_of (now_of q) t) ≡ is_loaded t (flight_of (now_of p) t)
     same_call (Caller k) e = ap (λ (fs : List Flight). is_loaded_at (slice_index_or fs k at_rest).stage) e
     same_call (Marker k) e = refl
     same_call Host e = refl
@@ -280,5 +304,6 @@ still_ready p q s m same ready =
 pub found_there : (p q : PassState) (x : Word) (n : ℕ) → Finds p (step.Look x) n q → named_word (now_of q).words x ≡ n
 found_there p q x n f =
     ap (λ (r : PassState). named_word (now_of r).words x) f.makes.is
-    ∙ ap (λ (w : World). named_word w.now.words x) (left_more p.table.config (first_world p.table.config) (p.seen ++ f.makes.others) (event_of p (step.Look x)))
+    ∙ ap (λ (w : World). named_word w.now.words x) (left_more p.table.config (first_world p.table.config)
+    (p.seen ++ f.makes.others) (event_of p (step.Look x)))
     ∙ sym f.finds

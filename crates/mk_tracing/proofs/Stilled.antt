@@ -1,6 +1,6 @@
 -- In the stop, where no marker attends, the words are at each step as they were left, but for the phase.
 use Rattle.std.proofs.Common.{◌≡◌, ℕ, ◌%◌, Bool, true, false, List, Option, option_and_then, refl, sym, ◌∙◌, ap, subst, arith}
-use Rattle.std.specs.Prelude.{Some, None, slice_index, slice_set, slice_index_or, if◌then◌else◌, not, ◌&&◌, bit_or}
+use Rattle.std.specs.Prelude.{Some, None, slice_index_or, if◌then◌else◌, not, ◌&&◌}
 use Rattle.std.proofs.lemmas.Bool.{ne_eqb}
 use Rattle.mk_core.specs.declared.config.Config.{Config}
 use Rattle.mk_core.specs.declared.events.Seat.{Seat}
@@ -30,7 +30,7 @@ use Rattle.mk_words.specs.Seats.{Has}
 use Rattle.mk_words.specs.States.{PassState, now_of, world_of, event_of}
 use Rattle.mk_words.specs.Steps.{Finds}
 use Rattle.mk_words.specs.TurnSteps.{Acts, world_at}
-use Rattle.mk_tracing.specs.Grays.{MarksOn, IsInHand, TracesReached}
+use Rattle.mk_tracing.specs.Grays.{with_marks, with_blacks, without_blacks, without_dirty, MarksOn, IsInHand, TracesReached}
 use Rattle.mk_tracing.specs.Stops.{IsWanted, is_plain, is_root, still_words, hand_of}
 use Rattle.mk_tracing.specs.Tracing.{Traces, untouched_of, is_marking}
 use Rattle.mk_tracing.proofs.Steps.{is_quiet, is_late, step_counts, step_untouched, still_ready, found_there}
@@ -86,7 +86,8 @@ phase_behind c w seat (step.Black p v) h = refl
 phase_behind c w seat (step.Unblack p) h = refl
 phase_behind c w seat _ h = cc
 
-markers_stay : (c : Config) (m : Moment) (seat : Seat) (n : ℕ) (s : Step) (l : Moment) → Holds c l seat → markers_behind c m seat n s ≡ m.seats.markers
+markers_stay : (c : Config) (m : Moment) (seat : Seat) (n : ℕ) (s : Step) (l : Moment) → Holds c l seat
+    → markers_behind c m seat n s ≡ m.seats.markers
 markers_stay c m (Caller k) n s l holds = refl
 markers_stay c m (Marker k) n s l holds = absurd holds
 markers_stay c m Host n s l holds = refl
@@ -94,8 +95,10 @@ markers_stay c m Host n s l holds = refl
 abbrev NoneOf : List MarkerState → Type 0
 NoneOf xs = (k : ℕ) → is_attending (slice_index_or xs k outside).presence ≡ false
 
-module _ (p q : PassState) (s : Step) (a : Acts p s q) (wanted : IsWanted p) (all : HoldsAll p.table.config (now_of p) p.seat) (stopped : is_stopped_step s ≡ true) where
-  there : (NoneAttends (world_at a.makes).now) × ((world_at a.makes).now.words.marks ≡ (now_of p).words.marks) × ((world_at a.makes).now.words.blacks ≡ (now_of p).words.blacks)
+module _ (p q : PassState) (s : Step) (a : Acts p s q) (wanted : IsWanted p)
+    (all : HoldsAll p.table.config (now_of p) p.seat) (stopped : is_stopped_step s ≡ true) where
+  there : (NoneAttends (world_at a.makes).now) × ((world_at a.makes).now.words.marks ≡ (now_of p).words.marks)
+      × ((world_at a.makes).now.words.blacks ≡ (now_of p).words.blacks)
   there = a.turn.stopped wanted.phase wanted.none
 
   pub phase_there : phase_of (world_at a.makes).now.words ≡ 2
@@ -103,16 +106,21 @@ module _ (p q : PassState) (s : Step) (a : Acts p s q) (wanted : IsWanted p) (al
 
   pub words_there : but_phase (world_at a.makes).now.words ≡ still_words p
   words_there =
-      ap (λ (x : Steady). words_by x (written_of (world_at a.makes)) (world_at a.makes).now.words.marks (world_at a.makes).now.words.blacks) a.turn.steady
-      ∙ ap (λ (y : Written). words_by (steady_of (world_of p)) y (world_at a.makes).now.words.marks (world_at a.makes).now.words.blacks) (a.stop all)
-      ∙ ap (λ (xs : List ℕ). words_by (steady_of (world_of p)) (written_of (world_of p)) xs (world_at a.makes).now.words.blacks) there.1
-      ∙ ap (λ (xs : List ℕ). words_by (steady_of (world_of p)) (written_of (world_of p)) (now_of p).words.marks xs) there.2
+      ap (λ (x : Steady). words_by x (written_of (world_at a.makes)) (world_at a.makes).now.words.marks
+      (world_at a.makes).now.words.blacks) a.turn.steady
+      ∙ ap (λ (y : Written). words_by (steady_of (world_of p)) y (world_at a.makes).now.words.marks
+      (world_at a.makes).now.words.blacks) (a.stop all)
+      ∙ ap (λ (xs : List ℕ). words_by (steady_of (world_of p)) (written_of (world_of p)) xs
+      (world_at a.makes).now.words.blacks) there.1
+      ∙ ap (λ (xs : List ℕ). words_by (steady_of (world_of p)) (written_of (world_of p)) (now_of p).words.marks xs)
+      there.2
 
   late : is_late (world_at a.makes).now.words s ≡ true
   late = by s
     where
       by : (x : Step) → is_late (world_at a.makes).now.words x ≡ true
-      by (step.Mark pg v) = ap not (ne_eqb (phase_of (world_at a.makes).now.words) 1 (λ e. let two = phase_there in omega arith))
+      by (step.Mark pg v) = ap not (ne_eqb (phase_of (world_at a.makes).now.words) 1
+          (λ e. let two = phase_there in omega arith))
       by _ = refl
 
   untouched : untouched_of (world_of q) ≡ untouched_of (world_of p)
@@ -127,51 +135,50 @@ module _ (p q : PassState) (s : Step) (a : Acts p s q) (wanted : IsWanted p) (al
             ∙ ap (λ n. n % 8) (phase_behind p.table.config (world_at a.makes) p.seat s stopped) ∙ phase_there;
         none = subst NoneOf
             (sym (ap (λ (w : World). w.now.seats.markers) a.world
-            ∙ markers_stay p.table.config (world_at a.makes).now p.seat (found p.table.config (world_at a.makes).now (event_of p s)) s (now_of p) all.0)) there.0;
+            ∙ markers_stay p.table.config (world_at a.makes).now p.seat
+            (found p.table.config (world_at a.makes).now (event_of p s)) s (now_of p) all.0)) there.0;
       }
 
-  pub stopped_traces : Has p.seats p.seat → (rule : Config → Moment → Step → Type 0) → is_marking s ≡ true → rule p.table.config (world_at a.makes).now s → Traces is_marking rule p q
+  pub stopped_traces : Has p.seats p.seat → (rule : Config → Moment → Step → Type 0) → is_marking s ≡ true
+      → rule p.table.config (world_at a.makes).now s → Traces is_marking rule p q
   stopped_traces own rule kind ruled =
-      (traces_step is_marking rule (λ (x : Step). false) p q s a.makes 0 own kind ruled untouched (step_counts p q s a (quiet_of s stopped)) refl).traces
+      (traces_step is_marking rule (λ (x : Step). false) p q s a.makes 0 own kind ruled untouched
+      (step_counts p q s a (quiet_of s stopped)) refl).traces
 
 -- what each step leaves
 
-abbrev pub with_marks : ℕ → ℕ → Words → Words
-with_marks pg v w = record w { marks = slice_set w.marks pg (bit_or (slice_index w.marks pg) v) }
-
-abbrev pub with_blacks : ℕ → ℕ → Words → Words
-with_blacks pg v w = record w { blacks = slice_set w.blacks pg (bit_or (slice_index w.blacks pg) v) }
-
-abbrev pub without_blacks : ℕ → Words → Words
-without_blacks pg w = record w { blacks = slice_set w.blacks pg 0 }
-
-abbrev pub without_dirty : ℕ → Words → Words
-without_dirty pg w = record w { dirty = slice_set w.dirty pg 0 }
-
 module _ (p q : PassState) (wanted : IsWanted p) (all : HoldsAll p.table.config (now_of p) p.seat) where
   pub look_words : (x : Word) → Acts p (step.Look x) q → is_quiet (step.Look x) ≡ true → still_words q ≡ still_words p
-  look_words x a quiet = ap (λ (w : World). but_phase w.now.words) a.world ∙ words_there p q (step.Look x) a wanted all quiet
+  look_words x a quiet = ap (λ (w : World). but_phase w.now.words) a.world ∙ words_there p q
+      (step.Look x) a wanted all quiet
 
   pub mark_words : (pg v : ℕ) → Acts p (step.Mark pg v) q → still_words q ≡ with_marks pg v (still_words p)
-  mark_words pg v a = ap (λ (w : World). but_phase w.now.words) a.world ∙ ap (with_marks pg v) (words_there p q (step.Mark pg v) a wanted all refl)
+  mark_words pg v a = ap (λ (w : World). but_phase w.now.words) a.world ∙ ap (with_marks pg v)
+      (words_there p q (step.Mark pg v) a wanted all refl)
 
   pub black_words : (pg v : ℕ) → Acts p (step.Black pg v) q → still_words q ≡ with_blacks pg v (still_words p)
-  black_words pg v a = ap (λ (w : World). but_phase w.now.words) a.world ∙ ap (with_blacks pg v) (words_there p q (step.Black pg v) a wanted all refl)
+  black_words pg v a = ap (λ (w : World). but_phase w.now.words) a.world ∙ ap (with_blacks pg v)
+      (words_there p q (step.Black pg v) a wanted all refl)
 
   pub unblack_words : (pg : ℕ) → Acts p (step.Unblack pg) q → still_words q ≡ without_blacks pg (still_words p)
-  unblack_words pg a = ap (λ (w : World). but_phase w.now.words) a.world ∙ ap (without_blacks pg) (words_there p q (step.Unblack pg) a wanted all refl)
+  unblack_words pg a = ap (λ (w : World). but_phase w.now.words) a.world ∙ ap (without_blacks pg)
+      (words_there p q (step.Unblack pg) a wanted all refl)
 
   pub undirty_words : (pg : ℕ) → Acts p (step.Undirty pg) q → still_words q ≡ without_dirty pg (still_words p)
-  undirty_words pg a = ap (λ (w : World). but_phase w.now.words) a.world ∙ ap (without_dirty pg) (words_there p q (step.Undirty pg) a wanted all refl)
+  undirty_words pg a = ap (λ (w : World). but_phase w.now.words) a.world ∙ ap (without_dirty pg)
+      (words_there p q (step.Undirty pg) a wanted all refl)
 
-  pub marks_on : Has p.seats p.seat → (s : Step) → Acts p s q → is_stopped_step s ≡ true → (o o' : Option Op) → o' ≡ o → ((w : World) → but_phase w.now.words ≡ still_words p → w.now.seats.holding ≡ (now_of p).seats.holding → TracesReached p.table.config w.now s)
+  pub marks_on : Has p.seats p.seat → (s : Step) → Acts p s q → is_stopped_step s ≡ true → (o o' : Option Op) → o' ≡ o
+      → ((w : World) → but_phase w.now.words ≡ still_words p → w.now.seats.holding ≡ (now_of p).seats.holding
+      → TracesReached p.table.config w.now s)
       → MarksOn (record { pass = p; op = o }) (record { pass = q; op = o' })
   marks_on own s a stopped o o' same ruled =
       record {
         table = ap (λ (x : PassState). x.table) a.makes.is;
         op = same;
         wanted = still_wanted p q s a wanted all stopped;
-        traces = stopped_traces p q s a wanted all stopped own TracesReached (marking s stopped) (ruled (world_at a.makes) (words_there p q s a wanted all stopped) a.holding);
+        traces = stopped_traces p q s a wanted all stopped own TracesReached (marking s stopped)
+            (ruled (world_at a.makes) (words_there p q s a wanted all stopped) a.holding);
       }
     where
       marking : (x : Step) → is_stopped_step x ≡ true → is_marking x ≡ true
@@ -186,23 +193,28 @@ still_name : (w : Words) (x : Word) → is_still_name x ≡ true → named_word 
 still_name w word.Phase h = cc
 still_name w _ h = refl
 
-module _ (p q : PassState) (wanted : IsWanted p) (all : HoldsAll p.table.config (now_of p) p.seat) (x : Word) (a : Acts p (step.Look x) q) (n : ℕ) (finds : Finds p (step.Look x) n q) where
+module _ (p q : PassState) (wanted : IsWanted p) (all : HoldsAll p.table.config (now_of p) p.seat) (x : Word)
+    (a : Acts p (step.Look x) q) (n : ℕ) (finds : Finds p (step.Look x) n q) where
   pub look_finds : is_still_name x ≡ true → is_quiet (step.Look x) ≡ true → n ≡ named_word (still_words p) x
   look_finds name quiet =
-      sym (found_there p q x n finds) ∙ sym (still_name (now_of q).words x name) ∙ ap (λ (w : Words). named_word w x) (look_words p q wanted all x a quiet)
+      sym (found_there p q x n finds) ∙ sym (still_name (now_of q).words x name) ∙ ap (λ (w : Words). named_word w x)
+      (look_words p q wanted all x a quiet)
 
   found_now : found p.table.config (world_at a.makes).now (event_of p (step.Look x)) ≡ n
   found_now = ap (λ (w : World). named_word w.now.words x) (sym a.world) ∙ found_there p q x n finds
 
-  hand_now : hand_of q ≡ or_else (hand_given p.table.config (world_at a.makes).now p.seat x (found p.table.config (world_at a.makes).now (event_of p (step.Look x)))) (hand_of p)
+  hand_now : hand_of q ≡ or_else (hand_given p.table.config (world_at a.makes).now p.seat x
+      (found p.table.config (world_at a.makes).now (event_of p (step.Look x)))) (hand_of p)
   hand_now =
       ap (λ (w : World). w.now.seats.holding.hand) a.world
-      ∙ ap (λ (h : Holding). or_else (hand_given p.table.config (world_at a.makes).now p.seat x (found p.table.config (world_at a.makes).now (event_of p (step.Look x)))) h.hand) a.holding
+      ∙ ap (λ (h : Holding). or_else (hand_given p.table.config (world_at a.makes).now p.seat x
+      (found p.table.config (world_at a.makes).now (event_of p (step.Look x)))) h.hand) a.holding
 
   pub plain_hand : is_plain x ≡ true → hand_of q ≡ hand_of p
   plain_hand plain = hand_now ∙ by x (found p.table.config (world_at a.makes).now (event_of p (step.Look x))) plain
     where
-      by : (y : Word) (value : ℕ) → is_plain y ≡ true → or_else (hand_given p.table.config (world_at a.makes).now p.seat y value) (hand_of p) ≡ hand_of p
+      by : (y : Word) (value : ℕ) → is_plain y ≡ true
+          → or_else (hand_given p.table.config (world_at a.makes).now p.seat y value) (hand_of p) ≡ hand_of p
       by (word.Head pg) value h = refl
       by (word.Mark pg) value h = refl
       by (word.Black pg) value h = refl
@@ -213,26 +225,34 @@ module _ (p q : PassState) (wanted : IsWanted p) (all : HoldsAll p.table.config 
   root_hand root =
       record {
         hand = record { value = n; source = Root };
-        is = hand_now ∙ by x (found p.table.config (world_at a.makes).now (event_of p (step.Look x))) root ∙ ap (λ (v : ℕ). Some (record { value = v; source = Root })) found_now;
+        is = hand_now ∙ by x (found p.table.config (world_at a.makes).now (event_of p (step.Look x))) root ∙ ap
+            (λ (v : ℕ). Some (record { value = v; source = Root })) found_now;
         value = refl;
         reached = refl;
       }
     where
-      by : (y : Word) (value : ℕ) → is_root y ≡ true → or_else (hand_given p.table.config (world_at a.makes).now p.seat y value) (hand_of p) ≡ Some (record { value = value; source = Root })
+      by : (y : Word) (value : ℕ) → is_root y ≡ true
+          → or_else (hand_given p.table.config (world_at a.makes).now p.seat y value) (hand_of p)
+          ≡ Some (record { value = value; source = Root })
       by (word.Reg j r) value h = refl
       by (word.Global g) value h = refl
       by _ value h = cc
 
 -- a word of a marked cell that is scanned
-pub marked_hand : (p q : PassState) → IsWanted p → HoldsAll p.table.config (now_of p) p.seat → (i : ℕ) (a : Acts p (step.Look (word.Heap i)) q) (n : ℕ)
-    → Finds p (step.Look (word.Heap i)) n q → (cell : Cell) → pointed_cell p.table.config.pages (still_words p).pages (address_of i) ≡ Some cell
-    → is_marked (still_words p) cell ≡ true → has_no_pointers (header_in (still_words p) cell.page) ≡ false → IsInHand q n
+pub marked_hand : (p q : PassState) → IsWanted p → HoldsAll p.table.config (now_of p) p.seat
+    → (i : ℕ) (a : Acts p (step.Look (word.Heap i)) q) (n : ℕ)
+    → Finds p (step.Look (word.Heap i)) n q → (cell : Cell)
+    → pointed_cell p.table.config.pages (still_words p).pages (address_of i) ≡ Some cell
+    → is_marked (still_words p) cell ≡ true → has_no_pointers (header_in (still_words p) cell.page) ≡ false
+    → IsInHand q n
 marked_hand p q wanted all i a n finds cell pointed marked scanned =
     record {
       hand = record { value = n; source = Marked };
       is = hand_now p q wanted all (word.Heap i) a n finds
-          ∙ ap (λ (o : Option Hand). or_else o (hand_of p)) (given (found p.table.config (world_at a.makes).now (event_of p (step.Look (word.Heap i)))))
-          ∙ ap (λ (v : ℕ). Some (record { value = v; source = Marked })) (found_now p q wanted all (word.Heap i) a n finds);
+          ∙ ap (λ (o : Option Hand). or_else o (hand_of p)) (given
+          (found p.table.config (world_at a.makes).now (event_of p (step.Look (word.Heap i)))))
+          ∙ ap (λ (v : ℕ). Some (record { value = v; source = Marked }))
+          (found_now p q wanted all (word.Heap i) a n finds);
       value = refl;
       reached = refl;
     }
@@ -246,17 +266,22 @@ marked_hand p q wanted all i a n finds cell pointed marked scanned =
     pointed_now : pointed_cell p.table.config.pages m'.words.pages (address_of i) ≡ Some cell
     pointed_now = ap (λ (w : Words). pointed_cell p.table.config.pages w.pages (address_of i)) same ∙ pointed
 
-    of_cell : (value : ℕ) → hand_of_cell m'.words (is_in_stop p.table.config.callers m'.words p.seat) m'.seats.holding.placing cell value ≡ Some (record { value = value; source = Marked })
+    of_cell : (value : ℕ) → hand_of_cell m'.words (is_in_stop p.table.config.callers m'.words p.seat)
+        m'.seats.holding.placing cell value ≡ Some (record { value = value; source = Marked })
     of_cell value =
         let given_by : Bool → Bool → Option Hand = λ (b m : Bool).
         if b then None
         else if m then Some (record { value = value; source = Marked })
-        else if is_in_stop p.table.config.callers m'.words p.seat && is_mapped_cell m'.words m'.seats.holding.placing cell then Some (record { value = value; source = Unmarked })
+        else if is_in_stop p.table.config.callers m'.words p.seat && is_mapped_cell m'.words m'.seats.holding.placing
+        cell then Some (record { value = value; source = Unmarked })
         else None in
-        ap (λ (b : Bool). given_by b (is_marked m'.words cell)) (ap (λ (w : Words). has_no_pointers (header_in w cell.page)) same ∙ scanned)
+        ap (λ (b : Bool). given_by b (is_marked m'.words cell))
+        (ap (λ (w : Words). has_no_pointers (header_in w cell.page)) same ∙ scanned)
         ∙ ap (λ (b : Bool). given_by false b) (ap (λ (w : Words). is_marked w cell) same ∙ marked)
 
-    given : (value : ℕ) → hand_given p.table.config m' p.seat (word.Heap i) value ≡ Some (record { value = value; source = Marked })
+    given : (value : ℕ) → hand_given p.table.config m' p.seat (word.Heap i) value
+        ≡ Some (record { value = value; source = Marked })
     given value =
-        ap (λ (o : Option Cell). option_and_then (λ (x : Cell). hand_of_cell m'.words (is_in_stop p.table.config.callers m'.words p.seat) m'.seats.holding.placing x value) o) pointed_now
+        ap (λ (o : Option Cell). option_and_then (λ (x : Cell). hand_of_cell m'.words
+        (is_in_stop p.table.config.callers m'.words p.seat) m'.seats.holding.placing x value) o) pointed_now
         ∙ of_cell value

@@ -16,13 +16,17 @@ use Rattle.mk_core.specs.Frames.{HoldsAll}
 use Rattle.mk_core.specs.History.{World, IsHistory}
 use Rattle.mk_core.specs.Moments.{Moment}
 use Rattle.mk_core.specs.Ranges.{is_word}
+use Rattle.mk_core.specs.NewPlaces.{object_made}
+use Rattle.mk_core.specs.StopConditions.{marks_place}
+use Rattle.mk_core.specs.TurnConditions.{place_now}
+use Rattle.std.specs.Prelude.{Bool, ◌&&◌, not}
 use Rattle.mk_core.specs.Words.{Words}
 use Rattle.mk_core.proofs.PointedPages.{pointed_within}
 use Rattle.mk_words.specs.Seats.{Has}
 use Rattle.mk_words.specs.States.{PassState, TurnState, now_of}
 use Rattle.mk_words.specs.Steps.{Finds}
 use Rattle.mk_words.specs.TurnSteps.{Acts}
-use Rattle.mk_tracing.specs.Grays.{HasDirtyPart, IsGray, IsGrayWord, IsInHand, IsReached, MarksOn, MarksReached, TracesReached}
+use Rattle.mk_tracing.specs.Grays.{ReachedMarksSweepNothing, HasDirtyPart, IsGray, IsGrayWord, IsInHand, IsReached, MarksOn, MarksReached, TracesReached}
 use Rattle.mk_tracing.specs.Stops.{IsWanted, is_plain, is_root, still_words}
 use Rattle.mk_tracing.specs.Tracing.{is_marking}
 use Rattle.mk_tracing.proofs.CellWords.{cell_of_word, words_in_heap}
@@ -34,7 +38,13 @@ use Rattle.mk_tracing.proofs.Parts.{traces_nothing, traces_then}
 -- The marking goes on, and on.
 
 pub on_from : (t : TurnState) → IsWanted t.pass → MarksOn t t
-on_from t wanted = record { table = refl; op = refl; wanted = wanted; traces = traces_nothing is_marking TracesReached t.pass }
+on_from t wanted = record {
+  table = refl;
+  op = refl;
+  wanted = wanted;
+  traces = traces_nothing is_marking TracesReached
+      t.pass;
+}
 
 pub on_then : (t u v : TurnState) → MarksOn t u → MarksOn u v → MarksOn t v
 on_then t u v one two =
@@ -78,71 +88,97 @@ dirty_there page w v same h =
     let d = subst (λ (x : Words). HasDirtyPart x page) (sym same) h in
     record { part = d.part; dirty = d.dirty; of = d.of }
 
-reached_there : (p : PassState) (w : World) (cell : Cell) → but_phase w.now.words ≡ still_words p → w.now.seats.holding ≡ (now_of p).seats.holding
+reached_there : (p : PassState) (w : World) (cell : Cell) → but_phase w.now.words ≡ still_words p
+    → w.now.seats.holding ≡ (now_of p).seats.holding
     → IsReached p cell → MarksReached p.table.config w.now cell.page (2 ^ cell.index)
 reached_there p w cell same holding r =
     let hand : w.now.seats.holding.hand ≡ Some r.in_hand.hand = ap (λ (h : Holding). h.hand) holding ∙ r.in_hand.is in
     record {
-      by_hand = marks_by p.table.config.pages w.now.words w.now.seats.holding.hand r.value cell r.in_hand.hand hand r.in_hand.value
+      by_hand = marks_by p.table.config.pages w.now.words w.now.seats.holding.hand r.value cell r.in_hand.hand hand
+          r.in_hand.value
           (ap (λ (x : Words). pointed_cell p.table.config.pages x.pages r.value) same ∙ r.points);
       reached = ap (λ (o : Option Hand). is_some_and (λ (h : Hand). is_unmarked h.source) o) hand ∙ r.in_hand.reached;
     }
 
-module _ (t u : TurnState) (wanted : IsWanted t.pass) (all : HoldsAll t.pass.table.config (now_of t.pass) t.pass.seat) (own : Has t.pass.seats t.pass.seat) (same : u.op ≡ t.op) where
+module _ (t u : TurnState) (wanted : IsWanted t.pass) (all : HoldsAll t.pass.table.config (now_of t.pass) t.pass.seat)
+    (own : Has t.pass.seats t.pass.seat) (same : u.op ≡ t.op) where
   pub on_plain : (x : Word) → Acts t.pass (step.Look x) u.pass → is_plain x ≡ true → MarksOn t u
   on_plain x a plain =
-      marks_on t.pass u.pass wanted all own (step.Look x) a (plain_quiet x plain) t.op u.op same (λ w e h. looks_freely t.pass.table.config w.now x plain)
+      marks_on t.pass u.pass wanted all own (step.Look x) a (plain_quiet x plain) t.op u.op same
+      (λ w e h. looks_freely t.pass.table.config w.now x plain)
 
   pub on_root : (x : Word) → Acts t.pass (step.Look x) u.pass → is_root x ≡ true → MarksOn t u
   on_root x a root =
-      marks_on t.pass u.pass wanted all own (step.Look x) a (root_quiet x root) t.op u.op same (λ w e h. looks_at_root t.pass.table.config w.now x root)
+      marks_on t.pass u.pass wanted all own (step.Look x) a (root_quiet x root) t.op u.op same
+      (λ w e h. looks_at_root t.pass.table.config w.now x root)
 
-  pub on_word : (n : ℕ) → Acts t.pass (step.Look (word.Heap n)) u.pass → IsGrayWord t.pass.table.config.pages (still_words t.pass) n → MarksOn t u
+  pub on_word : (n : ℕ) → Acts t.pass (step.Look (word.Heap n)) u.pass
+      → IsGrayWord t.pass.table.config.pages (still_words t.pass) n → MarksOn t u
   on_word n a gray =
       marks_on t.pass u.pass wanted all own (step.Look (word.Heap n)) a refl t.op u.op same
       (λ w e h. gray_there t.pass.table.config.pages n w.now.words (still_words t.pass) e gray)
 
-  pub on_mark : (cell : Cell) → Acts t.pass (step.Mark cell.page (2 ^ cell.index)) u.pass → IsReached t.pass cell → MarksOn t u
+  pub on_mark : (cell : Cell) → Acts t.pass (step.Mark cell.page (2 ^ cell.index)) u.pass → IsReached t.pass cell
+      → MarksOn t u
   on_mark cell a reached =
-      marks_on t.pass u.pass wanted all own (step.Mark cell.page (2 ^ cell.index)) a refl t.op u.op same (λ w e h. reached_there t.pass w cell e h reached)
+      marks_on t.pass u.pass wanted all own (step.Mark cell.page (2 ^ cell.index)) a refl t.op u.op same
+      (λ w e h. reached_there t.pass w cell e h reached)
 
   pub on_black : (page value : ℕ) → Acts t.pass (step.Black page value) u.pass → MarksOn t u
-  on_black page value a = marks_on t.pass u.pass wanted all own (step.Black page value) a refl t.op u.op same (λ w e h. tt)
+  on_black page value a = marks_on t.pass u.pass wanted all own (step.Black page value) a refl t.op u.op same
+      (λ w e h. tt)
 
-  pub on_unblack : (page : ℕ) → Acts t.pass (step.Unblack page) u.pass → HasDirtyPart (still_words t.pass) page → MarksOn t u
+  pub on_unblack : (page : ℕ) → Acts t.pass (step.Unblack page) u.pass → HasDirtyPart (still_words t.pass) page
+      → MarksOn t u
   on_unblack page a part =
-      marks_on t.pass u.pass wanted all own (step.Unblack page) a refl t.op u.op same (λ w e h. dirty_there page w.now.words (still_words t.pass) e part)
+      marks_on t.pass u.pass wanted all own (step.Unblack page) a refl t.op u.op same
+      (λ w e h. dirty_there page w.now.words (still_words t.pass) e part)
 
   pub on_undirty : (page : ℕ) → Acts t.pass (step.Undirty page) u.pass → MarksOn t u
   on_undirty page a = marks_on t.pass u.pass wanted all own (step.Undirty page) a refl t.op u.op same (λ w e h. tt)
 
 -- a word of a gray cell
 
-pub gray_word : (pages : ℕ) (w : Words) (cell : Cell) (i : ℕ) → IsGray pages w cell → i < cell_words w cell → IsGrayWord pages w (first_word w cell + i)
+pub gray_word : (pages : ℕ) (w : Words) (cell : Cell) (i : ℕ) → IsGray pages w cell → i < cell_words w cell
+    → IsGrayWord pages w (first_word w cell + i)
 gray_word pages w cell i gray li = record { cell = cell; gray = gray; least = omega arith; below = omega arith }
 
-module _ (p : PassState) (history : IsHistory p.table.config p.seen) (cell : Cell) (i : ℕ) (gray : IsGray p.table.config.pages (still_words p) cell)
-    (scanned : has_no_pointers (header_in (still_words p) cell.page) ≡ false) (li : i < cell_words (still_words p) cell) where
+module _ (p : PassState) (history : IsHistory p.table.config p.seen) (cell : Cell) (i : ℕ)
+    (gray : IsGray p.table.config.pages (still_words p) cell)
+    (scanned : has_no_pointers (header_in (still_words p) cell.page) ≡ false)
+    (li : i < cell_words (still_words p) cell) where
   pub word_named : is_word p.table.config (word.Heap (first_word (still_words p) cell + i)) ≡ true
-  word_named = lt-ltb (first_word (still_words p) cell + i) (64 * p.table.config.pages) (words_in_heap p.table.config p.seen cell i history gray.page gray.index scanned li)
+  word_named = lt-ltb (first_word (still_words p) cell + i) (64 * p.table.config.pages)
+      (words_in_heap p.table.config p.seen cell i history gray.page gray.index scanned li)
 
-  pub word_hand : (q : PassState) → IsWanted p → HoldsAll p.table.config (now_of p) p.seat → (n : ℕ) (a : Acts p (step.Look (word.Heap (first_word (still_words p) cell + i))) q)
+  pub word_hand : (q : PassState) → IsWanted p → HoldsAll p.table.config (now_of p) p.seat
+      → (n : ℕ) (a : Acts p (step.Look (word.Heap (first_word (still_words p) cell + i))) q)
       → Finds p (step.Look (word.Heap (first_word (still_words p) cell + i))) n q
       → n ≡ slice_index (still_words p).heap (first_word (still_words p) cell + i) → n ≢ 0 → IsInHand q n
   word_hand q wanted all n a finds is some =
       marked_hand p q wanted all (first_word (still_words p) cell + i) a n finds cell
-      (cell_of_word p.table.config p.seen cell i history wanted.phase gray.page gray.index scanned li (λ z. some (is ∙ z)))
+      (cell_of_word p.table.config p.seen cell i history wanted.phase gray.page gray.index scanned li
+      (λ z. some (is ∙ z)))
       gray.marked scanned
 
 -- The cell into which the hand points lies in the heap.
-pub reached_within : (p : PassState) (cell : Cell) → IsReached p cell → (cell.page < p.table.config.pages) × (cell.index < 64)
+pub reached_within : (p : PassState) (cell : Cell) → IsReached p cell
+    → (cell.page < p.table.config.pages) × (cell.index < 64)
 reached_within p cell r = pointed_within p.table.config.pages (still_words p) r.value cell r.points
 
 -- The number of a cell's word is small.
-pub word_near : (p : PassState) → IsHistory p.table.config p.seen → (cell : Cell) (i size : ℕ) → IsGray p.table.config.pages (still_words p) cell
+pub word_near : (p : PassState) → IsHistory p.table.config p.seen → (cell : Cell) (i size : ℕ)
+    → IsGray p.table.config.pages (still_words p) cell
     → has_no_pointers (header_in (still_words p) cell.page) ≡ false → size ≡ cell_words (still_words p) cell → i < size
     → 64 * cell.page + cell.index * size + i < 262144
 word_near p history cell i size gray scanned is li =
-    let near = words_in_heap p.table.config p.seen cell i history gray.page gray.index scanned (subst (λ k. i < k) is li) in
+    let near = words_in_heap p.table.config p.seen cell i history gray.page gray.index scanned
+    (subst (λ k. i < k) is li) in
     let few = history.within_limits.pages.1 in
     subst (λ k. 64 * cell.page + cell.index * k + i < 262144) (sym is) (omega arith)
+
+-- A mark by what stood in a root or a marked cell isn't sweeping.
+pub reached_marks_sweep_nothing : ReachedMarksSweepNothing
+reached_marks_sweep_nothing c m f (step.Mark p v) r =
+    ap (λ (b : Bool). b && not (marks_place m.words (object_made c f.op) (place_now c m f) p v)) r.reached
+reached_marks_sweep_nothing c m f _ r = refl

@@ -18,16 +18,19 @@ use Rattle.mk_tracing.specs.Tracing.{Traces, Counted, is_tracing, is_marking, is
 use Rattle.mk_tracing.proofs.Steps.{step_counts, step_untouched, still_ready, found_there}
 use Rattle.mk_tracing.proofs.Parts.{traces_step, traces_wider, counted_then}
 
-phase_there : (p q : PassState) (s : Step) (a : Acts p s q) → phase_of (world_at a.makes).now.words ≡ phase_of (now_of p).words
+phase_there : (p q : PassState) (s : Step) (a : Acts p s q)
+    → phase_of (world_at a.makes).now.words ≡ phase_of (now_of p).words
 phase_there p q s a = ap (λ (x : Steady). x.phase) a.turn.steady
 
 one_more : (n : ℕ) → n % 8 ≡ 1 → (n + 1) % 2 ^ 64 % 8 ≡ 2
 one_more n h = omega arith
 
-module _ (p q : PassState) (a : Acts p step.Want q) (own : Has p.seats p.seat) (ready : IsReady p) (all : HoldsAll p.table.config (now_of p) p.seat) where
+module _ (p q : PassState) (a : Acts p step.Want q) (own : Has p.seats p.seat) (ready : IsReady p)
+    (all : HoldsAll p.table.config (now_of p) p.seat) where
   pub want_traces : Counted is_tracing TracesReached is_want p q 1
   want_traces =
-      traces_step is_tracing TracesReached is_want p q step.Want a.makes 1 own refl tt (step_untouched p q step.Want a refl all refl)
+      traces_step is_tracing TracesReached is_want p q step.Want a.makes 1 own refl tt
+      (step_untouched p q step.Want a refl all refl)
       (step_counts p q step.Want a refl) refl
 
   pub want_ready : IsReady q
@@ -35,28 +38,34 @@ module _ (p q : PassState) (a : Acts p step.Want q) (own : Has p.seats p.seat) (
 
   pub want_phase : phase_of (now_of p).words ≡ 1 → phase_of (now_of q).words ≡ 2
   want_phase one =
-      ap (λ (w : World). phase_of w.now.words) a.world ∙ one_more (world_at a.makes).now.words.phase (phase_there p q step.Want a ∙ one)
+      ap (λ (w : World). phase_of w.now.words) a.world ∙ one_more (world_at a.makes).now.words.phase
+      (phase_there p q step.Want a ∙ one)
 
-module _ (p q : PassState) (a : Acts p (step.Look word.Phase) q) (own : Has p.seats p.seat) (ready : IsReady p) (all : HoldsAll p.table.config (now_of p) p.seat) where
+module _ (p q : PassState) (a : Acts p (step.Look word.Phase) q) (own : Has p.seats p.seat) (ready : IsReady p)
+    (all : HoldsAll p.table.config (now_of p) p.seat) where
   pub look_traces : Traces is_marking TracesReached p q
   look_traces =
       (traces_step is_marking TracesReached is_want p q (step.Look word.Phase) a.makes 0 own refl tt
-      (step_untouched p q (step.Look word.Phase) a refl all refl) (step_counts p q (step.Look word.Phase) a refl) refl).traces
+      (step_untouched p q (step.Look word.Phase) a refl all refl)
+      (step_counts p q (step.Look word.Phase) a refl) refl).traces
 
   pub look_ready : IsReady q
-  look_ready = still_ready p q (step.Look word.Phase) a.makes (step_untouched p q (step.Look word.Phase) a refl all refl) ready
+  look_ready = still_ready p q (step.Look word.Phase) a.makes
+      (step_untouched p q (step.Look word.Phase) a refl all refl) ready
 
   pub look_phase : phase_of (now_of q).words ≡ phase_of (now_of p).words
   look_phase = ap (λ (w : World). phase_of w.now.words) a.world ∙ phase_there p q (step.Look word.Phase) a
 
   -- no marker is in
-  pub look_none : (n : ℕ) → Finds p (step.Look word.Phase) n q → IsHistory q.table.config q.seen → n < 8 → NoneAttends (now_of q)
+  pub look_none : (n : ℕ) → Finds p (step.Look word.Phase) n q → IsHistory q.table.config q.seen → n < 8
+      → NoneAttends (now_of q)
   look_none n finds history few =
       let now : (now_of q).words.phase ≡ n = found_there p q word.Phase n finds in
       (words_tell q.table.config q.seen history.within_limits history.enabled).phase.none_in (omega arith)
 
 -- Looks behind the wish add no other.
-pub wanted_once_then : (p q r : PassState) → Counted is_tracing TracesReached is_want p q 1 → Traces is_marking TracesReached q r → Counted is_tracing TracesReached is_want p r 1
+pub wanted_once_then : (p q r : PassState) → Counted is_tracing TracesReached is_want p q 1
+    → Traces is_marking TracesReached q r → Counted is_tracing TracesReached is_want p r 1
 wanted_once_then p q r one t =
     counted_then is_tracing TracesReached is_want p q r 1 0 one
     (traces_wider is_marking is_tracing is_want TracesReached q r marking_traces marking_wants t)

@@ -5,12 +5,13 @@ use Rattle.mk_core.specs.declared.config.Config.{Config}
 use Rattle.mk_core.specs.declared.events.Step.{Step}
 use Rattle.mk_core.specs.declared.events.Step.TheVariants as step
 use Rattle.mk_core.specs.declared.events.Word.TheVariants as word
+use Rattle.mk_core.specs.declared.seats.Flight.{Flight}
 use Rattle.mk_core.specs.declared.seats.Hand.{Hand}
 use Rattle.mk_core.specs.Bits.{has_bit, without}
 use Rattle.mk_core.specs.Bounded.{is_some_and}
-use Rattle.mk_core.specs.Words.{Words}
+use Rattle.mk_core.specs.Words.{Words, register_word}
 use Rattle.mk_core.specs.Cells.{header_in, head_page, cells_under, cell_bits, first_word, cell_words, is_marked, pointed_cell, points_well}
-use Rattle.mk_core.specs.Cycles.{is_unmarked}
+use Rattle.mk_core.specs.Cycles.{is_unmarked, sweeps}
 use Rattle.mk_core.specs.Frames.{OnlyGrow}
 use Rattle.mk_core.specs.Moments.{Moment}
 use Rattle.mk_core.specs.StopConditions.{marks_by_hand}
@@ -73,6 +74,21 @@ pub record IsReached (p : PassState) (cell : Cell) : Type 0 where
   pub in_hand : IsInHand p value
   pub points : pointed_cell p.table.config.pages (still_words p).pages value ≡ Some cell
 
+-- The words with one of them changed: bits are added to a page's mark or black word, or its black or dirty word is
+-- cleared.
+
+abbrev pub with_marks : ℕ → ℕ → Words → Words
+with_marks p bits w = record w { marks = slice_set w.marks p (bit_or (slice_index w.marks p) bits) }
+
+abbrev pub with_blacks : ℕ → ℕ → Words → Words
+with_blacks p bits w = record w { blacks = slice_set w.blacks p (bit_or (slice_index w.blacks p) bits) }
+
+abbrev pub without_blacks : ℕ → Words → Words
+without_blacks p w = record w { blacks = slice_set w.blacks p 0 }
+
+abbrev pub without_dirty : ℕ → Words → Words
+without_dirty p w = record w { dirty = slice_set w.dirty p 0 }
+
 -- Marks, and no others, are added.
 pub record MarksMore (w v : Words) : Type 0 where
   pub is : v ≡ record w { marks = v.marks }
@@ -86,12 +102,25 @@ pub record ColoursMore (w v : Words) : Type 0 where
 
 -- Marks are added, and one cell is blackened.
 pub record BlackensOne (w : Words) (cell : Cell) (v : Words) : Type 0 where
-  pub is : v ≡ record w { marks = v.marks; blacks = slice_set w.blacks cell.page (bit_or (slice_index w.blacks cell.page) (2 ^ cell.index)) }
+  pub is : v ≡ record (with_blacks cell.page (2 ^ cell.index) w) { marks = v.marks }
   pub grow : OnlyGrow w.marks v.marks
 
 -- Each marked cell of the page is black.
 abbrev pub HasNoGray : Words → ℕ → Type 0
 HasNoGray w p = without (bit_and (slice_index w.marks p) (cell_bits w p)) (slice_index w.blacks p) ≡ 0
+
+-- Of a page with so many cells, each that is marked is black.
+abbrev pub AllAreBlack : ℕ → ℕ → ℕ → Type 0
+AllAreBlack count marks blacks = (k : ℕ) → k < count → has_bit marks k ≡ true → has_bit blacks k ≡ true
+
+-- What a caller's registers were points well now, and so does what a global was.
+
+abbrev pub RegistersAreWell : Config → PassState → PassState → ℕ → Type 0
+RegistersAreWell c p q k =
+    (r : ℕ) → r < 8 → points_well c.pages (still_words q) (register_word (still_words p) k r) ≡ true
+
+abbrev pub GlobalIsWell : Config → PassState → PassState → ℕ → Type 0
+GlobalIsWell c p q g = points_well c.pages (still_words q) (slice_index (still_words p).globals g) ≡ true
 
 -- Each register and each global points well.
 pub record RootsPointWell (pages : ℕ) (w : Words) : Type 0 where
@@ -112,3 +141,8 @@ pub record BlacksFewer (w v : Words) : Type 0 where
 pub record DirtyFewer (w v : Words) : Type 0 where
   pub is : v ≡ record w { dirty = v.dirty }
   pub fewer : (p : ℕ) → slice_index w.dirty p ≡ 0 → slice_index v.dirty p ≡ 0
+
+-- Such steps make no sweeping mark.
+abbrev pub ReachedMarksSweepNothing : Type 0
+ReachedMarksSweepNothing = (c : Config) (m : Moment) (f : Flight)
+    (s : Step) → TracesReached c m s → sweeps c m f s ≡ false

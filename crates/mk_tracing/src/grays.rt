@@ -3,7 +3,7 @@ ghost use Rattle.std.specs.Prelude.{◌≡◌, ℕ, ◌<◌, ◌≤◌, true, fa
 ghost use Rattle.mk_geom.specs.Headers.{header_of};
 ghost use Rattle.mk_core.specs.Bits.{has_bit};
 ghost use Rattle.mk_core.specs.Cells.{cells_under};
-ghost use Rattle.mk_tracing.specs.Grays.{HasNoGray, IsGray, MarksOn};
+ghost use Rattle.mk_tracing.specs.Grays.{AllAreBlack, HasNoGray, IsGray, MarksOn};
 ghost use Rattle.mk_tracing.specs.Stops.{IsWanted, still_words};
 
 use crate::cells::{cells_under, has_bit};
@@ -18,7 +18,7 @@ fn gray_index(header: u64, marks: u64, blacks: u64) -> Option<u64>
     ensures known { IfSome result (λ k. k < cells_under (header_of header)) }
     ensures marked { IfSome result (λ k. has_bit marks k ≡ true) }
     ensures not_black { IfSome result (λ k. has_bit blacks k ≡ false) }
-    ensures none { IfNone result ((k : ℕ) → k < cells_under (header_of header) → has_bit marks k ≡ true → has_bit blacks k ≡ true) }
+    ensures none { IfNone result (AllAreBlack (cells_under (header_of header)) marks blacks) }
 {
     for index in 0..cells_under(header) {
         if has_bit(marks, index) && !has_bit(blacks, index) {

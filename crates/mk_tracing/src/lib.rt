@@ -6,6 +6,7 @@ mod cells;
 mod closing;
 mod dirty;
 mod grays;
+mod laws;
 mod roots;
 mod stepping;
 mod tracing;
@@ -15,6 +16,7 @@ mod worklist;
 
 pub use closing::close_marks;
 pub use dirty::{unblack_dirty, undirty_all};
+pub use laws::reached_marks_sweep_nothing;
 pub use roots::mark_roots;
 pub use tracing::trace;
 pub use waiting::want_and_wait;

@@ -3,7 +3,7 @@ ghost use Rattle.std.specs.Prelude.{◌≡◌, ℕ, ◌<◌, true, slice_index};
 ghost use Rattle.mk_core.specs.Cells.{points_well};
 ghost use Rattle.mk_core.specs.Ranges.{is_word};
 ghost use Rattle.mk_core.specs.Words.{named_word, register_word};
-ghost use Rattle.mk_tracing.specs.Grays.{MarksMore, MarksOn, RootsPointWell};
+ghost use Rattle.mk_tracing.specs.Grays.{GlobalIsWell, RegistersAreWell, MarksMore, MarksOn, RootsPointWell};
 ghost use Rattle.mk_tracing.specs.Stops.{IsWanted, is_root, still_words};
 
 use crate::stepping::look_at_root;
@@ -41,7 +41,7 @@ fn mark_registers_of(words: &Words, stop: &mut Stopped, work: &mut Worklist, cal
     requires caller { caller < words.now.config.callers }
     ensures on { MarksOn stop.old stop.new }
     ensures more { MarksMore (still_words stop.old.pass) (still_words stop.new.pass) }
-    ensures well { (r : ℕ) → r < 8 → points_well words.now.config.pages (still_words stop.new.pass) (register_word (still_words stop.old.pass) caller r) ≡ true }
+    ensures well { RegistersAreWell words.now.config stop.old.pass stop.new.pass caller }
 {
     for register in 0..REGISTERS {
         mark_root(words, stop, work, Word::Reg { caller, register });
@@ -54,7 +54,7 @@ fn mark_registers(words: &Words, stop: &mut Stopped, work: &mut Worklist)
     requires wanted { IsWanted stop.old.pass }
     ensures on { MarksOn stop.old stop.new }
     ensures more { MarksMore (still_words stop.old.pass) (still_words stop.new.pass) }
-    ensures well { (k r : ℕ) → k < words.now.config.callers → r < 8 → points_well words.now.config.pages (still_words stop.new.pass) (register_word (still_words stop.old.pass) k r) ≡ true }
+    ensures well { (k : ℕ) → k < words.now.config.callers → RegistersAreWell words.now.config stop.old.pass stop.new.pass k }
 {
     for caller in 0..words.callers() {
         mark_registers_of(words, stop, work, caller);
@@ -67,7 +67,7 @@ fn mark_globals(words: &Words, stop: &mut Stopped, work: &mut Worklist)
     requires wanted { IsWanted stop.old.pass }
     ensures on { MarksOn stop.old stop.new }
     ensures more { MarksMore (still_words stop.old.pass) (still_words stop.new.pass) }
-    ensures well { (g : ℕ) → g < 64 → points_well words.now.config.pages (still_words stop.new.pass) (slice_index (still_words stop.old.pass).globals g) ≡ true }
+    ensures well { (g : ℕ) → g < 64 → GlobalIsWell words.now.config stop.old.pass stop.new.pass g }
 {
     for global in 0..GLOBALS {
         mark_root(words, stop, work, Word::Global(global));

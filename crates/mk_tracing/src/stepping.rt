@@ -4,7 +4,7 @@ ghost use Rattle.mk_core.specs.Cells.{cell_words, first_word, has_no_pointers, h
 ghost use Rattle.mk_core.specs.Ranges.{is_word};
 ghost use Rattle.mk_core.specs.StopConditions.{may_turn_black};
 ghost use Rattle.mk_core.specs.Words.{named_word};
-ghost use Rattle.mk_tracing.specs.Grays.{HasDirtyPart, IsGray, IsInHand, IsReached, MarksOn};
+ghost use Rattle.mk_tracing.specs.Grays.{with_marks, with_blacks, without_blacks, without_dirty, HasDirtyPart, IsGray, IsInHand, IsReached, MarksOn};
 ghost use Rattle.mk_tracing.specs.Stops.{IsWanted, hand_of, is_plain, is_root, still_words};
 
 use crate::cells::{PAGE_WORDS, bit};
@@ -66,7 +66,7 @@ pub(crate) fn mark_cell(words: &Words, stop: &mut Stopped, cell: Cell)
     requires wanted { IsWanted stop.old.pass }
     requires reached { IsReached stop.old.pass cell }
     ensures on { MarksOn stop.old stop.new }
-    ensures words { still_words stop.new.pass ≡ record (still_words stop.old.pass) { marks = slice_set (still_words stop.old.pass).marks cell.page (bit_or (slice_index (still_words stop.old.pass).marks cell.page) (2 ^ cell.index)) } }
+    ensures words { still_words stop.new.pass ≡ with_marks cell.page (2 ^ cell.index) (still_words stop.old.pass) }
 {
     stop.is_in_order();
     stop.mark(words, cell.page, bit(cell.index));
@@ -80,7 +80,7 @@ pub(crate) fn blacken_cell(words: &Words, stop: &mut Stopped, cell: Cell)
     requires index { cell.index < 32 }
     requires turns { may_turn_black words.now.config.pages (still_words stop.old.pass) cell ≡ true }
     ensures on { MarksOn stop.old stop.new }
-    ensures words { still_words stop.new.pass ≡ record (still_words stop.old.pass) { blacks = slice_set (still_words stop.old.pass).blacks cell.page (bit_or (slice_index (still_words stop.old.pass).blacks cell.page) (2 ^ cell.index)) } }
+    ensures words { still_words stop.new.pass ≡ with_blacks cell.page (2 ^ cell.index) (still_words stop.old.pass) }
 {
     stop.is_in_order();
     stop.black(words, cell.page, bit(cell.index));
@@ -93,7 +93,7 @@ pub(crate) fn unblack_page(words: &Words, stop: &mut Stopped, page: u64)
     requires page { page < words.now.config.pages }
     requires part { HasDirtyPart (still_words stop.old.pass) page }
     ensures on { MarksOn stop.old stop.new }
-    ensures words { still_words stop.new.pass ≡ record (still_words stop.old.pass) { blacks = slice_set (still_words stop.old.pass).blacks page 0 } }
+    ensures words { still_words stop.new.pass ≡ without_blacks page (still_words stop.old.pass) }
 {
     stop.is_in_order();
     stop.unblack(words, page);
@@ -107,7 +107,7 @@ pub(crate) fn undirty_page(words: &Words, stop: &mut Stopped, page: u64)
     requires own { slice_index (still_words stop.old.pass).blacks page ≡ 0 }
     requires head { slice_index (still_words stop.old.pass).blacks (head_page (still_words stop.old.pass) page) ≡ 0 }
     ensures on { MarksOn stop.old stop.new }
-    ensures words { still_words stop.new.pass ≡ record (still_words stop.old.pass) { dirty = slice_set (still_words stop.old.pass).dirty page 0 } }
+    ensures words { still_words stop.new.pass ≡ without_dirty page (still_words stop.old.pass) }
 {
     stop.is_in_order();
     stop.undirty(words, page);

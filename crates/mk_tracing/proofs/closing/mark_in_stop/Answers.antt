@@ -10,7 +10,8 @@ pub returns-clause-on : goal.returns-clause-on
 returns-clause-on c =
     on_then c.args.stop.now c.mark_roots.new.stop c.trace.new.stop
     (on_then c.args.stop.now c.undirty_all.new.stop c.mark_roots.new.stop
-    (on_then c.args.stop.now c.unblack_dirty.new.stop c.undirty_all.new.stop c.unblack_dirty.ensures.on c.undirty_all.ensures.on) c.mark_roots.ensures.on)
+    (on_then c.args.stop.now c.unblack_dirty.new.stop c.undirty_all.new.stop c.unblack_dirty.ensures.on
+    c.undirty_all.ensures.on) c.mark_roots.ensures.on)
     c.trace.ensures.on
 
 pub returns-clause-clean : goal.returns-clause-clean
@@ -21,4 +22,5 @@ returns-clause-clean c p lt =
 
 pub returns-clause-roots : goal.returns-clause-roots
 returns-clause-roots c =
-    roots_more c.args.words.now.config.pages (still_words c.mark_roots.new.stop.pass) (still_words c.trace.new.stop.pass) c.trace.ensures.more c.mark_roots.ensures.roots
+    roots_more c.args.words.now.config.pages (still_words c.mark_roots.new.stop.pass)
+    (still_words c.trace.new.stop.pass) c.trace.ensures.more c.mark_roots.ensures.roots

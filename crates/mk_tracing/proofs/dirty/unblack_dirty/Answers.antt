@@ -18,8 +18,10 @@ loop-page-preserved c =
     let v = still_words c.loop-page.stop.pass in
     let x = still_words c.unblack_if_dirty.new.stop.pass in
     record {
-      on = on_then c.args.stop.now c.loop-page.stop c.unblack_if_dirty.new.stop c.loop-page.invariant.on c.unblack_if_dirty.ensures.on;
+      on = on_then c.args.stop.now c.loop-page.stop c.unblack_if_dirty.new.stop c.loop-page.invariant.on
+          c.unblack_if_dirty.ensures.on;
       fewer = blacks_then w v x c.loop-page.invariant.fewer c.unblack_if_dirty.ensures.fewer;
-      unscanned = pages_then (λ p. IsUnscanned v p) (λ p. IsUnscanned x p) c.loop-page.page (λ p u. unscanned_still v x p c.unblack_if_dirty.ensures.fewer u)
+      unscanned = pages_then (λ p. IsUnscanned v p) (λ p. IsUnscanned x p) c.loop-page.page
+          (λ p u. unscanned_still v x p c.unblack_if_dirty.ensures.fewer u)
           c.loop-page.invariant.unscanned c.unblack_if_dirty.ensures.unscanned;
     }

@@ -12,13 +12,15 @@ use Rattle.mk_tracing.proofs.dirty.unblack_if_dirty.Goals as goal
 pub returns-then-head-page-clause-on : goal.returns-then-head-page-clause-on
 returns-then-head-page-clause-on c =
     on_then c.args.stop.now c.look_at-header.new.stop c.unblack_page.new.stop
-    (on_then c.args.stop.now c.look_at.new.stop c.look_at-header.new.stop c.look_at.ensures.on c.look_at-header.ensures.on) c.unblack_page.ensures.on
+    (on_then c.args.stop.now c.look_at.new.stop c.look_at-header.new.stop c.look_at.ensures.on
+    c.look_at-header.ensures.on) c.unblack_page.ensures.on
 
 pub returns-clause-on : goal.returns-clause-on
 returns-clause-on c =
     on_then c.args.stop.now c.unblack_page.new.stop c.unblack_page-2.new.stop
     (on_then c.args.stop.now c.look_at-header.new.stop c.unblack_page.new.stop
-    (on_then c.args.stop.now c.look_at.new.stop c.look_at-header.new.stop c.look_at.ensures.on c.look_at-header.ensures.on) c.unblack_page.ensures.on)
+    (on_then c.args.stop.now c.look_at.new.stop c.look_at-header.new.stop c.look_at.ensures.on
+    c.look_at-header.ensures.on) c.unblack_page.ensures.on)
     c.unblack_page-2.ensures.on
 
 pub returns-clause-unscanned : goal.returns-clause-unscanned
@@ -29,8 +31,11 @@ returns-clause-unscanned c =
     let v = still_words c.unblack_page-2.new.stop.pass in
     let headed : Words → ℕ = λ (y : Words). head_page y page in
     let head : head_page v page ≡ c.head_page-head.result =
-    ap headed c.unblack_page-2.ensures.words ∙ ap headed c.unblack_page.ensures.words ∙ ap headed c.look_at-header.ensures.words
-    ∙ ap (λ h. head_page_under (header_of h) page) (sym c.look_at-header.ensures.found) ∙ sym c.head_page-head.ensures.exact in
+    ap headed c.unblack_page-2.ensures.words ∙ ap headed c.unblack_page.ensures.words
+    ∙ ap headed c.look_at-header.ensures.words
+    ∙ ap (λ h. head_page_under (header_of h) page) (sym c.look_at-header.ensures.found)
+    ∙ sym c.head_page-head.ensures.exact in
     cleared_unscanned v page
-    ((blacks_cleared x v c.head_page-head.result c.unblack_page-2.ensures.words).fewer page (black_cleared w x page c.unblack_page.ensures.words))
+    ((blacks_cleared x v c.head_page-head.result c.unblack_page-2.ensures.words).fewer page
+    (black_cleared w x page c.unblack_page.ensures.words))
     (ap (λ q. slice_index v.blacks q) head ∙ black_cleared x v c.head_page-head.result c.unblack_page-2.ensures.words)

@@ -6,7 +6,8 @@ pub loop-cell-init : goal.loop-cell-init
 loop-cell-init c = record { on = on_from c.args.stop.now c.requires.wanted; words = refl }
 
 pub returns-then-is_gray-clause-on : goal.returns-then-is_gray-clause-on
-returns-then-is_gray-clause-on c = on_then c.args.stop.now c.loop-cell.stop c.is_gray.new.stop c.loop-cell.invariant.on c.is_gray.ensures.on
+returns-then-is_gray-clause-on c = on_then c.args.stop.now c.loop-cell.stop c.is_gray.new.stop c.loop-cell.invariant.on
+    c.is_gray.ensures.on
 
 pub loop-cell-preserved : goal.loop-cell-preserved
 loop-cell-preserved c = record {

@@ -7,9 +7,11 @@ returns-then-cell-pages-clause-on c = on_from c.args.stop.now c.requires.wanted
 pub returns-then-has_bit-clause-on : goal.returns-then-has_bit-clause-on
 returns-then-has_bit-clause-on c =
     on_then c.args.stop.now c.look_at-marks.new.stop c.look_at-blacks.new.stop
-    (on_then c.args.stop.now c.look_at-header.new.stop c.look_at-marks.new.stop c.look_at-header.ensures.on c.look_at-marks.ensures.on) c.look_at-blacks.ensures.on
+    (on_then c.args.stop.now c.look_at-header.new.stop c.look_at-marks.new.stop c.look_at-header.ensures.on
+    c.look_at-marks.ensures.on) c.look_at-blacks.ensures.on
 
 pub returns-else-has_bit-clause-on : goal.returns-else-has_bit-clause-on
 returns-else-has_bit-clause-on c =
     on_then c.args.stop.now c.look_at-marks.new.stop c.look_at-blacks.new.stop
-    (on_then c.args.stop.now c.look_at-header.new.stop c.look_at-marks.new.stop c.look_at-header.ensures.on c.look_at-marks.ensures.on) c.look_at-blacks.ensures.on
+    (on_then c.args.stop.now c.look_at-header.new.stop c.look_at-marks.new.stop c.look_at-header.ensures.on
+    c.look_at-marks.ensures.on) c.look_at-blacks.ensures.on

@@ -24,8 +24,11 @@ loop-global-preserved c =
     let x = still_words c.mark_root.new.stop.pass in
     let pages : ℕ = c.args.words.now.config.pages in
     record {
-      on = on_then c.args.stop.now c.loop-global.stop c.mark_root.new.stop c.loop-global.invariant.on c.mark_root.ensures.on;
+      on = on_then c.args.stop.now c.loop-global.stop c.mark_root.new.stop c.loop-global.invariant.on
+          c.mark_root.ensures.on;
       more = more_then w v x c.loop-global.invariant.more c.mark_root.ensures.more;
-      well = values_then pages v x (λ g. slice_index w.globals g) c.loop-global.global c.mark_root.ensures.more c.loop-global.invariant.well
-          (subst (λ n. points_well pages x n ≡ true) (root_kept w v (word.Global c.loop-global.global) refl c.loop-global.invariant.more) c.mark_root.ensures.well);
+      well = values_then pages v x (λ g. slice_index w.globals g) c.loop-global.global c.mark_root.ensures.more
+          c.loop-global.invariant.well
+          (subst (λ n. points_well pages x n ≡ true) (root_kept w v
+          (word.Global c.loop-global.global) refl c.loop-global.invariant.more) c.mark_root.ensures.well);
     }

@@ -9,5 +9,6 @@ abbrev pub invariant-loop-global : goal.invariant-loop-global
 invariant-loop-global l = record {
   on : MarksOn l.fn.stop l.stop;
   more : MarksMore (still_words l.fn.stop.pass) (still_words l.stop.pass);
-  well : (g : ℕ) → g < l.global → points_well l.words.config.pages (still_words l.stop.pass) (slice_index (still_words l.fn.stop.pass).globals g) ≡ true;
+  well : (g : ℕ) → g < l.global → points_well l.words.config.pages (still_words l.stop.pass)
+      (slice_index (still_words l.fn.stop.pass).globals g) ≡ true;
 }

@@ -14,7 +14,7 @@ loop-caller-init c =
     record {
       on = on_from c.args.stop.now c.requires.wanted;
       more = more_same w w refl;
-      well = λ k r lt lr. absurd (omega arith);
+      well = λ k lt r lr. absurd (omega arith);
     }
 
 pub loop-caller-preserved : goal.loop-caller-preserved
@@ -24,10 +24,13 @@ loop-caller-preserved c =
     let x = still_words c.mark_registers_of.new.stop.pass in
     let pages : ℕ = c.args.words.now.config.pages in
     record {
-      on = on_then c.args.stop.now c.loop-caller.stop c.mark_registers_of.new.stop c.loop-caller.invariant.on c.mark_registers_of.ensures.on;
+      on = on_then c.args.stop.now c.loop-caller.stop c.mark_registers_of.new.stop c.loop-caller.invariant.on
+          c.mark_registers_of.ensures.on;
       more = more_then w v x c.loop-caller.invariant.more c.mark_registers_of.ensures.more;
-      well = λ k r lt lr.
-          values_then pages v x (λ j. register_word w j r) c.loop-caller.caller c.mark_registers_of.ensures.more (λ j lj. c.loop-caller.invariant.well j r lj lr)
-          (subst (λ n. points_well pages x n ≡ true) (root_kept w v (word.Reg c.loop-caller.caller r) refl c.loop-caller.invariant.more) (c.mark_registers_of.ensures.well r lr))
+      well = λ k lt r lr.
+          values_then pages v x (λ j. register_word w j r) c.loop-caller.caller c.mark_registers_of.ensures.more
+          (λ j lj. c.loop-caller.invariant.well j lj r lr)
+          (subst (λ n. points_well pages x n ≡ true) (root_kept w v
+          (word.Reg c.loop-caller.caller r) refl c.loop-caller.invariant.more) (c.mark_registers_of.ensures.well r lr))
           k lt;
     }

@@ -1,7 +1,5 @@
-use Rattle.std.proofs.Common.{◌≡◌, ℕ, ◌<◌, true}
-use Rattle.mk_core.specs.Cells.{points_well}
-use Rattle.mk_core.specs.Words.{register_word}
-use Rattle.mk_tracing.specs.Grays.{MarksMore, MarksOn}
+use Rattle.std.proofs.Common.{ℕ, ◌<◌}
+use Rattle.mk_tracing.specs.Grays.{RegistersAreWell, MarksMore, MarksOn}
 use Rattle.mk_tracing.specs.Stops.{still_words}
 use Rattle.mk_tracing.proofs.roots.mark_registers.Given as goal
 
@@ -9,5 +7,5 @@ abbrev pub invariant-loop-caller : goal.invariant-loop-caller
 invariant-loop-caller l = record {
   on : MarksOn l.fn.stop l.stop;
   more : MarksMore (still_words l.fn.stop.pass) (still_words l.stop.pass);
-  well : (k r : ℕ) → k < l.caller → r < 8 → points_well l.words.config.pages (still_words l.stop.pass) (register_word (still_words l.fn.stop.pass) k r) ≡ true;
+  well : (k : ℕ) → k < l.caller → RegistersAreWell l.words.config l.fn.stop.pass l.stop.pass k;
 }

@@ -24,8 +24,12 @@ loop-register-preserved c =
     let x = still_words c.mark_root.new.stop.pass in
     let pages : ℕ = c.args.words.now.config.pages in
     record {
-      on = on_then c.args.stop.now c.loop-register.stop c.mark_root.new.stop c.loop-register.invariant.on c.mark_root.ensures.on;
+      on = on_then c.args.stop.now c.loop-register.stop c.mark_root.new.stop c.loop-register.invariant.on
+          c.mark_root.ensures.on;
       more = more_then w v x c.loop-register.invariant.more c.mark_root.ensures.more;
-      well = values_then pages v x (λ r. register_word w c.args.caller r) c.loop-register.register c.mark_root.ensures.more c.loop-register.invariant.well
-          (subst (λ n. points_well pages x n ≡ true) (root_kept w v (word.Reg c.args.caller c.loop-register.register) refl c.loop-register.invariant.more) c.mark_root.ensures.well);
+      well = values_then pages v x (λ r. register_word w c.args.caller r) c.loop-register.register
+          c.mark_root.ensures.more c.loop-register.invariant.well
+          (subst (λ n. points_well pages x n ≡ true) (root_kept w v
+          (word.Reg c.args.caller c.loop-register.register) refl c.loop-register.invariant.more)
+          c.mark_root.ensures.well);
     }

@@ -9,5 +9,7 @@ abbrev pub invariant-loop-register : goal.invariant-loop-register
 invariant-loop-register l = record {
   on : MarksOn l.fn.stop l.stop;
   more : MarksMore (still_words l.fn.stop.pass) (still_words l.stop.pass);
-  well : (r : ℕ) → r < l.register → points_well l.words.config.pages (still_words l.stop.pass) (register_word (still_words l.fn.stop.pass) l.caller r) ≡ true;
+  well : (r : ℕ) → r < l.register
+      → points_well l.words.config.pages (still_words l.stop.pass)
+      (register_word (still_words l.fn.stop.pass) l.caller r) ≡ true;
 }

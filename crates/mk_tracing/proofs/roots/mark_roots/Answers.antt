@@ -12,7 +12,8 @@ use Rattle.mk_tracing.proofs.roots.mark_roots.Goals as goal
 
 pub returns-clause-on : goal.returns-clause-on
 returns-clause-on c =
-    on_then c.args.stop.now c.mark_registers.new.stop c.mark_globals.new.stop c.mark_registers.ensures.on c.mark_globals.ensures.on
+    on_then c.args.stop.now c.mark_registers.new.stop c.mark_globals.new.stop c.mark_registers.ensures.on
+    c.mark_globals.ensures.on
 
 pub returns-clause-roots : goal.returns-clause-roots
 returns-clause-roots c =
@@ -22,8 +23,10 @@ returns-clause-roots c =
     let x = still_words c.mark_globals.new.stop.pass in
     let pages : ℕ = c.args.words.now.config.pages in
     let more : MarksMore w x = more_then w v x c.mark_registers.ensures.more c.mark_globals.ensures.more in
-    roots_well p pages x c.is_in_order.ensures.history (sym (ap (λ (t : WordsState). t.config.pages) c.requires.one_table))
+    roots_well p pages x c.is_in_order.ensures.history (sym (ap
+    (λ (t : WordsState). t.config.pages) c.requires.one_table))
     (ap (λ (y : Words). y.registers) more.is) (ap (λ (y : Words). y.globals) more.is)
     (λ k r lk lr. well_more pages v x (register_word w k r) c.mark_globals.ensures.more
-    (c.mark_registers.ensures.well k r (subst (λ (t : WordsState). k < t.config.callers) c.requires.one_table lk) lr))
-    (λ g lg. subst (λ (y : Words). points_well pages x (slice_index y.globals g) ≡ true) c.mark_registers.ensures.more.is (c.mark_globals.ensures.well g lg))
+    (c.mark_registers.ensures.well k (subst (λ (t : WordsState). k < t.config.callers) c.requires.one_table lk) r lr))
+    (λ g lg. subst (λ (y : Words). points_well pages x (slice_index y.globals g) ≡ true)
+    c.mark_registers.ensures.more.is (c.mark_globals.ensures.well g lg))

@@ -15,14 +15,20 @@ black-requires-clause-enabled c =
     let p = c.args.stop.now.pass in
     subst (λ v. IsEnabledTo p (step.Black c.args.cell.page v)) (sym c.bit.ensures)
     (may_black_cell p c.requires.wanted (c.is_in_order.ensures.turn.holds, c.is_in_order.ensures.gates) c.args.cell
-    (subst (λ (t : WordsState). c.args.cell.page < t.config.pages) (sym c.requires.one_table) c.requires.page) c.requires.index
-    (subst (λ (t : WordsState). may_turn_black t.config.pages (still_words p) c.args.cell ≡ true) (sym c.requires.one_table) c.requires.turns))
+    (subst (λ (t : WordsState). c.args.cell.page < t.config.pages) (sym c.requires.one_table) c.requires.page)
+    c.requires.index
+    (subst (λ (t : WordsState). may_turn_black t.config.pages (still_words p) c.args.cell ≡ true)
+    (sym c.requires.one_table) c.requires.turns))
 
 pub returns-clause-on : goal.returns-clause-on
 returns-clause-on c =
-    on_black c.args.stop.now c.black.new.self c.requires.wanted (c.is_in_order.ensures.turn.holds, c.is_in_order.ensures.gates) c.is_in_order.ensures.own c.black.ensures.op c.args.cell.page c.bit.result c.black.ensures.acts
+    on_black c.args.stop.now c.black.new.self c.requires.wanted
+    (c.is_in_order.ensures.turn.holds, c.is_in_order.ensures.gates) c.is_in_order.ensures.own c.black.ensures.op
+    c.args.cell.page c.bit.result c.black.ensures.acts
 
 pub returns-clause-words : goal.returns-clause-words
 returns-clause-words c =
-    black_words c.args.stop.now.pass c.black.new.self.pass c.requires.wanted (c.is_in_order.ensures.turn.holds, c.is_in_order.ensures.gates) c.args.cell.page (2 ^ c.args.cell.index)
-    (subst (λ v. Acts c.args.stop.now.pass (step.Black c.args.cell.page v) c.black.new.self.pass) c.bit.ensures c.black.ensures.acts)
+    black_words c.args.stop.now.pass c.black.new.self.pass c.requires.wanted
+    (c.is_in_order.ensures.turn.holds, c.is_in_order.ensures.gates) c.args.cell.page (2 ^ c.args.cell.index)
+    (subst (λ v. Acts c.args.stop.now.pass (step.Black c.args.cell.page v) c.black.new.self.pass) c.bit.ensures
+    c.black.ensures.acts)

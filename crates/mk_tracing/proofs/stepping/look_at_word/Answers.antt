@@ -16,52 +16,69 @@ pub look-requires-clause-enabled : goal.look-requires-clause-enabled
 look-requires-clause-enabled c =
     let p = c.args.stop.now.pass in
     let gray : IsGray p.table.config.pages (still_words p) c.args.cell =
-    subst (λ (t : WordsState). IsGray t.config.pages (still_words p) c.args.cell) (sym c.requires.one_table) c.requires.gray in
-    subst (λ k. IsEnabledTo p (step.Look (word.Heap (64 * c.args.cell.page + c.args.cell.index * k + c.args.i)))) (sym c.requires.size)
-    (may_look p c.requires.wanted (c.is_in_order.ensures.turn.holds, c.is_in_order.ensures.gates) (word.Heap (first_word (still_words p) c.args.cell + c.args.i))
-    (word_named p c.is_in_order.ensures.history c.args.cell c.args.i gray c.requires.scanned (subst (λ k. c.args.i < k) c.requires.size c.requires.within)))
+    subst (λ (t : WordsState). IsGray t.config.pages (still_words p) c.args.cell)
+    (sym c.requires.one_table) c.requires.gray in
+    subst (λ k. IsEnabledTo p (step.Look (word.Heap (64 * c.args.cell.page + c.args.cell.index * k + c.args.i))))
+    (sym c.requires.size)
+    (may_look p c.requires.wanted (c.is_in_order.ensures.turn.holds, c.is_in_order.ensures.gates)
+    (word.Heap (first_word (still_words p) c.args.cell + c.args.i))
+    (word_named p c.is_in_order.ensures.history c.args.cell c.args.i gray c.requires.scanned
+    (subst (λ k. c.args.i < k) c.requires.size c.requires.within)))
 
 pub overflow_mul-word-2 : goal.overflow_mul-word-2
 overflow_mul-word-2 c =
     let p = c.args.stop.now.pass in
     let gray : IsGray p.table.config.pages (still_words p) c.args.cell =
-    subst (λ (t : WordsState). IsGray t.config.pages (still_words p) c.args.cell) (sym c.requires.one_table) c.requires.gray in
-    let near = word_near p c.is_in_order.ensures.history c.args.cell c.args.i c.args.size gray c.requires.scanned c.requires.size c.requires.within in
+    subst (λ (t : WordsState). IsGray t.config.pages (still_words p) c.args.cell)
+    (sym c.requires.one_table) c.requires.gray in
+    let near = word_near p c.is_in_order.ensures.history c.args.cell c.args.i c.args.size gray c.requires.scanned
+    c.requires.size c.requires.within in
     omega arith
 
 pub overflow_add-word : goal.overflow_add-word
 overflow_add-word c =
     let p = c.args.stop.now.pass in
     let gray : IsGray p.table.config.pages (still_words p) c.args.cell =
-    subst (λ (t : WordsState). IsGray t.config.pages (still_words p) c.args.cell) (sym c.requires.one_table) c.requires.gray in
-    let near = word_near p c.is_in_order.ensures.history c.args.cell c.args.i c.args.size gray c.requires.scanned c.requires.size c.requires.within in
+    subst (λ (t : WordsState). IsGray t.config.pages (still_words p) c.args.cell)
+    (sym c.requires.one_table) c.requires.gray in
+    let near = word_near p c.is_in_order.ensures.history c.args.cell c.args.i c.args.size gray c.requires.scanned
+    c.requires.size c.requires.within in
     omega arith
 
 pub overflow_add-word-2 : goal.overflow_add-word-2
 overflow_add-word-2 c =
     let p = c.args.stop.now.pass in
     let gray : IsGray p.table.config.pages (still_words p) c.args.cell =
-    subst (λ (t : WordsState). IsGray t.config.pages (still_words p) c.args.cell) (sym c.requires.one_table) c.requires.gray in
-    let near = word_near p c.is_in_order.ensures.history c.args.cell c.args.i c.args.size gray c.requires.scanned c.requires.size c.requires.within in
+    subst (λ (t : WordsState). IsGray t.config.pages (still_words p) c.args.cell)
+    (sym c.requires.one_table) c.requires.gray in
+    let near = word_near p c.is_in_order.ensures.history c.args.cell c.args.i c.args.size gray c.requires.scanned
+    c.requires.size c.requires.within in
     omega arith
 
 pub returns-clause-on : goal.returns-clause-on
 returns-clause-on c =
     let p = c.args.stop.now.pass in
     let gray : IsGray p.table.config.pages (still_words p) c.args.cell =
-    subst (λ (t : WordsState). IsGray t.config.pages (still_words p) c.args.cell) (sym c.requires.one_table) c.requires.gray in
-    on_word c.args.stop.now c.look.new.self c.requires.wanted (c.is_in_order.ensures.turn.holds, c.is_in_order.ensures.gates) c.is_in_order.ensures.own c.look.ensures.op
+    subst (λ (t : WordsState). IsGray t.config.pages (still_words p) c.args.cell)
+    (sym c.requires.one_table) c.requires.gray in
+    on_word c.args.stop.now c.look.new.self c.requires.wanted
+    (c.is_in_order.ensures.turn.holds, c.is_in_order.ensures.gates) c.is_in_order.ensures.own c.look.ensures.op
     (first_word (still_words p) c.args.cell + c.args.i)
-    (subst (λ k. Acts p (step.Look (word.Heap (64 * c.args.cell.page + c.args.cell.index * k + c.args.i))) c.look.new.self.pass) c.requires.size c.look.ensures.acts)
-    (gray_word p.table.config.pages (still_words p) c.args.cell c.args.i gray (subst (λ k. c.args.i < k) c.requires.size c.requires.within))
+    (subst (λ k. Acts p (step.Look (word.Heap (64 * c.args.cell.page + c.args.cell.index * k + c.args.i)))
+    c.look.new.self.pass) c.requires.size c.look.ensures.acts)
+    (gray_word p.table.config.pages (still_words p) c.args.cell c.args.i gray
+    (subst (λ k. c.args.i < k) c.requires.size c.requires.within))
 
 pub returns-clause-found : goal.returns-clause-found
 returns-clause-found c =
     let p = c.args.stop.now.pass in
-    look_finds p c.look.new.self.pass c.requires.wanted (c.is_in_order.ensures.turn.holds, c.is_in_order.ensures.gates) (word.Heap (first_word (still_words p) c.args.cell + c.args.i))
-    (subst (λ k. Acts p (step.Look (word.Heap (64 * c.args.cell.page + c.args.cell.index * k + c.args.i))) c.look.new.self.pass) c.requires.size c.look.ensures.acts)
+    look_finds p c.look.new.self.pass c.requires.wanted (c.is_in_order.ensures.turn.holds, c.is_in_order.ensures.gates)
+    (word.Heap (first_word (still_words p) c.args.cell + c.args.i))
+    (subst (λ k. Acts p (step.Look (word.Heap (64 * c.args.cell.page + c.args.cell.index * k + c.args.i)))
+    c.look.new.self.pass) c.requires.size c.look.ensures.acts)
     c.look.result
-    (subst (λ k. Finds p (step.Look (word.Heap (64 * c.args.cell.page + c.args.cell.index * k + c.args.i))) c.look.result c.look.new.self.pass) c.requires.size c.look.ensures.finds)
+    (subst (λ k. Finds p (step.Look (word.Heap (64 * c.args.cell.page + c.args.cell.index * k + c.args.i)))
+    c.look.result c.look.new.self.pass) c.requires.size c.look.ensures.finds)
     refl refl
 
 pub returns-clause-hand : goal.returns-clause-hand
@@ -70,10 +87,16 @@ returns-clause-hand c =
     let q = c.look.new.self.pass in
     let n : ℕ = first_word (still_words p) c.args.cell + c.args.i in
     let gray : IsGray p.table.config.pages (still_words p) c.args.cell =
-    subst (λ (t : WordsState). IsGray t.config.pages (still_words p) c.args.cell) (sym c.requires.one_table) c.requires.gray in
+    subst (λ (t : WordsState). IsGray t.config.pages (still_words p) c.args.cell)
+    (sym c.requires.one_table) c.requires.gray in
     let a : Acts p (step.Look (word.Heap n)) q =
-    subst (λ k. Acts p (step.Look (word.Heap (64 * c.args.cell.page + c.args.cell.index * k + c.args.i))) q) c.requires.size c.look.ensures.acts in
+    subst (λ k. Acts p (step.Look (word.Heap (64 * c.args.cell.page + c.args.cell.index * k + c.args.i))) q)
+    c.requires.size c.look.ensures.acts in
     let f : Finds p (step.Look (word.Heap n)) c.look.result q =
-    subst (λ k. Finds p (step.Look (word.Heap (64 * c.args.cell.page + c.args.cell.index * k + c.args.i))) c.look.result q) c.requires.size c.look.ensures.finds in
-    word_hand p c.is_in_order.ensures.history c.args.cell c.args.i gray c.requires.scanned (subst (λ k. c.args.i < k) c.requires.size c.requires.within)
-    q c.requires.wanted (c.is_in_order.ensures.turn.holds, c.is_in_order.ensures.gates) c.look.result a f (look_finds p q c.requires.wanted (c.is_in_order.ensures.turn.holds, c.is_in_order.ensures.gates) (word.Heap n) a c.look.result f refl refl)
+    subst (λ k. Finds p (step.Look (word.Heap (64 * c.args.cell.page + c.args.cell.index * k + c.args.i))) c.look.result
+    q) c.requires.size c.look.ensures.finds in
+    word_hand p c.is_in_order.ensures.history c.args.cell c.args.i gray c.requires.scanned
+    (subst (λ k. c.args.i < k) c.requires.size c.requires.within)
+    q c.requires.wanted (c.is_in_order.ensures.turn.holds, c.is_in_order.ensures.gates) c.look.result a f
+    (look_finds p q c.requires.wanted (c.is_in_order.ensures.turn.holds, c.is_in_order.ensures.gates)
+    (word.Heap n) a c.look.result f refl refl)

@@ -13,14 +13,23 @@ bit-requires c = (reached_within c.args.stop.now.pass c.args.cell c.requires.rea
 pub mark-requires-clause-enabled : goal.mark-requires-clause-enabled
 mark-requires-clause-enabled c =
     subst (λ v. IsEnabledTo c.args.stop.now.pass (step.Mark c.args.cell.page v)) (sym c.bit.ensures)
-    (may_mark_cell c.args.stop.now.pass c.requires.wanted (c.is_in_order.ensures.turn.holds, c.is_in_order.ensures.gates) c.args.cell c.requires.reached (reached_within c.args.stop.now.pass c.args.cell c.requires.reached).0)
+    (may_mark_cell c.args.stop.now.pass c.requires.wanted (
+      c.is_in_order.ensures.turn.holds,
+      c.is_in_order.ensures.gates,
+    ) c.args.cell c.requires.reached
+    (reached_within c.args.stop.now.pass c.args.cell c.requires.reached).0)
 
 pub returns-clause-on : goal.returns-clause-on
 returns-clause-on c =
-    on_mark c.args.stop.now c.mark.new.self c.requires.wanted (c.is_in_order.ensures.turn.holds, c.is_in_order.ensures.gates) c.is_in_order.ensures.own c.mark.ensures.op c.args.cell
-    (subst (λ v. Acts c.args.stop.now.pass (step.Mark c.args.cell.page v) c.mark.new.self.pass) c.bit.ensures c.mark.ensures.acts) c.requires.reached
+    on_mark c.args.stop.now c.mark.new.self c.requires.wanted
+    (c.is_in_order.ensures.turn.holds, c.is_in_order.ensures.gates) c.is_in_order.ensures.own c.mark.ensures.op
+    c.args.cell
+    (subst (λ v. Acts c.args.stop.now.pass (step.Mark c.args.cell.page v) c.mark.new.self.pass) c.bit.ensures
+    c.mark.ensures.acts) c.requires.reached
 
 pub returns-clause-words : goal.returns-clause-words
 returns-clause-words c =
-    mark_words c.args.stop.now.pass c.mark.new.self.pass c.requires.wanted (c.is_in_order.ensures.turn.holds, c.is_in_order.ensures.gates) c.args.cell.page (2 ^ c.args.cell.index)
-    (subst (λ v. Acts c.args.stop.now.pass (step.Mark c.args.cell.page v) c.mark.new.self.pass) c.bit.ensures c.mark.ensures.acts)
+    mark_words c.args.stop.now.pass c.mark.new.self.pass c.requires.wanted
+    (c.is_in_order.ensures.turn.holds, c.is_in_order.ensures.gates) c.args.cell.page (2 ^ c.args.cell.index)
+    (subst (λ v. Acts c.args.stop.now.pass (step.Mark c.args.cell.page v) c.mark.new.self.pass) c.bit.ensures
+    c.mark.ensures.acts)

@@ -12,9 +12,11 @@ blacken_cell-requires-clause-index c =
     omega arith
 
 pub returns-clause-on : goal.returns-clause-on
-returns-clause-on c = on_then c.args.stop.now c.scan_if_due.new.stop c.blacken_cell.new.stop c.scan_if_due.ensures.on c.blacken_cell.ensures.on
+returns-clause-on c = on_then c.args.stop.now c.scan_if_due.new.stop c.blacken_cell.new.stop c.scan_if_due.ensures.on
+    c.blacken_cell.ensures.on
 
 pub returns-clause-one : goal.returns-clause-one
 returns-clause-one c =
-    blackens_one (still_words c.args.stop.now.pass) (still_words c.scan_if_due.new.stop.pass) (still_words c.blacken_cell.new.stop.pass) c.args.cell
+    blackens_one (still_words c.args.stop.now.pass) (still_words c.scan_if_due.new.stop.pass)
+    (still_words c.blacken_cell.new.stop.pass) c.args.cell
     c.scan_if_due.ensures.more c.blacken_cell.ensures.words

@@ -19,7 +19,8 @@ loop-i-init c = record {
 
 pub look_at_word-value-requires-clause-gray : goal.look_at_word-value-requires-clause-gray
 look_at_word-value-requires-clause-gray c =
-    gray_kept c.args.words.now.config.pages (still_words c.args.stop.now.pass) (still_words c.loop-i.stop.pass) c.args.cell c.requires.gray c.loop-i.invariant.more
+    gray_kept c.args.words.now.config.pages (still_words c.args.stop.now.pass)
+    (still_words c.loop-i.stop.pass) c.args.cell c.requires.gray c.loop-i.invariant.more
 
 pub look_at_word-value-requires-clause-scanned : goal.look_at_word-value-requires-clause-scanned
 look_at_word-value-requires-clause-scanned c =
@@ -35,18 +36,23 @@ loop-i-preserved c =
     let w = still_words c.args.stop.now.pass in
     let v = still_words c.loop-i.stop.pass in
     let x = still_words c.mark_value-marked.new.stop.pass in
-    let more : MarksMore v x = subst (λ (y : Words). MarksMore y x) c.look_at_word-value.ensures.words c.mark_value-marked.ensures.more in
+    let more : MarksMore v x = subst (λ (y : Words). MarksMore y x) c.look_at_word-value.ensures.words
+    c.mark_value-marked.ensures.more in
     record {
       on = on_then c.args.stop.now c.look_at_word-value.new.stop c.mark_value-marked.new.stop
-          (on_then c.args.stop.now c.loop-i.stop c.look_at_word-value.new.stop c.loop-i.invariant.on c.look_at_word-value.ensures.on)
+          (on_then c.args.stop.now c.loop-i.stop c.look_at_word-value.new.stop c.loop-i.invariant.on
+          c.look_at_word-value.ensures.on)
           c.mark_value-marked.ensures.on;
       more = more_then w v x c.loop-i.invariant.more more;
-      well = values_then pages v x (λ j. slice_index w.heap (first_word w c.args.cell + j)) c.loop-i.i more c.loop-i.invariant.well
-          (subst (λ n. points_well pages x n ≡ true) (c.look_at_word-value.ensures.found ∙ cell_kept w v c.args.cell c.loop-i.i c.loop-i.invariant.more)
+      well = values_then pages v x (λ j. slice_index w.heap (first_word w c.args.cell + j)) c.loop-i.i more
+          c.loop-i.invariant.well
+          (subst (λ n. points_well pages x n ≡ true) (c.look_at_word-value.ensures.found
+          ∙ cell_kept w v c.args.cell c.loop-i.i c.loop-i.invariant.more)
           c.mark_value-marked.ensures.well);
     }
 
 pub returns-clause-well : goal.returns-clause-well
 returns-clause-well c =
-    scan_done c.args.words.now.config.pages (still_words c.args.stop.now.pass) (still_words c.loop-i.stop.pass) c.args.cell c.loop-i.invariant.more
+    scan_done c.args.words.now.config.pages (still_words c.args.stop.now.pass)
+    (still_words c.loop-i.stop.pass) c.args.cell c.loop-i.invariant.more
     (λ j lt. c.loop-i.invariant.well j (let is = c.requires.size in let end = c.loop-i-test.false in omega arith))

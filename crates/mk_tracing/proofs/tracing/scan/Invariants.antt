@@ -10,5 +10,6 @@ invariant-loop-i l = record {
   on : MarksOn l.fn.stop l.stop;
   more : MarksMore (still_words l.fn.stop.pass) (still_words l.stop.pass);
   well : (j : ℕ) → j < l.i
-      → points_well l.words.config.pages (still_words l.stop.pass) (slice_index (still_words l.fn.stop.pass).heap (first_word (still_words l.fn.stop.pass) l.cell + j)) ≡ true;
+      → points_well l.words.config.pages (still_words l.stop.pass)
+      (slice_index (still_words l.fn.stop.pass).heap (first_word (still_words l.fn.stop.pass) l.cell + j)) ≡ true;
 }

@@ -10,7 +10,8 @@ returns-then-value-lt-HEAP_START-clause-on c = on_from c.args.stop.now c.require
 
 pub returns-then-value-lt-HEAP_START-clause-points : goal.returns-then-value-lt-HEAP_START-clause-points
 returns-then-value-lt-HEAP_START-clause-points c =
-    sym (outside_none c.args.words.now.config.pages (still_words c.args.stop.now.pass).pages c.args.value (inl c.if-value-lt-HEAP_START.true))
+    sym (outside_none c.args.words.now.config.pages (still_words c.args.stop.now.pass).pages c.args.value
+    (inl c.if-value-lt-HEAP_START.true))
 
 pub returns-then-page-pages-clause-on : goal.returns-then-page-pages-clause-on
 returns-then-page-pages-clause-on c = on_from c.args.stop.now c.requires.wanted
