@@ -1,10 +1,13 @@
 -- Black and dirty words that are cleared.
-use Rattle.std.proofs.Common.{◌≡◌, ◌≢◌, ℕ, ◌+◌, ◌<◌, List, length, refl, sym, ◌∙◌, ap, subst, inl, inr, arith}
+use Rattle.std.proofs.Common.{◌⊎◌, ◌≡◌, ◌≢◌, ℕ, ◌+◌, ◌<◌, List, length, refl, sym, ◌∙◌, ap, subst, inl, inr, arith}
 use Rattle.std.specs.Prelude.{slice_index, slice_set}
 use Rattle.std.proofs.lemmas.Bool.{cases_eq, cases_lt}
 use Rattle.std.proofs.lemmas.List.{get_or-set_same, get_or-set_other, set_past, get_or_past}
 use Rattle.mk_core.specs.Words.{Words}
 use Rattle.mk_core.specs.Cells.{head_page}
+use Rattle.mk_words.specs.States.{PassState}
+use Rattle.mk_tracing.specs.Stops.{still_words}
+use Rattle.mk_tracing.proofs.DirtyWords.{dirty_is_one}
 use Rattle.mk_tracing.specs.Grays.{BlacksFewer, DirtyFewer, HasDirtyPart, IsUnscanned}
 
 -- a word that is cleared, and the others
@@ -94,12 +97,28 @@ pub cleared_unscanned : (v : Words) (page : ℕ) → slice_index v.blacks page �
     → slice_index v.blacks (head_page v page) ≡ 0 → IsUnscanned v page
 cleared_unscanned v page own head = record { own = λ some. own; head = λ some. head }
 
-pub own_part : (w : Words) (page : ℕ) → slice_index w.dirty page ≢ 0 → HasDirtyPart w page
-own_part w page some = record { part = page; dirty = some; of = inl refl }
+pub own_part : (p : PassState) (page : ℕ) → slice_index (still_words p).dirty page ≢ 0
+    → HasDirtyPart (still_words p) page
+own_part p page some =
+    record { part = page; dirty = dirty_is_one p.table.config p.seen page some; of = inl refl }
 
-pub head_part : (w : Words) (page head : ℕ) → slice_index w.dirty page ≢ 0 → head_page w page ≡ head
-    → HasDirtyPart w head
-head_part w page head some is = record { part = page; dirty = some; of = inr is }
+pub head_part : (p : PassState) (page head : ℕ) → slice_index (still_words p).dirty page ≢ 0
+    → head_page (still_words p) page ≡ head → HasDirtyPart (still_words p) head
+head_part p page head some is =
+    record { part = page; dirty = dirty_is_one p.table.config p.seen page some; of = inr is }
+
+-- such a part is one in the same words but for the black ones
+pub part_kept : (w v : Words) (page : ℕ) → BlacksFewer w v → HasDirtyPart w page → HasDirtyPart v page
+part_kept w v page fewer h =
+    record {
+      part = h.part;
+      dirty = ap (λ (x : Words). slice_index x.dirty h.part) fewer.is ∙ h.dirty;
+      of = by h.of;
+    }
+  where
+    by : (h.part ≡ page) ⊎ (head_page w h.part ≡ page) → (h.part ≡ page) ⊎ (head_page v h.part ≡ page)
+    by (inl e) = inl e
+    by (inr e) = inr (ap (λ (x : Words). head_page x h.part) fewer.is ∙ e)
 
 -- what holds of each page below one, and of the next
 pub pages_then : (P Q : ℕ → Type 0) (i : ℕ) → ((p : ℕ) → P p → Q p) → ((p : ℕ) → p < i → P p) → Q i → (p : ℕ)

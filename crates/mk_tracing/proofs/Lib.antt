@@ -11,3 +11,4 @@ pub mod NoGrays
 pub mod Blackened
 pub mod Clearing
 pub mod Closes
+pub mod DirtyWords

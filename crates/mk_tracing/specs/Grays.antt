@@ -36,10 +36,10 @@ pub record IsGrayWord (pages : ℕ) (w : Words) (n : ℕ) : Type 0 where
   pub least : first_word w cell ≤ n
   pub below : n < first_word w cell + cell_words w cell
 
--- The dirty word of the page isn't 0, or that of a page of the run headed there.
+-- The dirty word of the page is 1, or that of a page of the run headed there.
 pub record HasDirtyPart (w : Words) (page : ℕ) : Type 0 where
   pub part : ℕ
-  pub dirty : slice_index w.dirty part ≢ 0
+  pub dirty : slice_index w.dirty part ≡ 1
   pub of : (part ≡ page) ⊎ (head_page w part ≡ page)
 
 -- A mark by the hand, whose value stood in a root or in a cell that was marked: no sweeping mark.
@@ -74,8 +74,7 @@ pub record IsReached (p : PassState) (cell : Cell) : Type 0 where
   pub in_hand : IsInHand p value
   pub points : pointed_cell p.table.config.pages (still_words p).pages value ≡ Some cell
 
--- The words with one of them changed: bits are added to a page's mark or black word, or its black or dirty word is
--- cleared.
+-- The words with one of them changed: a page's mark or black word gets bits, or its black or dirty word is cleared.
 
 abbrev pub with_marks : ℕ → ℕ → Words → Words
 with_marks p bits w = record w { marks = slice_set w.marks p (bit_or (slice_index w.marks p) bits) }
@@ -144,5 +143,5 @@ pub record DirtyFewer (w v : Words) : Type 0 where
 
 -- Such steps make no sweeping mark.
 abbrev pub ReachedMarksSweepNothing : Type 0
-ReachedMarksSweepNothing = (c : Config) (m : Moment) (f : Flight)
-    (s : Step) → TracesReached c m s → sweeps c m f s ≡ false
+ReachedMarksSweepNothing =
+    (c : Config) (m : Moment) (f : Flight) (s : Step) → TracesReached c m s → sweeps c m f s ≡ false

@@ -5,7 +5,7 @@ use Rattle.mk_geom.specs.Headers.{header_of}
 use Rattle.mk_core.specs.Cells.{head_page}
 use Rattle.mk_core.specs.Words.{Words}
 use Rattle.mk_tracing.specs.Stops.{still_words}
-use Rattle.mk_tracing.proofs.Clearing.{black_cleared, blacks_cleared, cleared_unscanned}
+use Rattle.mk_tracing.proofs.Clearing.{own_part, head_part, part_kept, black_cleared, blacks_cleared, cleared_unscanned}
 use Rattle.mk_tracing.proofs.StopSteps.{on_then}
 use Rattle.mk_tracing.proofs.dirty.unblack_if_dirty.Goals as goal
 
@@ -39,3 +39,28 @@ returns-clause-unscanned c =
     ((blacks_cleared x v c.head_page-head.result c.unblack_page-2.ensures.words).fewer page
     (black_cleared w x page c.unblack_page.ensures.words))
     (ap (λ q. slice_index v.blacks q) head ∙ black_cleared x v c.head_page-head.result c.unblack_page-2.ensures.words)
+
+pub unblack_page-requires-clause-part : goal.unblack_page-requires-clause-part
+unblack_page-requires-clause-part c =
+    let q = c.look_at-header.new.stop.pass in
+    let same : still_words q ≡ still_words c.args.stop.now.pass = c.look_at-header.ensures.words
+    ∙ c.look_at.ensures.words in
+    own_part q c.args.page
+    (λ z. c.if-look_at-eq0.false (c.look_at.ensures.found ∙ sym
+    (ap (λ (w : Words). slice_index w.dirty c.args.page) same) ∙ z))
+
+pub unblack_page-requires-2-clause-part : goal.unblack_page-requires-2-clause-part
+unblack_page-requires-2-clause-part c =
+    let page : ℕ = c.args.page in
+    let q = c.look_at-header.new.stop.pass in
+    let same : still_words q ≡ still_words c.args.stop.now.pass = c.look_at-header.ensures.words
+    ∙ c.look_at.ensures.words in
+    let head : head_page (still_words q) page ≡ c.head_page-head.result =
+    ap (λ (w : Words). head_page w page) c.look_at-header.ensures.words
+    ∙ ap (λ h. head_page_under (header_of h) page) (sym c.look_at-header.ensures.found)
+    ∙ sym c.head_page-head.ensures.exact in
+    part_kept (still_words q) (still_words c.unblack_page.new.stop.pass) c.head_page-head.result
+    (blacks_cleared (still_words q) (still_words c.unblack_page.new.stop.pass) page c.unblack_page.ensures.words)
+    (head_part q page c.head_page-head.result
+    (λ z. c.if-look_at-eq0.false (c.look_at.ensures.found ∙ sym (ap (λ (w : Words). slice_index w.dirty page) same)
+    ∙ z)) head)
