@@ -1,5 +1,5 @@
 -- What the steps of a caller's call find and leave.
-use Rattle.std.proofs.Common.{◌≡◌, ◌≢◌, ℕ, ◌+◌, ◌*◌, ◌<◌, ◌≤◌, Bool, true, false, List, [], ◌∷◌, ◌++◌, length, refl, sym, ◌∙◌, ap, subst, arith}
+use Rattle.std.proofs.Common.{◌≡◌, ◌≢◌, ℕ, ◌+◌, ◌*◌, ◌<◌, ◌≤◌, Bool, true, false, List, ◌++◌, length, refl, sym, ◌∙◌, ap, subst, arith}
 use Rattle.std.specs.Prelude.{slice_index, slice_set, ◌==◌, Some, None, if◌then◌else◌, not, ◌&&◌}
 use Rattle.std.proofs.lemmas.Bool.{ltb-true, eq-eqb, ne_eqb}
 use Rattle.std.proofs.lemmas.List.{get_or-set_same, get_or-set_other}
@@ -9,7 +9,6 @@ use Rattle.mk_core.specs.declared.events.Answer.TheVariants as answer
 use Rattle.mk_core.specs.declared.events.Seat.{Seat}
 use Rattle.mk_core.specs.declared.events.Seat.TheVariants.{Caller, Marker, Host}
 use Rattle.mk_core.specs.declared.events.Step.{Step}
-use Rattle.mk_core.specs.declared.events.Event.{Event}
 use Rattle.mk_core.specs.declared.events.Group.{Group}
 use Rattle.mk_core.specs.declared.events.Group.TheVariants as group
 use Rattle.mk_core.specs.declared.accesses.Access.{Access}
@@ -31,17 +30,16 @@ use Rattle.mk_core.specs.HeldGates.{is_gate_held}
 use Rattle.mk_core.specs.Accesses.{reached, access, found, caller_number, register_met, reg_access}
 use Rattle.mk_core.specs.Moments.{Moment, flight_of}
 use Rattle.mk_core.specs.Effects.{progress, begins_where_free, moment_behind, answer_decided}
-use Rattle.mk_core.specs.History.{World, left, IsHistory}
+use Rattle.mk_core.specs.History.{World, IsHistory}
 use Rattle.mk_core.proofs.Lengths.{histories_keep_lengths}
-use Rattle.mk_protocol.specs.Protocol.{Protocol}
 use Rattle.mk_protocol.proofs.NextSteps.{at_enter}
 use Rattle.mk_protocol.proofs.HeldGates.{gates_tell_holds}
 use Rattle.mk_words.specs.Seats.{Has}
-use Rattle.mk_words.specs.States.{PassState, now_of, call_of, world_of, event_of}
+use Rattle.mk_words.specs.States.{PassState, now_of, call_of, event_of}
 use Rattle.mk_words.specs.Rule.{told_by}
 use Rattle.mk_words.specs.Steps.{Makes, moment_of, found_by, Finds, Tells, Goes}
 use Rattle.mk_words.specs.CallSteps.{register_of, KeepsRegisters, KeepsOtherRegisters, FindsHeld}
-use Rattle.mk_words.proofs.Made.{Made, made}
+use Rattle.mk_words.proofs.Made.{made}
 
 -- a step of a call is its caller's
 pub is_callers : (s : Seat) → is_open_to s group.Callers ≡ true → (k : ℕ) × (s ≡ Caller k)
@@ -234,7 +232,7 @@ cas_goes f n found expected is old =
 pub begins : (f : Flight) (o : Op) (n found : ℕ) → n ≡ found → n ≡ 0 → begins_where_free f o found ≡ record { flight = begun o; answer = None }
 begins f o n found is free = ap (λ (b : Bool). if b then record { flight = begun o; answer = None } else still f) (eq-eqb found 0 (sym is ∙ free))
 
-waits : (f : Flight) (o : Op) (n found : ℕ) → n ≡ found → n ≢ 0 → begins_where_free f o found ≡ still f
+pub waits : (f : Flight) (o : Op) (n found : ℕ) → n ≡ found → n ≢ 0 → begins_where_free f o found ≡ still f
 waits f o n found is held = ap (λ (b : Bool). if b then record { flight = begun o; answer = None } else still f) (ne_eqb found 0 (λ z. held (is ∙ z)))
 
 module _ (p : PassState) (o : Op) (n : ℕ) (q : PassState) (t : Tells p (step.Enter o) n q) (own : Has p.seats p.seat) (history : IsHistory q.table.config q.seen) where

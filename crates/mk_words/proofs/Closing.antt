@@ -1,5 +1,5 @@
 -- What is known of a table that has ended.
-use Rattle.std.proofs.Common.{◌≡◌, ℕ, zero, suc, ◌+◌, ◌*◌, ◌<◌, ◌≤◌, List, [], ◌∷◌, get_or, refl, sym, ◌∙◌, ap, subst, add-one, arith}
+use Rattle.std.proofs.Common.{◌≡◌, ℕ, zero, suc, ◌+◌, ◌*◌, ◌<◌, ◌≤◌, List, [], ◌∷◌, refl, sym, ◌∙◌, ap, subst, add-one, arith}
 use Rattle.std.specs.Prelude.{◌%◌, ◌^◌, slice_index, count_ones}
 use Rattle.std.proofs.Math.Nat.{add-mul-mod_self_left}
 use mathlib.Core.Option.{some, some-injective, some-ne-none}

@@ -9,3 +9,5 @@ pub mod CallSteps
 pub mod TurnSteps
 pub mod Closing
 pub mod Markers
+pub mod Opening
+pub mod Tallies

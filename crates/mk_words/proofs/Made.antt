@@ -1,13 +1,12 @@
 -- What is known of a step that was made, of whatever kind.
-use Rattle.std.proofs.Common.{◌≡◌, ℕ, true, List, [], ◌∷◌, ◌++◌, refl, sym, ◌∙◌, ap, subst}
+use Rattle.std.proofs.Common.{◌≡◌, List, [], ◌∷◌, ◌++◌, ◌∙◌, ap, subst}
 use Rattle.mk_core.specs.declared.config.Config.{Config}
-use Rattle.mk_core.specs.declared.events.Seat.{Seat}
 use Rattle.mk_core.specs.declared.events.Step.{Step}
 use Rattle.mk_core.specs.declared.events.Event.{Event}
 use Rattle.mk_core.specs.Layout.{IsOfTable}
 use Rattle.mk_core.specs.Accesses.{reached}
 use Rattle.mk_core.specs.Enabled.{MeetsAll}
-use Rattle.mk_core.specs.History.{World, first_world, world_behind, left, IsHistory}
+use Rattle.mk_core.specs.History.{first_world, world_behind, left, IsHistory}
 use Rattle.mk_core.specs.Growing.{AreOfOthers}
 use Rattle.mk_core.specs.Frames.{IsLeft}
 use Rattle.mk_core.proofs.Conditions.{enabled_meets}
@@ -21,6 +20,8 @@ use Rattle.mk_protocol.proofs.Reaching.{events_reach_the_table}
 use Rattle.mk_words.specs.Seats.{Has}
 use Rattle.mk_words.specs.States.{PassState, world_of, event_of}
 use Rattle.mk_words.specs.Steps.{Makes}
+use Rattle.mk_words.specs.Laws.{StepsStandBehindOthers}
+use Rattle.mk_frames.proofs.Frames.{admitted_others_leave}
 use Rattle.mk_words.proofs.Seats.{others_own}
 
 -- The events of others leave the seat its own; the event met its conditions behind them, and the new list leaves what it leaves there.
@@ -57,4 +58,16 @@ made p s q m own history =
       of_table = events_reach_the_table c es e before.within_limits before.enabled on;
       world = ap (λ (r : PassState). world_of r) m.is ∙ left_more c (first_world c) es e;
       seat = ap (λ (r : PassState). r.seat) m.is;
+    }
+
+pub stands_behind_others : StepsStandBehindOthers
+stands_behind_others p q s m own history =
+    let d = made p s q m own history in
+    record {
+      others = d.others;
+      history = d.history;
+      left = d.frame;
+      admitted = admitted_others_leave p.table.config p.seen m.others p.seat d.history d.others;
+      meets = d.meets;
+      world = d.world;
     }

@@ -1,5 +1,5 @@
 -- What a seat is at as a marker, behind its own steps and those of others.
-use Rattle.std.proofs.Common.{◌≡◌, ℕ, ◌<◌, Bool, true, false, List, [], ◌∷◌, ◌++◌, length, refl, sym, ◌∙◌, ap, subst, arith}
+use Rattle.std.proofs.Common.{◌≡◌, ℕ, ◌<◌, true, false, List, [], ◌∷◌, ◌++◌, length, refl, sym, ◌∙◌, ap, subst, arith}
 use Rattle.std.proofs.lemmas.Bool.{ltb-true}
 use Rattle.std.proofs.lemmas.List.{get_or-set_same}
 use Rattle.atomic_table.specs.Seated.{TableId}
@@ -11,25 +11,23 @@ use Rattle.mk_core.specs.declared.events.Step.TheVariants as step
 use Rattle.mk_core.specs.declared.events.Event.{Event}
 use Rattle.mk_core.specs.declared.events.Group.{Group}
 use Rattle.mk_core.specs.declared.events.Group.TheVariants as group
-use Rattle.mk_core.specs.declared.accesses.Access.{Access}
 use Rattle.mk_core.specs.declared.seats.Flight.{Flight}
 use Rattle.mk_core.specs.declared.seats.Placing.{Placing}
 use Rattle.mk_core.specs.declared.seats.Marker.{Marker as MarkerState}
 use Rattle.mk_core.specs.Order.{seat_exists, group_of, is_open_to}
-use Rattle.mk_core.specs.Accesses.{access, access_by, found}
-use Rattle.mk_core.specs.Moments.{Moment, outside, flight_of, marker_of, marker_at, holder_number}
+use Rattle.mk_core.specs.Accesses.{access_by, found}
+use Rattle.mk_core.specs.Moments.{Moment, outside, flight_of, marker_at, holder_number}
 use Rattle.mk_core.specs.Enabled.{marker_may}
 use Rattle.mk_core.specs.Effects.{marker_behind, moment_behind}
 use Rattle.mk_core.specs.History.{World, left, IsHistory}
 use Rattle.mk_core.specs.Growing.{AreOfOthers, Grows}
 use Rattle.mk_core.proofs.Conditions.{enabled_meets}
-use Rattle.mk_protocol.specs.Protocol.{Protocol}
 use Rattle.mk_protocol.proofs.Frames.{others_leave}
 use Rattle.mk_words.specs.Seats.{Has}
-use Rattle.mk_words.specs.States.{PassState, now_of, world_of, event_of}
+use Rattle.mk_words.specs.States.{PassState, now_of, event_of}
 use Rattle.mk_words.specs.Rule.{Mine, told_by, first_view}
 use Rattle.mk_words.specs.Passes.{state_of, IsInOrder, IsPass}
-use Rattle.mk_words.specs.Steps.{IsEnabledTo, Makes, moment_of, found_by, Finds, Tells}
+use Rattle.mk_words.specs.Steps.{IsEnabledTo, Makes, moment_of, found_by, Tells}
 use Rattle.mk_words.specs.Markers.{is_markers, marker_in, Marks}
 use Rattle.mk_words.proofs.Seats.{others_own}
 use Rattle.mk_words.proofs.Made.{Made, made}
@@ -68,16 +66,18 @@ behind_own c m (Marker j) k s is lt = let same : j ≡ k = cc in get_or-set_same
 behind_own c m (Caller j) k s is lt = cc
 behind_own c m Host k s is lt = cc
 
+-- a step of another kind leaves nothing of a marker
+no_marker : (p : PassState) (s : Step) (q : PassState) (m : Makes p s q) → Has p.seats p.seat → IsHistory q.table.config q.seen → is_markers (group_of s) ≡ false
+    → marker_in q ≡ marker_in p
+no_marker p s q m own history kind =
+    let d = made p s q m own history in
+    ap (λ (x : Seat). marker_at (now_of q) x) d.seat
+    ∙ other_steps p.table.config (now_of p) p.seat s kind d.meets.kind (now_of q)
+    ∙ sym (other_steps p.table.config (now_of p) p.seat s kind d.meets.kind (now_of p))
+
 module _ (p : PassState) (s : Step) (n : ℕ) (q : PassState) (t : Tells p s n q) (own : Has p.seats p.seat) (history : IsHistory q.table.config q.seen) where
   d : Made p s q t.makes
   d = made p s q t.makes own history
-
-  -- a step of another kind leaves nothing of a marker
-  pub no_marker : is_markers (group_of s) ≡ false → marker_in q ≡ marker_in p
-  no_marker kind =
-      ap (λ (x : Seat). marker_at (now_of q) x) d.seat
-      ∙ other_steps p.table.config (now_of p) p.seat s kind d.meets.kind (now_of q)
-      ∙ sym (other_steps p.table.config (now_of p) p.seat s kind d.meets.kind (now_of p))
 
   pub marks : is_markers (group_of s) ≡ true → Marks p s n q
   marks kind =
@@ -137,10 +137,14 @@ joined_pass me n seat marker pass config_is grows order =
           ∙ ap (λ (c : Config). marker_at (left c n.0.own.seen).now seat) (sym config_is);
     }
 
+pub other_pass_made : (tid qid : TableId) (me n : Mine) (seat : Seat) (marker : MarkerState) (s : Step) → IsPass me seat marker → IsInOrder n seat
+    → Makes (state_of tid me seat) s (state_of qid n seat) → is_markers (group_of s) ≡ false → IsPass n seat marker
+other_pass_made tid qid me n seat marker s pass order m kind =
+    record { order = order; keeps = pass.keeps ∙ sym (no_marker (state_of tid me seat) s (state_of qid n seat) m pass.order.own order.history kind) }
+
 pub other_pass : (tid qid : TableId) (me n : Mine) (seat : Seat) (marker : MarkerState) (s : Step) (k : ℕ) → IsPass me seat marker → IsInOrder n seat
     → Tells (state_of tid me seat) s k (state_of qid n seat) → is_markers (group_of s) ≡ false → IsPass n seat marker
-other_pass tid qid me n seat marker s k pass order t kind =
-    record { order = order; keeps = pass.keeps ∙ sym (no_marker (state_of tid me seat) s k (state_of qid n seat) t pass.order.own order.history kind) }
+other_pass tid qid me n seat marker s k pass order t kind = other_pass_made tid qid me n seat marker s pass order t.makes kind
 
 pub marking_pass : (tid qid : TableId) (me n : Mine) (seat : Seat) (marker behind : MarkerState) (s : Step) (k : ℕ) → IsPass me seat marker → IsInOrder n seat
     → Tells (state_of tid me seat) s k (state_of qid n seat) → is_markers (group_of s) ≡ true → behind ≡ marker_behind me.0.config k s marker → IsPass n seat behind

@@ -1,9 +1,8 @@
 -- What the calls owe the table for a step, a split, a join and the end, and what they learn.
-use Rattle.std.proofs.Common.{◌≡◌, ℕ, ◌<◌, true, List, [], ◌∷◌, ◌++◌, refl, sym, ◌∙◌, ap, subst, append-nil, arith}
+use Rattle.std.proofs.Common.{◌≡◌, ℕ, ◌<◌, List, [], ◌∷◌, ◌++◌, refl, sym, ◌∙◌, ap, subst, arith}
 use Rattle.std.specs.Prelude.{slice_index, replicate, false}
-use Rattle.std.proofs.lemmas.Bool.{false_from_ne_true}
 use Rattle.atomic_table.specs.Seated.{TableId}
-use Rattle.atomic_table.specs.Table.{State, Step as TableStep, Allows, Splits, Joins, Final, Seen, opening}
+use Rattle.atomic_table.specs.Table.{Allows, Splits, Joins, Final, Seen, opening}
 use Rattle.mk_core.specs.declared.config.Config.{Config}
 use Rattle.mk_core.specs.declared.events.Seat.{Seat}
 use Rattle.mk_core.specs.declared.events.Seat.TheVariants.{Host}
@@ -11,26 +10,23 @@ use Rattle.mk_core.specs.declared.events.Step.{Step}
 use Rattle.mk_core.specs.declared.events.Event.{Event}
 use Rattle.mk_core.specs.declared.accesses.Access.{Access}
 use Rattle.mk_core.specs.declared.accesses.TableWord.{TableWord}
-use Rattle.mk_core.specs.declared.seats.Flight.{Flight}
 use Rattle.mk_core.specs.Config.{IsWithinLimits}
 use Rattle.mk_core.specs.Words.{becomes}
 use Rattle.mk_core.specs.Layout.{index_of, count_of_words, IsOfTable}
 use Rattle.mk_core.specs.Accesses.{reached, access}
-use Rattle.mk_core.specs.Decided.{asked, Decided}
-use Rattle.mk_core.specs.History.{first_world, left, AreEnabledFrom, calls, calls_from, never_first, CallsAreAdmitted, IsHistory, IsEnabledBehind, IsAdmittedBehind}
+use Rattle.mk_core.specs.History.{first_world, AreEnabledFrom, calls_from, IsHistory}
 use Rattle.mk_core.specs.Counts.{IsTidy}
 use Rattle.mk_core.specs.Growing.{Grows, is_same_seat}
 use Rattle.mk_core.proofs.Histories.{enabled_more}
 use Rattle.mk_core.proofs.LayoutLemmas.{indexes_within}
 use Rattle.mk_core.proofs.RegionLemmas.{first_are_zero}
 use Rattle.mk_protocol.proofs.Reaching.{events_reach_the_table}
-use Rattle.mk_words.specs.declared.rule.Part.{Part}
 use Rattle.mk_words.specs.declared.rule.View.{View}
-use Rattle.mk_words.specs.Seats.{Has, HasAll, without_seat}
+use Rattle.mk_words.specs.Seats.{Has, HasAll}
 use Rattle.mk_words.specs.States.{WordsState, PassState, now_of, event_of}
-use Rattle.mk_words.specs.Rule.{part, no_part, seats_of, Kept, Mine, told_by, no_step, adds, stores, settles, stays_with, goes_with, copy_of, beside, nobody, first_view}
+use Rattle.mk_words.specs.Rule.{Kept, Mine, told_by, no_step, adds, stores, settles, stays_with, goes_with, copy_of, beside, nobody, first_view}
 use Rattle.mk_words.specs.Passes.{state_of, IsInOrder}
-use Rattle.mk_words.specs.Steps.{may_decide, May, Tells}
+use Rattle.mk_words.specs.Steps.{May, Tells, Finds}
 use Rattle.mk_words.proofs.Tidy.{none_tidy}
 use Rattle.mk_words.proofs.Undecided.{undecided_admitted}
 use Rattle.mk_words.proofs.Keeps.{performs_at, settles_at, splits, hands_over, remembers, joins, opens, closes, Ended}
@@ -194,6 +190,16 @@ perform_learns p pid qid me n seat s a answer picked p_is q_is picked_is a_is or
     let learnt = event_learnt pid me n seat s a answer picked (picked_is ∙ ap (λ (r : PassState). event_of r s) back)
     (a_is ∙ ap (λ (r : PassState). access r.table.config (now_of r) (event_of r s)) back) order on.0 on.1 on.2 in
     subst (λ (z : TableId). Tells p s answer (state_of z n seat)) (sym q_is) (subst (λ (r : PassState). Tells r s answer (state_of pid n seat)) p_is learnt.tells)
+
+pub perform_finds : (pid qid : TableId) (me n : Mine) (seat : Seat) (s : Step) (found : ℕ) (picked : Event) → qid ≡ pid → picked ≡ event_of (state_of pid me seat) s
+    → adds picked no_step me found n → Finds (state_of pid me seat) s found (state_of qid n seat)
+perform_finds pid qid me n seat s found picked q_is picked_is on_picked =
+    let on : adds (event_of (state_of pid me seat) s) no_step me found n = subst (λ (d : Event). adds d no_step me found n) picked_is on_picked in
+    subst (λ (z : TableId). Finds (state_of pid me seat) s found (state_of z n seat)) (sym q_is)
+    (record {
+      makes = record { others = on.1.others; of_others = on.1.of_others; is = ap (λ (w : View). state_of pid (w, []) seat) on.1.is };
+      finds = on.1.finds;
+    })
 
 pub perform_keeps : (me n : Mine) (seat : Seat) (found : ℕ) (picked : Event) → IsInOrder me seat → adds picked no_step me found n → IsInOrder n seat
 perform_keeps me n seat found picked order on = in_order_still me n seat picked found order on

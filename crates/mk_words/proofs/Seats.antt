@@ -1,15 +1,13 @@
 -- Lists of seats, and lists of others' events.
-use Rattle.std.proofs.Common.{◌≡◌, ◌⊎◌, ℕ, ◌<◌, ◌+◌, zero, suc, Bool, true, false, List, [], ◌∷◌, ◌++◌, refl, sym, ◌∙◌, ap, subst, inl, inr, ⊎_elim, arith}
-use Rattle.std.specs.Prelude.{◌||◌, if◌then◌else◌, nat_lt}
-use Rattle.std.specs.List.{list_any}
-use Rattle.std.proofs.lemmas.Bool.{cases_Bool, cases_eq, cases_lt, or_cases, eqb-true, eq-eqb, ltb-true, false_from_ne_true}
+use Rattle.std.proofs.Common.{◌≡◌, ◌⊎◌, ℕ, ◌<◌, zero, suc, Bool, true, false, List, [], ◌∷◌, ◌++◌, refl, sym, ◌∙◌, ap, subst, inl, inr, ⊎_elim, arith}
+use Rattle.std.specs.Prelude.{◌||◌, if◌then◌else◌}
+use Rattle.std.proofs.lemmas.Bool.{cases_eq, or_cases, eqb-true, eq-eqb, ltb-true, false_from_ne_true}
 use Rattle.std.proofs.lemmas.List.Folds.{list_any-append}
 use Rattle.mk_core.specs.declared.config.Config.{Config}
 use Rattle.mk_core.specs.declared.events.Seat.{Seat}
 use Rattle.mk_core.specs.declared.events.Seat.TheVariants.{Caller, Marker, Host}
 use Rattle.mk_core.specs.declared.events.Event.{Event}
-use Rattle.mk_core.specs.Order.{seat_exists}
-use Rattle.mk_core.specs.Growing.{is_same_seat, is_one_of, AreOfOthers, Grows}
+use Rattle.mk_core.specs.Growing.{is_same_seat, is_one_of, AreOfOthers}
 use Rattle.mk_words.specs.Seats.{Has, without_seat, callers_below, markers_below, all_seats, HasAll}
 
 pub same_seat : (a b : Seat) → is_same_seat a b ≡ true → a ≡ b

@@ -2,7 +2,6 @@
 use Rattle.std.proofs.Common.{◌≡◌, ◌⊎◌, true, List, [], ◌∷◌, ◌++◌, refl, sym, ◌∙◌, ap, subst, inl, inr, ⊎_elim, append_assoc}
 use Rattle.mk_core.specs.declared.config.Config.{Config}
 use Rattle.mk_core.specs.declared.events.Step.{Step}
-use Rattle.mk_core.specs.declared.events.Step.TheVariants as step
 use Rattle.mk_core.specs.declared.events.Event.{Event}
 use Rattle.mk_core.specs.Cycles.{is_give}
 use Rattle.mk_core.specs.Counts.{TalliesAreTidy, IsTidy}
@@ -37,8 +36,8 @@ pub tidy_more : (c : Config) (xs : List Event) (e : Event) → IsTidy c xs → (
 tidy_more c xs e h last before f behind is give =
     ⊎_elim
     (λ (t : Last xs e before f).
-        subst (λ (l : List Event). TalliesAreTidy c l) (sym t.list)
-        (last (ap (λ (g : Event). is_give g.step) (sym t.event) ∙ ap (λ (s : Step). is_give s) give)))
+    subst (λ (l : List Event). TalliesAreTidy c l) (sym t.list)
+    (last (ap (λ (g : Event). is_give g.step) (sym t.event) ∙ ap (λ (s : Step). is_give s) give)))
     (λ (t : (rest : List Event) × (xs ≡ before ++ f ∷ rest)). h before f t.0 t.1 give)
     (find_in xs e before f behind is)
 

@@ -3,13 +3,11 @@ use Rattle.std.proofs.Common.{◌≡◌, ℕ, Bool, true, false, List, [], ◌�
 use Rattle.std.specs.Prelude.{Some, None, if◌then◌else◌, ◌==◌}
 use Rattle.std.proofs.lemmas.Bool.{cases_Bool}
 use Rattle.mk_never.specs.declared.operations.Op.{Op}
-use Rattle.mk_never.specs.NeverHeap.{Call}
 use Rattle.mk_never.specs.Admitted.{AreAdmitted}
 use Rattle.mk_core.specs.declared.config.Config.{Config}
 use Rattle.mk_core.specs.declared.events.Answer.{Answer}
 use Rattle.mk_core.specs.declared.events.Seat.{Seat}
 use Rattle.mk_core.specs.declared.events.Seat.TheVariants as seat
-use Rattle.mk_core.specs.declared.events.Word.{Word}
 use Rattle.mk_core.specs.declared.events.Word.TheVariants as word
 use Rattle.mk_core.specs.declared.events.Step.{Step}
 use Rattle.mk_core.specs.declared.events.Step.TheVariants as step
@@ -19,7 +17,7 @@ use Rattle.mk_core.specs.Accesses.{caller_number}
 use Rattle.mk_core.specs.Decided.{Decided, entry_of, asked}
 use Rattle.mk_core.specs.Moments.{Moment, flight_of}
 use Rattle.mk_core.specs.Effects.{progress, begins_where_free, answer_decided}
-use Rattle.mk_core.specs.History.{first_world, left, call_decided, calls, never_first, CallsAreAdmitted, IsHistory}
+use Rattle.mk_core.specs.History.{first_world, left, calls, never_first, IsHistory}
 use Rattle.mk_core.proofs.Histories.{calls_more}
 use Rattle.mk_words.specs.States.{PassState, event_of}
 use Rattle.mk_words.specs.Steps.{may_decide, IsAdmittedTo}

@@ -3,7 +3,6 @@ use Rattle.std.specs.Prelude.{◌≡◌, ℕ, zero, suc, ◌+◌, ◌*◌, ◌%�
 use Rattle.mk_core.specs.declared.config.Config.{Config}
 use Rattle.mk_core.specs.declared.events.Event.{Event}
 use Rattle.mk_core.specs.Words.{Words}
-use Rattle.mk_core.specs.Layout.{in_order}
 use Rattle.mk_words.specs.declared.finals.Final.{Final}
 
 -- the history of the table, and what it was made for

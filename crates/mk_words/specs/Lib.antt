@@ -7,3 +7,5 @@ pub mod CallSteps
 pub mod TurnSteps
 pub mod Finals
 pub mod Markers
+pub mod Opening
+pub mod Laws

@@ -1,14 +1,24 @@
 -- What the steps of the turn's holder leave.
-use Rattle.std.specs.Prelude.{◌≡◌, ℕ, ◌++◌, Option, Some, None, Bool, true, false}
+use Rattle.std.specs.Prelude.{◌≡◌, ℕ, ◌+◌, ◌-◌, ◌*◌, ◌++◌, Option, Some, None, Bool, true, false, nat_lt, if◌then◌else◌}
+use Rattle.std.specs.Int.{trailing_zeros}
+use Rattle.std.proofs.Common.{w64}
+use Rattle.mk_geom.specs.declared.addresses.Cell.{Cell}
+use Rattle.mk_geom.specs.declared.pages.Place.{Place}
+use Rattle.mk_geom.specs.Classes.{class_words_of}
+use Rattle.mk_core.specs.declared.config.Config.{Config}
+use Rattle.mk_core.specs.declared.seats.Placing.TheVariants.{Used}
+use Rattle.mk_core.specs.NewPlaces.{object_made, is_small_object, class_made}
 use Rattle.mk_never.specs.declared.operations.Op.{Op}
 use Rattle.mk_core.specs.declared.events.Seat.{Seat}
-use Rattle.mk_core.specs.declared.events.Seat.TheVariants.{Caller, Marker, Host}
+use Rattle.mk_core.specs.declared.events.Seat.TheVariants.{Caller}
 use Rattle.mk_core.specs.declared.events.Step.{Step}
 use Rattle.mk_core.specs.declared.events.Step.TheVariants as step
 use Rattle.mk_core.specs.declared.seats.Flight.{Flight}
-use Rattle.mk_core.specs.declared.seats.Holding.{Holding}
-use Rattle.mk_core.specs.Calls.{at_rest, begun}
+use Rattle.mk_core.specs.Calls.{at_rest, begun, d_of}
 use Rattle.mk_core.specs.Moments.{nothing_done, none_is_held, others_are_held}
+use Rattle.mk_core.specs.Words.{phase_of}
+use Rattle.mk_core.specs.Ranges.{has_phase}
+use Rattle.mk_core.specs.TurnConditions.{words_held}
 use Rattle.mk_core.specs.Readings.{Holds}
 use Rattle.mk_core.specs.History.{World, world_behind, left}
 use Rattle.mk_core.specs.Frames.{OwnIsLeft, HoldsAll, TurnIsLeft, CountsAreLeft, written_of}
@@ -30,11 +40,14 @@ abbrev pub begun_for : Option Op → Flight
 begun_for (Some o) = begun o
 begun_for None = at_rest
 
--- Directly behind its `take` a turn has done nothing, and no gate is held.
+-- Directly behind its `take` a turn has done nothing, no gate is held, and the phase and the tallies are what a `give` asks.
 pub record IsFresh (p : PassState) (o : Option Op) : Type 0 where
   pub call : call_of p ≡ begun_for o
   pub holding : (now_of p).seats.holding ≡ nothing_done
   pub gates : none_is_held p.table.config.callers (now_of p).words ≡ true
+  pub phase : has_phase (phase_of (now_of p).words) step.Give ≡ true
+  pub held : (now_of p).words.held ≡ words_held (now_of p).words
+  pub fresh : (now_of p).words.fresh ≡ (now_of p).fresh_words
 
 -- A turn goes on behind every step but these.
 abbrev pub turn_stays : Step → Bool
@@ -67,3 +80,32 @@ gates_stay s = turn_stays s
 -- all gates but that of the turn's holder are held
 abbrev pub IsStopped : TurnState → Type 0
 IsStopped t = others_are_held t.pass.table.config.callers (now_of t.pass).words t.pass.seat ≡ true
+
+-- the register of the operation into which an object is put, and the base of the object that it makes in that cell
+
+abbrev pub register_granted : Option Op → ℕ
+register_granted (Some o) = d_of o
+register_granted None = 0
+
+abbrev pub cell_base : Config → Option Op → Option Cell → ℕ
+cell_base c (Some o) (Some cell) =
+    64 * cell.page + (if is_small_object (object_made c o) then cell.index * class_words_of (class_made (object_made c o)) else 0)
+cell_base c _ _ = 0
+
+-- The cell that the turn has taken for its New is known.
+abbrev pub KnowsCell : PassState → Option Cell → Type 0
+KnowsCell p cell = (x : Place) → (now_of p).seats.holding.placing ≡ Used x → cell ≡ Some (record { page = x.page; index = x.index })
+
+-- The pass's seat holds the turn, for this operation, and knows the cell that it has taken.
+pub record KeepsTurn (p : PassState) (o : Option Op) (cell : Option Cell) : Type 0 where
+  pub turn : IsTurn p o
+  pub knows : KnowsCell p cell
+
+-- `used` may take a cell.
+abbrev pub may_take_cell : Step → Bool
+may_take_cell (step.Used p v) = true
+may_take_cell _ = false
+
+-- the cell that is known behind a `used` that stores a value over this one: one bit more is a cell that is taken
+abbrev pub cell_behind : ℕ → ℕ → ℕ → Option Cell → Option Cell
+cell_behind page value found cell = if nat_lt found value then Some (record { page = page; index = trailing_zeros w64 (value - found) }) else cell

@@ -3,7 +3,9 @@
 
 mod call_steps;
 mod finals;
+mod granting;
 mod indexes;
+mod laws;
 mod marker_steps;
 mod passes;
 mod performing;
@@ -18,6 +20,7 @@ mod words;
 
 pub use call_steps::Held;
 pub use finals::Final;
+pub use laws::{calls_go_on, steps_stand_behind_others};
 pub use passes::Pass;
 pub use stop_steps::InCall;
 pub use stopped::Stopped;

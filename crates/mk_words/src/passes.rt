@@ -8,10 +8,11 @@ ghost use Rattle.mk_words.specs.States.{now_of, event_of};
 ghost use Rattle.mk_core.specs.Order.{group_of};
 ghost use Rattle.mk_words.specs.Passes.{state_of, IsInOrder};
 ghost use Rattle.mk_words.specs.Markers.{is_markers, marker_in, Marks};
-ghost use Rattle.mk_words.specs.Steps.{May, Tells};
+ghost use Rattle.mk_core.specs.declared.accesses.Access.TheVariants.{Store};
+ghost use Rattle.mk_words.specs.Steps.{May, Tells, Finds};
 
 use crate::indexes::index_of;
-use crate::performing::access_as;
+use crate::performing::{access_as, swap_as};
 use crate::rule::View;
 use crate::scans::marker_behind;
 use crate::telling::Making;
@@ -73,6 +74,29 @@ pub(crate) fn perform_as<J: Making>(
     access_as::<J>(&words.table.shared, token, index, by)
 }
 
+/// Makes a step that stores, and answers what the store found.
+#[inline(always)]
+fn replace_as<J: Making>(
+    words: &Words,
+    token: &mut Token<(), View>,
+    seat: Seat,
+    step: Step,
+    word: TableWord,
+    value: u64,
+) -> u64
+    requires picked { J.event ≡ record { seat = seat; step = step } }
+    requires order { IsInOrder token.old.me seat }
+    requires one_table { (state_of token.old.table_id token.old.me seat).table ≡ words.now }
+    requires may { May (state_of token.old.table_id token.old.me seat) step }
+    requires word { word ≡ reached token.old.me.0.config (now_of (state_of token.old.table_id token.old.me seat)) (record { seat = seat; step = step }) }
+    requires access { Store value ≡ access token.old.me.0.config (now_of (state_of token.old.table_id token.old.me seat)) (record { seat = seat; step = step }) }
+    ensures finds { Finds (state_of token.old.table_id token.old.me seat) step result (state_of token.new.table_id token.new.me seat) }
+    ensures order { IsInOrder token.new.me seat }
+{
+    let index = index_of(words.config.pages, word);
+    swap_as::<J>(&words.table.shared, token, index, value)
+}
+
 impl Pass {
     /// Whose pass it is.
     pub fn seat(&self) -> Seat
@@ -104,13 +128,7 @@ impl Pass {
 
     /// Makes a step of any kind but a marker's.
     #[inline(always)]
-    pub(crate) fn perform(
-        &mut self,
-        words: &Words,
-        step: Step,
-        word: TableWord,
-        by: Access,
-    ) -> u64
+    pub(crate) fn perform(&mut self, words: &Words, step: Step, word: TableWord, by: Access) -> u64
         requires one_table { self.old.table ≡ words.now }
         requires kind { is_markers (group_of step) ≡ false }
         requires may { May self.old step }
@@ -154,5 +172,21 @@ impl Pass {
         let found = perform_as::<Brand>(words, &mut self.token, seat, step, word, by);
         self.marker = marker_behind(&words.config, found, step, marker);
         found
+    }
+
+    /// Makes a step that stores, and answers what the store found.
+    #[inline(always)]
+    pub(crate) fn replace(&mut self, words: &Words, step: Step, word: TableWord, value: u64) -> u64
+        requires one_table { self.old.table ≡ words.now }
+        requires kind { is_markers (group_of step) ≡ false }
+        requires may { May self.old step }
+        requires word { word ≡ reached self.old.table.config (now_of self.old) (event_of self.old step) }
+        requires access { Store value ≡ access self.old.table.config (now_of self.old) (event_of self.old step) }
+        ensures finds { Finds self.old step result self.new }
+        ensures own { Has self.old.seats self.old.seat }
+        ensures history { IsHistory self.new.table.config self.new.seen }
+    {
+        let seat = self.seat;
+        replace_as::<Brand>(words, &mut self.token, seat, step, word, value)
     }
 }

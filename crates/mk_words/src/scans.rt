@@ -92,12 +92,7 @@ fn scan_begun(page: u64, index: u64, header: u64) -> Scan
 }
 
 /// The scan that a claim begins, where it finds these marks.
-fn scan_claimed(
-    page: u64,
-    index: u64,
-    marks: u64,
-    seen: Option<SeenHeader>,
-) -> Option<Scan>
+fn scan_claimed(page: u64, index: u64, marks: u64, seen: Option<SeenHeader>) -> Option<Scan>
     requires page { page < 4096 }
     requires index { index < 32 }
     ensures { result ≡ scan_claimed page index marks seen }
@@ -123,7 +118,11 @@ fn scan_onward(scan: Option<Scan>) -> Option<Scan>
 fn presence_behind_attend(found: u64) -> Presence
     ensures { result ≡ (if found % 8 == 1 then Presence.Attending else Presence.Visiting) }
 {
-    if found % 8 == 1 { Presence::Attending } else { Presence::Visiting }
+    if found % 8 == 1 {
+        Presence::Attending
+    } else {
+        Presence::Visiting
+    }
 }
 
 /// A value outside the heap isn't an open hand.

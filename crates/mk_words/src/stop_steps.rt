@@ -26,6 +26,7 @@ impl Turn {
         ensures found { OnOk result (Finds self.old.pass (step.Hold caller) 0 self.new.pass) }
         ensures held { OnOk result (is_held (now_of self.new.pass).words caller ≡ true) }
         ensures in_call { OnErr result (Finds self.old.pass (step.Hold caller) 1 self.new.pass) }
+        ensures not_held { OnErr result (is_held (now_of self.new.pass).words caller ≡ false) }
     {
         let found = self.perform(
             words,
@@ -43,7 +44,12 @@ impl Turn {
         ensures op { self.new.op ≡ self.old.op }
         ensures acts { Acts self.old.pass (step.Open caller) self.new.pass }
     {
-        self.perform(words, Step::Open(caller), TableWord::Named(Word::Gate(caller)), Access::Store(0));
+        self.perform(
+            words,
+            Step::Open(caller),
+            TableWord::Named(Word::Gate(caller)),
+            Access::Store(0),
+        );
     }
 
     /// Decides a New for which there is no room, behind a cycle of its own.
@@ -64,7 +70,12 @@ impl Turn {
         ensures op { self.new.op ≡ self.old.op }
         ensures acts { Acts self.old.pass step.Begin self.new.pass }
     {
-        self.perform(words, Step::Begin, TableWord::Named(Word::Phase), Access::Add(1));
+        self.perform(
+            words,
+            Step::Begin,
+            TableWord::Named(Word::Phase),
+            Access::Add(1),
+        );
     }
 
     /// Says that all is over, where the host has the seats of all callers.

@@ -1,14 +1,16 @@
 //! The turn while the gates of all other callers are held, and its steps.
-ghost use Rattle.std.specs.Prelude.{◌≡◌, true};
+ghost use Rattle.std.specs.Prelude.{◌≡◌, true, false};
 ghost use Rattle.mk_core.specs.declared.events.Step.TheVariants as step;
 ghost use Rattle.mk_core.specs.Accesses.{reached, access};
 ghost use Rattle.mk_core.specs.History.{IsHistory};
-ghost use Rattle.mk_core.specs.Moments.{others_are_held};
+ghost use Rattle.mk_core.specs.Moments.{others_are_held, none_is_held, is_number_of};
+ghost use Rattle.mk_words.specs.Opening.{OthersMayOpen, Opens};
 ghost use Rattle.mk_words.specs.Steps.{IsEnabledTo, IsAdmittedTo, Finds, may_decide};
 ghost use Rattle.mk_words.specs.TurnSteps.{Acts};
+ghost use Rattle.mk_words.specs.Seats.{Has};
 ghost use Rattle.mk_words.specs.States.{now_of, event_of};
 ghost use Rattle.mk_words.specs.Steps.{May, Tells};
-ghost use Rattle.mk_words.specs.TurnSteps.{IsTurn, gates_stay};
+ghost use Rattle.mk_words.specs.TurnSteps.{IsTurn, gates_stay, may_take_cell};
 
 use crate::turn_steps::tally_word;
 use crate::turns::Turn;
@@ -54,6 +56,7 @@ impl Stopped {
     #[inline(always)]
     pub fn is_in_order(&self)
         ensures turn { IsTurn self.now.pass self.now.op }
+        ensures own { Has self.now.pass.seats self.now.pass.seat }
         ensures history { IsHistory self.now.pass.table.config self.now.pass.seen }
         ensures gates { others_are_held self.now.pass.table.config.callers (now_of self.now.pass).words self.now.pass.seat ≡ true }
     {
@@ -63,15 +66,10 @@ impl Stopped {
 
     /// Makes a step that opens no gate.
     #[inline(always)]
-    pub(crate) fn perform(
-        &mut self,
-        words: &Words,
-        step: Step,
-        word: TableWord,
-        by: Access,
-    ) -> u64
+    pub(crate) fn perform(&mut self, words: &Words, step: Step, word: TableWord, by: Access) -> u64
         requires one_table { self.old.pass.table ≡ words.now }
         requires stays { gates_stay step ≡ true }
+        requires takes_none { may_take_cell step ≡ false }
         requires may { May self.old.pass step }
         requires word { word ≡ reached self.old.pass.table.config (now_of self.old.pass) (event_of self.old.pass step) }
         requires access { by ≡ access self.old.pass.table.config (now_of self.old.pass) (event_of self.old.pass step) }
@@ -102,7 +100,23 @@ impl Stopped {
         ensures op { self.new.op ≡ self.old.op }
         ensures acts { Acts self.old.pass (step.Head page v) self.new.pass }
     {
-        self.perform(words, Step::Head { page, value: v }, TableWord::Named(Word::Head(page)), Access::Store(v));
+        self.perform(
+            words,
+            Step::Head { page, value: v },
+            TableWord::Named(Word::Head(page)),
+            Access::Store(v),
+        );
+    }
+
+    /// Stores a page's used word. Where the word gains a bit, its cell is the one that the turn's New takes.
+    pub fn used(&mut self, words: &Words, page: u64, v: u64)
+        requires one_table { self.old.pass.table ≡ words.now }
+        requires enabled { IsEnabledTo self.old.pass (step.Used page v) }
+        ensures op { self.new.op ≡ self.old.op }
+        ensures acts { Acts self.old.pass (step.Used page v) self.new.pass }
+    {
+        self.turn.is_in_order();
+        self.turn.used(words, page, v);
     }
 
     /// Stores a page's quarantine word.
@@ -113,7 +127,12 @@ impl Stopped {
         ensures op { self.new.op ≡ self.old.op }
         ensures acts { Acts self.old.pass (step.Quar page v) self.new.pass }
     {
-        self.perform(words, Step::Quar { page, value: v }, TableWord::Named(Word::Quar(page)), Access::Store(v));
+        self.perform(
+            words,
+            Step::Quar { page, value: v },
+            TableWord::Named(Word::Quar(page)),
+            Access::Store(v),
+        );
     }
 
     /// Clears a page's marks.
@@ -123,7 +142,12 @@ impl Stopped {
         ensures op { self.new.op ≡ self.old.op }
         ensures acts { Acts self.old.pass (step.Clear page) self.new.pass }
     {
-        self.perform(words, Step::Clear(page), TableWord::Named(Word::Mark(page)), Access::Store(0));
+        self.perform(
+            words,
+            Step::Clear(page),
+            TableWord::Named(Word::Mark(page)),
+            Access::Store(0),
+        );
     }
 
     /// Marks cells of a page.
@@ -133,7 +157,12 @@ impl Stopped {
         ensures op { self.new.op ≡ self.old.op }
         ensures acts { Acts self.old.pass (step.Mark page v) self.new.pass }
     {
-        self.perform(words, Step::Mark { page, value: v }, TableWord::Named(Word::Mark(page)), Access::Or(v));
+        self.perform(
+            words,
+            Step::Mark { page, value: v },
+            TableWord::Named(Word::Mark(page)),
+            Access::Or(v),
+        );
     }
 
     /// Wipes a heap word.
@@ -143,7 +172,12 @@ impl Stopped {
         ensures op { self.new.op ≡ self.old.op }
         ensures acts { Acts self.old.pass (step.Wipe word) self.new.pass }
     {
-        self.perform(words, Step::Wipe(word), TableWord::Named(Word::Heap(word)), Access::Store(0));
+        self.perform(
+            words,
+            Step::Wipe(word),
+            TableWord::Named(Word::Heap(word)),
+            Access::Store(0),
+        );
     }
 
     /// Ends the cycle.
@@ -153,7 +187,12 @@ impl Stopped {
         ensures op { self.new.op ≡ self.old.op }
         ensures acts { Acts self.old.pass step.End self.new.pass }
     {
-        self.perform(words, Step::End, TableWord::Named(Word::Phase), Access::Sub(4));
+        self.perform(
+            words,
+            Step::End,
+            TableWord::Named(Word::Phase),
+            Access::Sub(4),
+        );
     }
 
     /// Clears a page's dirty word.
@@ -163,7 +202,12 @@ impl Stopped {
         ensures op { self.new.op ≡ self.old.op }
         ensures acts { Acts self.old.pass (step.Undirty page) self.new.pass }
     {
-        self.perform(words, Step::Undirty(page), TableWord::Named(Word::Dirty(page)), Access::Store(0));
+        self.perform(
+            words,
+            Step::Undirty(page),
+            TableWord::Named(Word::Dirty(page)),
+            Access::Store(0),
+        );
     }
 
     /// Clears a page's black word.
@@ -173,7 +217,12 @@ impl Stopped {
         ensures op { self.new.op ≡ self.old.op }
         ensures acts { Acts self.old.pass (step.Unblack page) self.new.pass }
     {
-        self.perform(words, Step::Unblack(page), TableWord::Named(Word::Black(page)), Access::Store(0));
+        self.perform(
+            words,
+            Step::Unblack(page),
+            TableWord::Named(Word::Black(page)),
+            Access::Store(0),
+        );
     }
 
     /// Stores a tally.
@@ -183,7 +232,12 @@ impl Stopped {
         ensures op { self.new.op ≡ self.old.op }
         ensures acts { Acts self.old.pass (step.Tally n v) self.new.pass }
     {
-        self.perform(words, Step::Tally { tally: n, value: v }, TableWord::Named(tally_word(n)), Access::Store(v));
+        self.perform(
+            words,
+            Step::Tally { tally: n, value: v },
+            TableWord::Named(tally_word(n)),
+            Access::Store(v),
+        );
     }
 
     /// Wants the close.
@@ -193,7 +247,12 @@ impl Stopped {
         ensures op { self.new.op ≡ self.old.op }
         ensures acts { Acts self.old.pass step.Want self.new.pass }
     {
-        self.perform(words, Step::Want, TableWord::Named(Word::Phase), Access::Add(1));
+        self.perform(
+            words,
+            Step::Want,
+            TableWord::Named(Word::Phase),
+            Access::Add(1),
+        );
     }
 
     /// Closes the marks.
@@ -203,7 +262,12 @@ impl Stopped {
         ensures op { self.new.op ≡ self.old.op }
         ensures acts { Acts self.old.pass step.Close self.new.pass }
     {
-        self.perform(words, Step::Close, TableWord::Named(Word::Phase), Access::Add(1));
+        self.perform(
+            words,
+            Step::Close,
+            TableWord::Named(Word::Phase),
+            Access::Add(1),
+        );
     }
 
     /// Releases what the cycle found unmarked.
@@ -213,7 +277,12 @@ impl Stopped {
         ensures op { self.new.op ≡ self.old.op }
         ensures acts { Acts self.old.pass step.Release self.new.pass }
     {
-        self.perform(words, Step::Release, TableWord::Named(Word::Phase), Access::Add(1));
+        self.perform(
+            words,
+            Step::Release,
+            TableWord::Named(Word::Phase),
+            Access::Add(1),
+        );
     }
 
     /// Blackens a marked cell.
@@ -223,6 +292,58 @@ impl Stopped {
         ensures op { self.new.op ≡ self.old.op }
         ensures acts { Acts self.old.pass (step.Black page v) self.new.pass }
     {
-        self.perform(words, Step::Black { page, value: v }, TableWord::Named(Word::Black(page)), Access::Or(v));
+        self.perform(
+            words,
+            Step::Black { page, value: v },
+            TableWord::Named(Word::Black(page)),
+            Access::Or(v),
+        );
+    }
+
+    /// Opens the gates of all other callers.
+    pub fn open_all(self, words: &Words) -> Turn
+        requires one_table { self.pass.table ≡ words.now }
+        requires enabled { OthersMayOpen self.pass 0 }
+        ensures op { result.op ≡ self.op }
+        ensures opens { Opens self.pass result.pass }
+        ensures gates { none_is_held self.pass.table.config.callers (now_of result.pass).words ≡ true }
+    {
+        let Stopped { mut turn } = self;
+        let callers = words.callers();
+        let mut caller = 0;
+        while caller < callers {
+            open_other(&mut turn, words, caller);
+            caller += 1;
+        }
+        turn.is_in_order();
+        turn
+    }
+}
+
+/// Opens the gate of a caller, unless it is the holder itself.
+fn open_other(turn: &mut Turn, words: &Words, caller: u64)
+    requires one_table { turn.old.pass.table ≡ words.now }
+    requires enabled { is_number_of turn.old.pass.seat caller ≡ false → IsEnabledTo turn.old.pass (step.Open caller) }
+    ensures op { turn.new.op ≡ turn.old.op }
+    ensures opened { is_number_of turn.old.pass.seat caller ≡ false → Acts turn.old.pass (step.Open caller) turn.new.pass }
+    ensures same { is_number_of turn.old.pass.seat caller ≡ true → turn.new.pass ≡ turn.old.pass }
+    ensures own { Has turn.old.pass.seats turn.old.pass.seat }
+    ensures before { IsHistory turn.old.pass.table.config turn.old.pass.seen }
+    ensures behind { IsHistory turn.new.pass.table.config turn.new.pass.seen }
+{
+    turn.is_in_order();
+    if !is_number(turn.seat(), caller) {
+        turn.open_gate(words, caller);
+    }
+    turn.is_in_order();
+}
+
+/// Whether the seat is that caller's.
+fn is_number(seat: Seat, caller: u64) -> bool
+    ensures { result ≡ is_number_of seat caller }
+{
+    match seat {
+        Seat::Caller(own) => own == caller,
+        Seat::Marker(_) | Seat::Host => false,
     }
 }

@@ -1,10 +1,15 @@
 //! The steps of the turn's holder.
 ghost use Rattle.std.specs.Prelude.{◌≡◌, true};
 ghost use Rattle.mk_core.specs.declared.events.Step.TheVariants as step;
-ghost use Rattle.mk_core.specs.Accesses.{tally_word};
-ghost use Rattle.mk_words.specs.Steps.{IsEnabledTo, IsAdmittedTo, Finds, may_decide};
+ghost use Rattle.mk_core.specs.declared.accesses.Access.TheVariants.{Load};
+ghost use Rattle.mk_core.specs.Accesses.{tally_word, register_met, reg_access};
+ghost use Rattle.mk_core.specs.Calls.{progress_reg};
+ghost use Rattle.mk_words.specs.States.{call_of};
+ghost use Rattle.mk_words.specs.CallSteps.{register_of};
+ghost use Rattle.mk_words.specs.Steps.{IsEnabledTo, IsAdmittedTo, Finds, Goes, may_decide};
 ghost use Rattle.mk_words.specs.TurnSteps.{Acts};
 
+use crate::granting::{address_of, cell_base, cell_behind, register_granted};
 use crate::turns::Turn;
 use crate::words::Words;
 use mk_core::{Access, Step, TableWord, Tally, Word};
@@ -43,7 +48,12 @@ impl Turn {
         ensures op { self.new.op ≡ self.old.op }
         ensures acts { Acts self.old.pass (step.Head page v) self.new.pass }
     {
-        self.perform(words, Step::Head { page, value: v }, TableWord::Named(Word::Head(page)), Access::Store(v));
+        self.perform(
+            words,
+            Step::Head { page, value: v },
+            TableWord::Named(Word::Head(page)),
+            Access::Store(v),
+        );
     }
 
     /// Stores a page's quarantine word.
@@ -54,7 +64,12 @@ impl Turn {
         ensures op { self.new.op ≡ self.old.op }
         ensures acts { Acts self.old.pass (step.Quar page v) self.new.pass }
     {
-        self.perform(words, Step::Quar { page, value: v }, TableWord::Named(Word::Quar(page)), Access::Store(v));
+        self.perform(
+            words,
+            Step::Quar { page, value: v },
+            TableWord::Named(Word::Quar(page)),
+            Access::Store(v),
+        );
     }
 
     /// Clears a page's marks.
@@ -64,7 +79,12 @@ impl Turn {
         ensures op { self.new.op ≡ self.old.op }
         ensures acts { Acts self.old.pass (step.Clear page) self.new.pass }
     {
-        self.perform(words, Step::Clear(page), TableWord::Named(Word::Mark(page)), Access::Store(0));
+        self.perform(
+            words,
+            Step::Clear(page),
+            TableWord::Named(Word::Mark(page)),
+            Access::Store(0),
+        );
     }
 
     /// Marks cells of a page.
@@ -74,7 +94,12 @@ impl Turn {
         ensures op { self.new.op ≡ self.old.op }
         ensures acts { Acts self.old.pass (step.Mark page v) self.new.pass }
     {
-        self.perform(words, Step::Mark { page, value: v }, TableWord::Named(Word::Mark(page)), Access::Or(v));
+        self.perform(
+            words,
+            Step::Mark { page, value: v },
+            TableWord::Named(Word::Mark(page)),
+            Access::Or(v),
+        );
     }
 
     /// Wipes a heap word.
@@ -84,7 +109,12 @@ impl Turn {
         ensures op { self.new.op ≡ self.old.op }
         ensures acts { Acts self.old.pass (step.Wipe word) self.new.pass }
     {
-        self.perform(words, Step::Wipe(word), TableWord::Named(Word::Heap(word)), Access::Store(0));
+        self.perform(
+            words,
+            Step::Wipe(word),
+            TableWord::Named(Word::Heap(word)),
+            Access::Store(0),
+        );
     }
 
     /// Ends the cycle.
@@ -94,7 +124,12 @@ impl Turn {
         ensures op { self.new.op ≡ self.old.op }
         ensures acts { Acts self.old.pass step.End self.new.pass }
     {
-        self.perform(words, Step::End, TableWord::Named(Word::Phase), Access::Sub(4));
+        self.perform(
+            words,
+            Step::End,
+            TableWord::Named(Word::Phase),
+            Access::Sub(4),
+        );
     }
 
     /// Clears a page's dirty word.
@@ -104,7 +139,12 @@ impl Turn {
         ensures op { self.new.op ≡ self.old.op }
         ensures acts { Acts self.old.pass (step.Undirty page) self.new.pass }
     {
-        self.perform(words, Step::Undirty(page), TableWord::Named(Word::Dirty(page)), Access::Store(0));
+        self.perform(
+            words,
+            Step::Undirty(page),
+            TableWord::Named(Word::Dirty(page)),
+            Access::Store(0),
+        );
     }
 
     /// Clears a page's black word.
@@ -114,7 +154,12 @@ impl Turn {
         ensures op { self.new.op ≡ self.old.op }
         ensures acts { Acts self.old.pass (step.Unblack page) self.new.pass }
     {
-        self.perform(words, Step::Unblack(page), TableWord::Named(Word::Black(page)), Access::Store(0));
+        self.perform(
+            words,
+            Step::Unblack(page),
+            TableWord::Named(Word::Black(page)),
+            Access::Store(0),
+        );
     }
 
     /// Stores a tally.
@@ -124,6 +169,66 @@ impl Turn {
         ensures op { self.new.op ≡ self.old.op }
         ensures acts { Acts self.old.pass (step.Tally n v) self.new.pass }
     {
-        self.perform(words, Step::Tally { tally: n, value: v }, TableWord::Named(tally_word(n)), Access::Store(v));
+        self.perform(
+            words,
+            Step::Tally { tally: n, value: v },
+            TableWord::Named(tally_word(n)),
+            Access::Store(v),
+        );
+    }
+
+    /// Stores a page's used word. Where the word gains a bit, its cell is the one that the turn's New takes.
+    pub fn used(&mut self, words: &Words, page: u64, v: u64)
+        requires one_table { self.old.pass.table ≡ words.now }
+        requires enabled { IsEnabledTo self.old.pass (step.Used page v) }
+        ensures op { self.new.op ≡ self.old.op }
+        ensures acts { Acts self.old.pass (step.Used page v) self.new.pass }
+    {
+        let found = self.pass.replace(
+            words,
+            Step::Used { page, value: v },
+            TableWord::Named(Word::Used(page)),
+            v,
+        );
+        self.cell = cell_behind(page, v, found, self.cell);
+    }
+
+    /// Loads the register of an undecided Free.
+    pub fn reg_load(&mut self, words: &Words, r: u8) -> u64
+        requires one_table { self.old.pass.table ≡ words.now }
+        requires enabled { IsEnabledTo self.old.pass step.Reg }
+        requires admitted { IsAdmittedTo self.old.pass step.Reg }
+        requires register { r ≡ register_met (call_of self.old.pass) (call_of self.old.pass).stage }
+        requires loads { reg_access (call_of self.old.pass) (call_of self.old.pass).stage ≡ Load }
+        ensures op { self.new.op ≡ self.old.op }
+        ensures acts { Acts self.old.pass step.Reg self.new.pass }
+        ensures finds { Finds self.old.pass step.Reg result self.new.pass }
+        ensures goes { Goes self.old.pass step.Reg (progress_reg (call_of self.old.pass) (call_of self.old.pass).stage result) self.new.pass }
+        ensures own { result ≡ register_of self.old.pass r }
+    {
+        let register = TableWord::Named(Word::Reg {
+            caller: self.pass.caller(),
+            register: r as u64,
+        });
+        self.perform(words, Step::Reg, register, Access::Load)
+    }
+
+    /// Puts the address of the new object into the register of a New whose cell is taken, which decides it.
+    pub fn grant(&mut self, words: &Words)
+        requires one_table { self.old.pass.table ≡ words.now }
+        requires enabled { IsEnabledTo self.old.pass step.Grant }
+        requires admitted { IsAdmittedTo self.old.pass step.Grant }
+        ensures op { self.new.op ≡ self.old.op }
+        ensures acts { Acts self.old.pass step.Grant self.new.pass }
+    {
+        let op = self.op;
+        let cell = self.cell;
+        self.pass.is_in_order();
+        let register = TableWord::Named(Word::Reg {
+            caller: self.pass.caller(),
+            register: register_granted(op) as u64,
+        });
+        let address = address_of(cell_base(&words.config, op, cell));
+        self.perform(words, Step::Grant, register, Access::Store(address));
     }
 }

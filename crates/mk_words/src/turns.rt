@@ -1,20 +1,21 @@
 //! The turn, which one seat has at a time.
-ghost use Rattle.std.specs.Prelude.{◌≡◌, ◌+◌, IfOk, IfErr, true, None};
+ghost use Rattle.std.specs.Prelude.{◌≡◌, ◌+◌, IfOk, IfErr, true, false, None};
 ghost use Rattle.mk_core.specs.declared.events.Step.TheVariants as step;
 ghost use Rattle.mk_core.specs.Accesses.{reached, access};
 ghost use Rattle.mk_core.specs.Calls.{at_rest};
-ghost use Rattle.mk_core.specs.Counts.{TalliesAreTidy};
+ghost use Rattle.mk_core.specs.Counts.{TalliesAreExact, TalliesAreTidy, IsTidy};
 ghost use Rattle.mk_core.specs.History.{IsHistory};
 ghost use Rattle.mk_core.specs.Moments.{holder_number};
 ghost use Rattle.mk_core.specs.Order.{seat_exists};
 ghost use Rattle.mk_words.specs.Seats.{Has};
 ghost use Rattle.mk_words.specs.States.{now_of, call_of, event_of};
 ghost use Rattle.mk_words.specs.Steps.{IsEnabledTo, May, Makes, Finds, Tells};
-ghost use Rattle.mk_words.specs.TurnSteps.{IsTurn, IsFresh, turn_stays, Acts};
+ghost use Rattle.mk_words.specs.TurnSteps.{IsTurn, IsFresh, turn_stays, may_take_cell, Acts};
 
 use crate::passes::Pass;
 use crate::words::Words;
 use mk_core::{Access, Seat, Step, TableWord};
+use mk_geom::Cell;
 use mk_never::Op;
 use std::marker::Model;
 
@@ -23,6 +24,7 @@ use std::marker::Model;
 pub struct Turn {
     pub(crate) pass: Pass,
     pub(crate) op: Option<Op>,
+    pub(crate) cell: Option<Cell>,
 }
 
 impl Model for Turn {
@@ -30,11 +32,11 @@ impl Model for Turn {
 
     ghost Value = { TurnState };
 
-    ghost use Rattle.mk_words.specs.TurnSteps.{IsTurn};
+    ghost use Rattle.mk_words.specs.TurnSteps.{KeepsTurn};
 
     ghost view = { λ t. record { pass = t.pass; op = t.op } };
 
-    ghost invariant = { λ t. IsTurn t.pass t.op };
+    ghost invariant = { λ t. KeepsTurn t.pass t.op t.cell };
 }
 
 /// Another seat has the turn, by its number: a caller's own, or for the host the number of callers.
@@ -66,7 +68,11 @@ impl Pass {
         ensures made { IfOk result (λ turn. Finds self (step.Take op) 0 turn.pass) }
         ensures op { IfOk result (λ turn. turn.op ≡ op) }
         ensures fresh { IfOk result (λ turn. IsFresh turn.pass op) }
+        ensures exact { IfOk result (λ turn. TalliesAreExact turn.pass.table.config turn.pass.seen) }
+        ensures tidy { IfOk result (λ turn. TalliesAreTidy turn.pass.table.config turn.pass.seen) }
         ensures busy { IfErr result (λ back. Finds self (step.Take op) (1 + back.1.holder) back.0) }
+        ensures stays { IfErr result (λ back. call_of back.0 ≡ call_of self) }
+        ensures again { IfErr result (λ back. IsEnabledTo back.0 (step.Take op)) }
     {
         let number = self.turn_word(words);
         let found = self.perform(
@@ -78,8 +84,13 @@ impl Pass {
                 new: number,
             },
         );
+        self.is_in_order();
         if found == 0 {
-            Ok(Turn { pass: self, op })
+            Ok(Turn {
+                pass: self,
+                op,
+                cell: None,
+            })
         } else {
             Err((self, Busy { holder: found - 1 }))
         }
@@ -105,22 +116,19 @@ impl Turn {
     #[inline(always)]
     pub fn is_in_order(&self)
         ensures turn { IsTurn self.now.pass self.now.op }
+        ensures own { Has self.now.pass.seats self.now.pass.seat }
         ensures history { IsHistory self.now.pass.table.config self.now.pass.seen }
+        ensures tidy { IsTidy self.now.pass.table.config self.now.pass.seen }
     {
         self.pass.is_in_order();
     }
 
     /// Makes a step behind which the turn goes on.
     #[inline(always)]
-    pub(crate) fn perform(
-        &mut self,
-        words: &Words,
-        step: Step,
-        word: TableWord,
-        by: Access,
-    ) -> u64
+    pub(crate) fn perform(&mut self, words: &Words, step: Step, word: TableWord, by: Access) -> u64
         requires one_table { self.old.pass.table ≡ words.now }
         requires stays { turn_stays step ≡ true }
+        requires takes_none { may_take_cell step ≡ false }
         requires may { May self.old.pass step }
         requires word { word ≡ reached self.old.pass.table.config (now_of self.old.pass) (event_of self.old.pass step) }
         requires access { by ≡ access self.old.pass.table.config (now_of self.old.pass) (event_of self.old.pass step) }
@@ -141,7 +149,7 @@ impl Turn {
         ensures acts { Acts self.pass step.Give result }
         ensures rests { call_of result ≡ at_rest }
     {
-        let Turn { mut pass, op: _ } = self;
+        let Turn { mut pass, .. } = self;
         pass.perform(words, Step::Give, TableWord::Turn, Access::Store(0));
         pass
     }

@@ -8,9 +8,9 @@ ghost use Rattle.mk_words.specs.Seats.{Has, HasAll, all_seats, without_seat, is_
 ghost use Rattle.mk_words.specs.States.{now_of};
 ghost use Rattle.mk_words.specs.Finals.{history_of, config_of, HasTallies};
 
+use crate::finals::{Final, freed_bits};
 use crate::passes::{OUTSIDE, Pass};
 use crate::rule::{OneHistory, View};
-use crate::finals::{Final, freed_bits};
 use crate::telling::{HandOver, Handing, Remember, Settle, Together};
 use atomic_table::Table;
 use mk_core::{Config, Seat};

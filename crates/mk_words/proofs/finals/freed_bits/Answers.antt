@@ -1,9 +1,8 @@
-use Rattle.std.proofs.Common.{◌≡◌, ℕ, ◌+◌, ◌*◌, ◌<◌, ◌≤◌, arith, ap, sym, ◌∙◌, add-one}
+use Rattle.std.proofs.Common.{◌+◌, ◌*◌, ◌<◌, ◌≤◌, arith}
 use Rattle.std.specs.Prelude.{◌%◌, ◌^◌, count_ones}
 use Rattle.std.proofs.Math.Nat.{mod-lt}
 use Rattle.std.proofs.lemmas.Nat.{ones-le}
 use Rattle.std.specs.Mem.Slots.{slots_items}
-use Rattle.mk_words.specs.Finals.{freed_bits_in}
 use Rattle.mk_words.proofs.Closing.{found_at, one_page_more}
 use Rattle.mk_words.proofs.finals.freed_bits.Goals as goal
 

@@ -1,7 +1,5 @@
-use Rattle.std.proofs.Common.{refl, sym, ap}
-use Rattle.std.specs.Prelude.{ℕ}
+use Rattle.std.proofs.Common.{refl}
 use Rattle.mk_core.specs.declared.events.Step.TheVariants as step
-use Rattle.mk_words.specs.States.{call_of}
 use Rattle.mk_words.proofs.CallSteps.{goes_on, keeps}
 use Rattle.mk_words.proofs.passes.Pass.dirty.Goals as goal
 

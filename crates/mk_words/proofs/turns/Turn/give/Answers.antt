@@ -10,7 +10,7 @@ returns-clause-acts c =
     let f = c.perform in
     let t = c.self.inside in
     subst (λ (v : TurnState). Acts v.pass step.Give f.new.self) c.self.view_is
-    (acts t.pass step.Give f.new.self f.ensures.told.makes f.ensures.own f.ensures.history c.self.invariant.holds)
+    (acts t.pass step.Give f.new.self f.ensures.told.makes f.ensures.own f.ensures.history c.self.invariant.turn.holds)
 
 pub returns-clause-rests : goal.returns-clause-rests
 returns-clause-rests c =

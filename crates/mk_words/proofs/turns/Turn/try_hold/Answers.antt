@@ -1,5 +1,5 @@
 use Rattle.std.proofs.Common.{sym, ◌∙◌}
-use Rattle.mk_words.proofs.TurnSteps.{hold_finds, hold_holds}
+use Rattle.mk_words.proofs.TurnSteps.{hold_finds, hold_holds, hold_misses}
 use Rattle.mk_words.proofs.turns.Turn.try_hold.Goals as goal
 
 pub returns-then-found-eq0-clause-found : goal.returns-then-found-eq0-clause-found
@@ -19,3 +19,8 @@ returns-else-found-eq0-clause-in_call c =
       makes = f.ensures.told.makes;
       finds = sym (hold_finds c.args.self.now.pass c.args.caller f.result f.new.self.pass f.ensures.told f.ensures.own f.ensures.history c.if-found-eq0.false) ∙ f.ensures.told.tells;
     }
+
+pub returns-else-found-eq0-clause-not_held : goal.returns-else-found-eq0-clause-not_held
+returns-else-found-eq0-clause-not_held c =
+    let f = c.perform-found in
+    hold_misses c.args.self.now.pass c.args.caller f.result f.new.self.pass f.ensures.told f.ensures.own f.ensures.history c.if-found-eq0.false

@@ -1,4 +1,4 @@
-use Rattle.std.proofs.Common.{◌≡◌, ℕ, ◌<◌, ◌∙◌, sym, ap, subst, arith}
+use Rattle.std.proofs.Common.{◌≡◌, ◌∙◌, sym, ap, subst, arith}
 use Rattle.std.specs.Mem.Slots.{slots_items, slots_len}
 use Rattle.mk_core.specs.declared.config.Config.{Config}
 use Rattle.mk_words.specs.Seats.{HasAll}

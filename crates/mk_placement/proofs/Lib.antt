@@ -1,0 +1,11 @@
+pub mod Histories
+pub mod Longer
+pub mod OwnCycles
+pub mod Undecided
+pub mod Placings
+pub mod Tracked
+pub mod Theorems
+pub mod FreshWords
+pub mod FreshSteps
+pub mod TallySteps
+pub mod Tallies

@@ -1,0 +1,12 @@
+-- When the tallies of held and fresh words are those of the allocations.
+use Rattle.std.specs.Prelude.{◌≡◌, List, ◌∷◌, ◌++◌}
+use Rattle.mk_core.specs.declared.config.Config.{Config}
+use Rattle.mk_core.specs.declared.events.Event.{Event}
+use Rattle.mk_core.specs.declared.events.Step.TheVariants as step
+use Rattle.mk_core.specs.Counts.{TalliesAreExact}
+
+-- They are so before each `give`.
+abbrev pub TalliesAreExactAtGives : Config → List Event → Type 0
+TalliesAreExactAtGives c es =
+    (before : List Event) (e : Event) (behind : List Event) → es ≡ before ++ e ∷ behind → e.step ≡ step.Give
+    → TalliesAreExact c before

@@ -1,0 +1,47 @@
+-- Precision: a cycle without a sweeping mark releases what it doesn't reach by pointers.
+use Rattle.std.specs.Prelude.{◌≡◌, ℕ, ◌+◌, ◌*◌, true, false, List, [], ◌∷◌, ◌++◌, Contains}
+use Rattle.mk_geom.specs.PageUses.{Nothing}
+use Rattle.mk_geom.specs.Storages.{Storage, is_small, is_cell_taken, stands_on, use_of_storages}
+use Rattle.mk_geom.specs.StorageWords.{IsWordOf}
+use Rattle.mk_core.specs.declared.config.Config.{Config}
+use Rattle.mk_core.specs.declared.events.Event.{Event}
+use Rattle.mk_core.specs.Allocations.{placed_at, storage_of, unreleased_storage}
+use Rattle.mk_core.specs.Cycles.{Cycle, IsInSnapshot, NoneSweeps, Releasing, before_end, before_release}
+use Rattle.mk_core.specs.History.{left}
+use Rattle.mk_core.specs.Touched.{IsTouched}
+
+-- the events through a cycle's `release`, and through its `end`, from the first of all on
+abbrev pub through_release : {es : List Event} → Releasing es → List Event
+through_release k = before_release k ++ k.release.at.event ∷ []
+
+abbrev pub through_end : {es : List Event} → Cycle es → List Event
+through_end k = before_end k ++ k.end.at.event ∷ []
+
+-- What a cycle's `release` keeps of its snapshot is touched:
+abbrev pub KeepsOnlyTheTouched : Config → List Event → Type 0
+KeepsOnlyTheTouched c es =
+    (k : Releasing es) → NoneSweeps c k.marking → (i : ℕ) → IsInSnapshot c k.marking i
+    → (placed_at (left c (through_release k)).allocations i).released ≡ false → IsTouched c k.marking i
+
+-- what isn't touched is released.
+abbrev pub ReleasesTheUntouched : Config → List Event → Type 0
+ReleasesTheUntouched c es =
+    (k : Releasing es) → NoneSweeps c k.marking → (i : ℕ) → IsInSnapshot c k.marking i → (IsTouched c k.marking i → ⊥)
+    → (placed_at (left c (through_release k)).allocations i).released ≡ true
+
+-- A storage counts as free among these.
+pub record CountsAsFree (storages : List Storage) (s : Storage) : Type 0 where
+  -- None of them has a word of it.
+  pub apart : (t : Storage) → Contains storages t → (n : ℕ) → IsWordOf s n → IsWordOf t n → ⊥
+  -- So place and fits, which read these storages alone, find that no cell that begins where it does is taken,
+  pub cell : (page words k : ℕ) → s.first ≡ 64 * page + k * words → is_cell_taken storages page words k ≡ false
+  -- and that nothing stands on the pages of a large one.
+  pub pages : is_small s ≡ false → (page : ℕ) → stands_on page s ≡ true → use_of_storages storages page ≡ Nothing
+
+-- Behind the cycle's `end` its storage counts as free in place and fits.
+abbrev pub FreesTheUntouched : Config → List Event → Type 0
+FreesTheUntouched c es =
+    (k : Cycle es) → NoneSweeps c k.releasing.marking → (i : ℕ) → IsInSnapshot c k.releasing.marking i
+    → (IsTouched c k.releasing.marking i → ⊥)
+    → CountsAsFree (unreleased_storage c (left c (through_end k)).allocations)
+    (storage_of c (placed_at (left c (through_end k)).allocations i))

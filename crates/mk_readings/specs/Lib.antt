@@ -1,0 +1,3 @@
+pub mod FreeWords
+pub mod Readings
+pub mod Releases

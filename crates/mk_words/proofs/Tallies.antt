@@ -1,0 +1,127 @@
+-- An event that counts nothing leaves the tallies what they count.
+use Rattle.std.proofs.Common.{◌≡◌, ℕ, ◌+◌, List, [], ◌∷◌, ◌++◌, refl, sym, ◌∙◌, ap, subst, arith}
+use Rattle.std.proofs.lemmas.Bool.{ne_eqb}
+use Rattle.std.specs.Prelude.{cond}
+use Rattle.std.proofs.lemmas.List.Sums.{sum_by_push}
+use Rattle.mk_core.specs.declared.config.Config.{Config}
+use Rattle.mk_core.specs.declared.events.Event.{Event}
+use Rattle.mk_core.specs.Accesses.{caller_number}
+use Rattle.mk_core.specs.Allocations.{PlacedAllocation, fresh_words_of, held_words, unreleased_storage}
+use Rattle.mk_core.specs.Counts.{TalliesAreExact, TalliesAreTidy, ends, fulls, in_a_word, releases}
+use Rattle.mk_core.specs.Cycles.{is_end}
+use Rattle.mk_core.specs.Decided.{Decided}
+use Rattle.mk_core.specs.Effects.{answer_decided}
+use Rattle.mk_core.specs.History.{World, IsHistory, calls, call_decided, first_world, left, left_from, world_behind}
+use Rattle.mk_core.specs.Moments.{Moment, flight_of}
+use Rattle.mk_core.specs.Words.{Words, phase_of}
+use Rattle.mk_core.proofs.Histories.{calls_more, left_more}
+use Rattle.mk_protocol.proofs.OthersCounts.{entry_fulls, fulls_append, fulls_of}
+use Rattle.mk_placement.proofs.TallySteps.{CountsNothing}
+use Rattle.mk_geom.proofs.HeldWords.{pages_hold_mapped_words}
+use Rattle.mk_core.specs.declared.seats.Holding.{Holding}
+use Rattle.mk_core.specs.NewPlaces.{is_run_gone}
+use Rattle.mk_core.specs.TurnConditions.{words_held}
+use Rattle.mk_core.proofs.Lengths.{histories_keep_lengths}
+use Rattle.mk_protocol.specs.Protocol.{Protocol, has_place}
+use Rattle.mk_protocol.proofs.Known.{known_left}
+use Rattle.mk_layout.specs.SettledPages.{IsSettled}
+use Rattle.mk_layout.proofs.Before.{Before}
+use Rattle.mk_layout.proofs.Histories.{known_before}
+use Rattle.mk_images.proofs.KnownWorlds.{known_world}
+use Rattle.mk_invariant.specs.Theorems.{OfHistories}
+use Rattle.mk_invariant.proofs.Histories.{histories_keep_the_invariant}
+use Rattle.mk_invariant.proofs.Joined.{told_to_layout}
+use Rattle.mk_invariant.proofs.Theorems.{pages_show_the_storage}
+use Rattle.mk_placement.proofs.FreshSteps.{FreshTold, fresh_told_behind}
+use Rattle.mk_placement.proofs.Histories.{KeptByEvents, before_it, holds_of_histories}
+use Rattle.mk_placement.proofs.Tallies.{tallies_tell}
+
+-- (as in the crate that proves what the tallies count, where it is private)
+module _ (c : Config) (es : List Event) (e : Event) (nothing : CountsNothing c (left c es) e) where
+  more : left c (es ++ e ∷ []) ≡ world_behind c (left c es) e
+  more = left_more c (first_world c) es e
+
+  tally : (word : Words → ℕ) (n : ℕ) → word (world_behind c (left c es) e).now.words ≡ word (left c es).now.words
+      → word (left c es).now.words ≡ n → word (left c (es ++ e ∷ [])).now.words ≡ n
+  tally word n same is = ap (λ (w : World). word w.now.words) more ∙ same ∙ is
+
+  same_allocations : (left c es).allocations ≡ (left c (es ++ e ∷ [])).allocations
+  same_allocations = sym (ap (λ (w : World). w.allocations) more ∙ nothing.alike.allocations)
+
+  pub same_ends : ends es ≡ ends (es ++ e ∷ [])
+  same_ends =
+      let last : cond {A = ℕ} (is_end e.step) 1 0 ≡ 0 = ap (λ b. cond {A = ℕ} b 1 0) nothing.no_end in
+      let pushed : ends (es ++ e ∷ []) ≡ ends es + cond {A = ℕ} (is_end e.step) 1 0 =
+      sum_by_push (λ (x : Event). cond {A = ℕ} (is_end x.step) 1 0) es e in
+      omega arith
+
+  pub same_fulls : fulls c es ≡ fulls c (es ++ e ∷ [])
+  same_fulls =
+      let ds : List Decided = call_decided c (left c es).now e in
+      let m : Moment = (left c es).now in
+      let last : fulls_of ds ≡ 0 =
+      entry_fulls (caller_number e.seat) (flight_of m e.seat).op (answer_decided c m e) nothing.no_full in
+      let pushed : fulls c (es ++ e ∷ []) ≡ fulls c es + fulls_of ds =
+      ap (λ (xs : List Decided). fulls_of xs) (calls_more c (first_world c) es e) ∙ fulls_append (calls c es) ds in
+      omega arith
+
+  pub exact_more : TalliesAreExact c es → TalliesAreExact c (es ++ e ∷ [])
+  exact_more exact =
+      record {
+        held = tally (λ (w : Words). w.held) _ nothing.alike.tallies.held exact.held
+            ∙ ap (λ (xs : List PlacedAllocation). held_words c xs) same_allocations;
+        fresh = tally (λ (w : Words). w.fresh) _ nothing.alike.tallies.fresh exact.fresh
+            ∙ ap (λ (xs : List PlacedAllocation). in_a_word (fresh_words_of c xs)) same_allocations;
+      }
+
+  pub counts_tidy_more : TalliesAreTidy c es → TalliesAreTidy c (es ++ e ∷ [])
+  counts_tidy_more tidy =
+      record {
+        cycles = tally (λ (w : Words). w.cycles) _ nothing.alike.tallies.cycles tidy.cycles ∙ ap in_a_word same_ends;
+        released = tally (λ (w : Words). w.released) _ nothing.alike.tallies.released tidy.released
+            ∙ ap (λ (xs : List PlacedAllocation). in_a_word (releases xs)) same_allocations;
+        full = tally (λ (w : Words). w.full) _ nothing.alike.tallies.full tidy.full ∙ ap in_a_word same_fulls;
+      }
+
+-- The fresh count of the moment is that of the allocations (as there, too).
+
+abbrev FreshIsTold : Config → List Event → Type 0
+FreshIsTold c es = FreshTold c (left c es)
+
+world_before : (c : Config) (es : List Event) → IsHistory c es → Before c (left c es)
+world_before c es h =
+    let all = histories_keep_the_invariant c es h in
+    let others = told_to_layout c (left c es) _ (known_world c es h.within_limits h.enabled) all in
+    let known = known_left c es h.within_limits h.enabled in
+    known_before c (left c es) h.within_limits (histories_keep_lengths c es) known others all.order.quarantined
+
+fresh_kept : KeptByEvents FreshIsTold
+fresh_kept c es e h told =
+    let here = before_it c (es ++ e ∷ []) es e [] h refl in
+    let order = (histories_keep_the_invariant c es here.0).order in
+    subst (λ (w : World). FreshTold c w) (sym (left_more c (first_world c) es e))
+    (fresh_told_behind c (left c es) e.seat e.step (world_before c es here.0) here.1 order told)
+
+fresh_at_first : (c : Config) → FreshIsTold c []
+unfolding left_from
+fresh_at_first c = refl
+
+fresh_is_told : OfHistories FreshIsTold
+fresh_is_told = holds_of_histories FreshIsTold fresh_at_first fresh_kept
+
+-- where nobody holds the turn, the tallies are those of the words
+pub free_tallies : (c : Config) (es : List Event) → IsHistory c es → Protocol c (left c es).now → (left c es).now.words.turn ≡ 0
+    → ((left c es).now.words.held ≡ words_held (left c es).now.words) × ((left c es).now.words.fresh ≡ (left c es).now.fresh_words)
+free_tallies c es h protocol free =
+    let m : Moment = (left c es).now in
+    let nothing = protocol.free free in
+    let exact = (tallies_tell c es h free).0 in
+    let settled : IsSettled (left c es) = record {
+      releasing = ne_eqb (phase_of m.words) 4 (λ four. protocol.cycle (omega arith) (omega arith) free);
+      placing = ap (λ (x : Holding). has_place x.placing) nothing;
+      gone = ap (λ (x : Holding). is_run_gone m.words x.freed) nothing;
+    } in
+    let shown = pages_show_the_storage c es h settled in (
+      exact.held ∙ sym (pages_hold_mapped_words m.words.pages (unreleased_storage c (left c es).allocations) shown),
+      exact.fresh ∙ sym (fresh_is_told c es h),
+    )

@@ -1,0 +1,27 @@
+use Rattle.std.proofs.Common.{refl, sym, subst, Option}
+use Rattle.mk_geom.specs.declared.addresses.Cell.{Cell}
+use Rattle.mk_core.specs.declared.events.Step.TheVariants as step
+use Rattle.mk_words.specs.States.{TurnState}
+use Rattle.mk_words.specs.TurnSteps.{Acts, KnowsCell}
+use Rattle.mk_words.proofs.TurnSteps.{acts, still_turn, used_turn}
+use Rattle.mk_words.proofs.turns.Turn.used.Goals as goal
+
+pub invariant_of-self : goal.invariant_of-self
+invariant_of-self c =
+    let t = c.self.inside in
+    let f = c.replace-found in
+    let s = step.Used c.args.page c.args.v in
+    let makes = f.ensures.finds.makes in
+    record {
+      turn = still_turn t.pass s f.new.self makes f.ensures.own f.ensures.history t.op refl c.self.invariant.turn;
+      knows = subst (λ (cell : Option Cell). KnowsCell f.new.self cell) (sym c.cell_behind-self-inside.ensures)
+          (used_turn t.pass c.args.page c.args.v f.result f.new.self makes f.ensures.own f.ensures.history t.cell c.self.invariant.turn.holds f.ensures.finds.finds c.ranges.v.fits
+          c.self.invariant.knows);
+    }
+
+pub returns-clause-acts : goal.returns-clause-acts
+returns-clause-acts c =
+    let t = c.self.inside in
+    let f = c.replace-found in
+    subst (λ (v : TurnState). Acts v.pass (step.Used c.args.page c.args.v) f.new.self) c.self.view_is
+    (acts t.pass (step.Used c.args.page c.args.v) f.new.self f.ensures.finds.makes f.ensures.own f.ensures.history c.self.invariant.turn.holds)

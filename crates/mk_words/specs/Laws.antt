@@ -1,0 +1,32 @@
+-- What is known of every step that a pass made.
+use Rattle.std.specs.Prelude.{◌≡◌, ℕ, [], ◌∷◌, ◌++◌}
+use Rattle.mk_core.specs.declared.events.Seat.TheVariants.{Caller}
+use Rattle.mk_core.specs.declared.events.Step.{Step}
+use Rattle.mk_core.specs.Enabled.{MeetsAll}
+use Rattle.mk_core.specs.Effects.{progress}
+use Rattle.mk_core.specs.Frames.{IsLeft, IsLeftByAdmitted}
+use Rattle.mk_core.specs.Growing.{AreOfOthers}
+use Rattle.mk_core.specs.History.{world_behind, IsHistory}
+use Rattle.mk_words.specs.Seats.{Has}
+use Rattle.mk_words.specs.States.{PassState, world_of, call_of, event_of}
+use Rattle.mk_words.specs.Steps.{Makes, moment_of, found_by, Goes}
+use Rattle.mk_words.specs.TurnSteps.{world_at}
+
+-- Up to the step others have left the seat its own. The event meets all conditions there, and leaves what it leaves there.
+pub record StandsBehindOthers (p : PassState) (s : Step) (q : PassState) (m : Makes p s q) : Type 0 where
+  pub others : AreOfOthers (p.seat ∷ []) m.others
+  pub history : IsHistory p.table.config (p.seen ++ m.others)
+  pub left : IsLeft p.table.config p.seat p.seen (p.seen ++ m.others)
+  pub admitted : IsLeftByAdmitted p.table.config p.seat p.seen (p.seen ++ m.others)
+  pub meets : MeetsAll p.table.config (moment_of m) (event_of p s)
+  pub world : world_of q ≡ world_behind p.table.config (world_at m) (event_of p s)
+
+abbrev pub StepsStandBehindOthers : Type 0
+StepsStandBehindOthers =
+    (p q : PassState) (s : Step) (m : Makes p s q) → Has p.seats p.seat → IsHistory q.table.config q.seen → StandsBehindOthers p s q m
+
+-- A caller's step, in the turn or not, makes its call go on from where the pass knew it.
+abbrev pub CallsGoOn : Type 0
+CallsGoOn =
+    (p q : PassState) (s : Step) (m : Makes p s q) (k : ℕ) → Has p.seats p.seat → IsHistory q.table.config q.seen → p.seat ≡ Caller k
+    → Goes p s (progress p.table.config (moment_of m) (call_of p) (found_by m) s) q

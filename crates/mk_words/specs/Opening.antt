@@ -1,0 +1,39 @@
+-- What is asked and left where all gates are opened.
+use Rattle.std.specs.Prelude.{◌≡◌, ◌⊎◌, ℕ, ◌<◌, ◌≤◌, Bool, true, false, List, [], ◌∷◌, ◌++◌, ⊤}
+use Rattle.mk_core.specs.declared.events.Seat.{Seat}
+use Rattle.mk_core.specs.declared.events.Step.{Step}
+use Rattle.mk_core.specs.declared.events.Step.TheVariants as step
+use Rattle.mk_core.specs.declared.events.Event.{Event}
+use Rattle.mk_core.specs.Moments.{is_number_of, is_held}
+use Rattle.mk_core.specs.Growing.{is_one_of}
+use Rattle.mk_core.specs.Frames.{steady_of, CountsAreLeft}
+use Rattle.mk_words.specs.States.{PassState, world_of, now_of, call_of}
+use Rattle.mk_words.specs.Steps.{IsEnabledTo}
+
+-- The gates of all callers from this one on may be opened, but for the holder's.
+abbrev pub OthersMayOpen : PassState → ℕ → Type 0
+OthersMayOpen p first =
+    (j : ℕ) → first ≤ j → j < p.table.config.callers → is_number_of p.seat j ≡ false → IsEnabledTo p (step.Open j)
+
+abbrev pub is_open : Step → Bool
+is_open (step.Open j) = true
+is_open _ = false
+
+-- Each event is of another, or opens a gate.
+unfoldable pub OnlyOpen : List Seat → List Event → Type 0
+OnlyOpen seats [] = ⊤
+OnlyOpen seats (e ∷ es) = ((is_one_of seats e.seat ≡ false) ⊎ (is_open e.step ≡ true)) × OnlyOpen seats es
+
+-- The pass has seen events of others, and has opened gates. All that is steady in a turn is as it was.
+pub record Opens (p q : PassState) : Type 0 where
+  pub more : List Event
+  pub is : q ≡ record p { seen = p.seen ++ more }
+  pub only : OnlyOpen p.seats more
+  pub steady : steady_of (world_of q) ≡ steady_of (world_of p)
+  pub holding : (now_of q).seats.holding ≡ (now_of p).seats.holding
+  pub call : call_of q ≡ call_of p
+  pub counts : CountsAreLeft p.table.config p.seen q.seen
+
+-- The gates of the callers below this one aren't held, but for the holder's.
+abbrev pub AreOpened : PassState → ℕ → Type 0
+AreOpened p end = (j : ℕ) → j < end → is_number_of p.seat j ≡ false → is_held (now_of p).words j ≡ false

@@ -1,0 +1,348 @@
+-- What a turn knows of the table behind its own steps.
+use Rattle.std.proofs.Common.{◌≡◌, ◌≢◌, ◌⊎◌, inl, inr, ℕ, ◌+◌, ◌<◌, ◌≤◌, Bool, true, false, List, [], ◌∷◌, ◌++◌, length, Option, refl, sym, ◌∙◌, ap, subst, arith}
+use Rattle.std.specs.Prelude.{slice_index, slice_set, ◌==◌, not, nat_lt, None}
+use Rattle.std.proofs.lemmas.Bool.{cases_lt, cases_eq, eqb-false, eqb-true, ne_eqb, eq-eqb, lt-ltb, and_from, true≢false}
+use Rattle.std.proofs.lemmas.List.{get_or-set_other, get_or-set_same, get_or_past, length-set}
+use Rattle.mk_geom.specs.PageUses.{words_held_among}
+use Rattle.mk_geom.specs.PageWords.{uses_of_pages}
+use Rattle.mk_core.specs.declared.events.Word.{Word}
+use Rattle.mk_core.specs.declared.config.Config.{Config}
+use Rattle.mk_core.specs.declared.events.Seat.{Seat}
+use Rattle.mk_core.specs.declared.events.Seat.TheVariants.{Host}
+use Rattle.mk_core.specs.declared.events.Step.{Step}
+use Rattle.mk_core.specs.declared.events.Step.TheVariants as step
+use Rattle.mk_core.specs.declared.events.Event.{Event}
+use Rattle.mk_core.specs.declared.seats.Holding.{Holding}
+use Rattle.mk_core.specs.declared.seats.RunPages.{RunPages}
+use Rattle.mk_core.specs.Words.{phase_of}
+use Rattle.mk_core.specs.Moments.{Moment, none_is_held, is_held}
+use Rattle.mk_core.specs.Ranges.{has_phase}
+use Rattle.mk_core.specs.TurnConditions.{words_held}
+use Rattle.mk_core.specs.Effects.{moment_behind}
+use Rattle.mk_core.specs.History.{World, world_behind}
+use Rattle.mk_core.specs.Frames.{Steady, steady_of}
+use Rattle.mk_protocol.proofs.Asked.{none_held}
+use Rattle.mk_words.specs.States.{PassState, now_of, world_of}
+use Rattle.mk_words.specs.TurnSteps.{world_at, Acts}
+use Rattle.mk_words.proofs.TurnSteps.{all_from}
+use Rattle.mk_core.specs.declared.events.Word.TheVariants as word
+use Rattle.mk_core.specs.Calls.{at_rest}
+use Rattle.mk_core.specs.Moments.{outside}
+use Rattle.mk_core.specs.Order.{is_open_to, group_of, comes_next_to_host}
+use Rattle.mk_core.specs.Ranges.{is_in_range, has_gates}
+use Rattle.mk_core.specs.Enabled.{IsEnabled, marker_may, holder_may}
+use Rattle.mk_core.specs.Readings.{Holds}
+use Rattle.mk_core.specs.NewPlaces.{is_run_gone}
+use Rattle.mk_core.specs.Cycles.{is_end}
+use Rattle.mk_core.specs.Counts.{TalliesAreTidy, in_a_word, releases}
+use Rattle.mk_core.specs.History.{left}
+use Rattle.mk_core.specs.Frames.{CountsAreLeft}
+use Rattle.mk_core.proofs.Conditions.{meets_enabled}
+use Rattle.mk_placement.proofs.TallySteps.{CountsNothing}
+use Rattle.mk_words.specs.Steps.{IsEnabledTo}
+use Rattle.mk_words.proofs.Tallies.{counts_tidy_more}
+use Rattle.mk_words.specs.Opening.{Opens, OthersMayOpen}
+use Rattle.mk_core.specs.Moments.{others_are_held}
+use Rattle.mk_words_clients.specs.Clients.{MayGiveBack, Settled, HoldsBelow, StaysTidy}
+
+-- kinds that leave the steady words, the allocations and the freed run alone
+abbrev pub leaves_steady : Step → Bool
+leaves_steady (step.Look x) = true
+leaves_steady (step.Hold j) = true
+leaves_steady (step.Open j) = true
+leaves_steady (step.Clear p) = true
+leaves_steady (step.Mark p v) = true
+leaves_steady (step.Wipe n) = true
+leaves_steady (step.Undirty p) = true
+leaves_steady (step.Black p v) = true
+leaves_steady (step.Unblack p) = true
+leaves_steady _ = false
+
+steady_behind : (c : Config) (w : World) (seat : Seat) (s : Step) → leaves_steady s ≡ true → steady_of (world_behind c w (record { seat = seat; step = s })) ≡ steady_of w
+steady_behind c w seat (step.Look x) h = refl
+steady_behind c w seat (step.Hold j) h = refl
+steady_behind c w seat (step.Open j) h = refl
+steady_behind c w seat (step.Clear p) h = refl
+steady_behind c w seat (step.Mark p v) h = refl
+steady_behind c w seat (step.Wipe n) h = refl
+steady_behind c w seat (step.Undirty p) h = refl
+steady_behind c w seat (step.Black p v) h = refl
+steady_behind c w seat (step.Unblack p) h = refl
+steady_behind c w seat _ h = cc
+
+pub steady_kept : (p q : PassState) (s : Step) → Acts p s q → leaves_steady s ≡ true → steady_of (world_of q) ≡ steady_of (world_of p)
+steady_kept p q s a h =
+    ap (λ (w : World). steady_of w) a.world ∙ steady_behind p.table.config (world_at a.makes) p.seat s h ∙ a.turn.steady
+
+freed_behind : (c : Config) (m : Moment) (seat : Seat) (s : Step) → leaves_steady s ≡ true
+    → (moment_behind c m (record { seat = seat; step = s })).seats.holding.freed ≡ m.seats.holding.freed
+freed_behind c m seat (step.Look x) h = refl
+freed_behind c m seat (step.Hold j) h = refl
+freed_behind c m seat (step.Open j) h = refl
+freed_behind c m seat (step.Clear p) h = refl
+freed_behind c m seat (step.Mark p v) h = refl
+freed_behind c m seat (step.Wipe n) h = refl
+freed_behind c m seat (step.Undirty p) h = refl
+freed_behind c m seat (step.Black p v) h = refl
+freed_behind c m seat (step.Unblack p) h = refl
+freed_behind c m seat _ h = cc
+
+pub freed_kept : (p q : PassState) (s : Step) → Acts p s q → leaves_steady s ≡ true → (now_of q).seats.holding.freed ≡ (now_of p).seats.holding.freed
+freed_kept p q s a h =
+    ap (λ (w : World). w.now.seats.holding.freed) a.world ∙ freed_behind p.table.config (world_at a.makes).now p.seat s h ∙ ap (λ (x : Holding). x.freed) a.holding
+
+pub settled_kept : (p q : PassState) (s : Step) → Acts p s q → leaves_steady s ≡ true → Settled p → Settled q
+settled_kept p q s a h x =
+    let same = steady_kept p q s a h in
+    record {
+      seat = ap (λ (r : PassState). r.seat) a.makes.is ∙ x.seat;
+      phase = ap (λ (y : Steady). has_phase y.phase step.Give) same ∙ x.phase;
+      freed = freed_kept p q s a h ∙ x.freed;
+      held = ap (λ (y : Steady). y.held) same ∙ x.held ∙ sym (ap (λ (y : Steady). words_held_among (uses_of_pages y.pages)) same);
+      fresh = ap (λ (y : Steady). y.fresh) same ∙ x.fresh ∙ sym (ap (λ (y : Steady). y.fresh_words) same);
+    }
+
+-- gates that aren't held
+
+abbrev pub NoneHeld : PassState → Type 0
+NoneHeld p = (i : ℕ) → i < p.table.config.callers → slice_index (now_of p).words.gates i ≢ 2
+
+abbrev pub OnlyHeld : ℕ → PassState → Type 0
+OnlyHeld j p = (i : ℕ) → i < p.table.config.callers → i ≢ j → slice_index (now_of p).words.gates i ≢ 2
+
+pub none_held_is : (p : PassState) → none_is_held p.table.config.callers (now_of p).words ≡ true → NoneHeld p
+none_held_is p h = none_held p.table.config (now_of p).words h
+
+pub is_none_held : (p : PassState) → NoneHeld p → none_is_held p.table.config.callers (now_of p).words ≡ true
+is_none_held p h =
+    all_from p.table.config.callers (λ j. not (is_held (now_of p).words j)) (λ i lt. ap not (ne_eqb (slice_index (now_of p).words.gates i) 2 (h i lt)))
+
+config_kept : (p q : PassState) (s : Step) → Acts p s q → q.table.config ≡ p.table.config
+config_kept p q s a = ap (λ (r : PassState). r.table.config) a.makes.is
+
+within : (p q : PassState) (s : Step) (a : Acts p s q) (i : ℕ) → i < q.table.config.callers → i < p.table.config.callers
+within p q s a i lt = subst (λ (c : Config). i < c.callers) (config_kept p q s a) lt
+
+pub hold_leaves : (p q : PassState) (j : ℕ) → Acts p (step.Hold j) q → NoneHeld p → OnlyHeld j q
+hold_leaves p q j a h i lt other two =
+    a.turn.other_gates i (h i (within p q (step.Hold j) a i lt))
+    (sym (get_or-set_other (world_at a.makes).now.words.gates j i _ 0 other) ∙ sym (ap (λ (w : World). slice_index w.now.words.gates i) a.world) ∙ two)
+
+pub look_leaves : (p q : PassState) (j : ℕ) (x : Word) → Acts p (step.Look x) q → OnlyHeld j p → OnlyHeld j q
+look_leaves p q j x a h i lt other two =
+    a.turn.other_gates i (h i (within p q (step.Look x) a i lt) other) (sym (ap (λ (w : World). slice_index w.now.words.gates i) a.world) ∙ two)
+
+zero_there : (xs : List ℕ) (i : ℕ) → slice_index (slice_set xs i 0) i ≢ 2
+zero_there xs i two = by (cases_lt i (length xs))
+  where
+    by : (i < length xs) ⊎ (length xs ≤ i) → ⊥
+    by (inl lt) = let z = get_or-set_same xs i 0 0 lt in absurd (omega arith)
+    by (inr past) = let z = get_or_past (slice_set xs i 0) i 0 (subst (λ (n : ℕ). n ≤ i) (sym (length-set xs i 0)) past) in absurd (omega arith)
+
+pub open_leaves : (p q : PassState) (j : ℕ) → Acts p (step.Open j) q → OnlyHeld j p → NoneHeld q
+open_leaves p q j a h i lt two = elim (cases_eq i j) [
+  | inl same ↦ zero_there (world_at a.makes).now.words.gates j
+      (sym (ap (λ (k : ℕ). slice_index (slice_set (world_at a.makes).now.words.gates j 0) k) same) ∙ sym (ap (λ (w : World). slice_index w.now.words.gates i) a.world) ∙ two)
+  | inr other ↦ a.turn.other_gates i (h i (within p q (step.Open j) a i lt) other)
+      (sym (get_or-set_other (world_at a.makes).now.words.gates j i 0 0 other) ∙ sym (ap (λ (w : World). slice_index w.now.words.gates i) a.world) ∙ two)
+]
+
+-- a `hold` that finds the caller in its call holds nothing
+pub miss_leaves : (p q : PassState) (j : ℕ) → Acts p (step.Hold j) q → is_held (now_of q).words j ≡ false → NoneHeld p → NoneHeld q
+miss_leaves p q j a not_held h i lt two = elim (cases_eq i j) [
+  | inl same ↦ eqb-false (slice_index (now_of q).words.gates j) 2 not_held (sym (ap (λ (k : ℕ). slice_index (now_of q).words.gates k) same) ∙ two)
+  | inr other ↦ hold_leaves p q j a h i lt other two
+]
+
+pub settled : (p : PassState) → MayGiveBack p → Settled p
+settled p x = record { seat = x.seat; phase = x.phase; freed = x.freed; held = x.held; fresh = x.fresh }
+
+pub given_back : (p : PassState) → Settled p → NoneHeld p → MayGiveBack p
+given_back p x h =
+    record { seat = x.seat; gates = is_none_held p h; phase = x.phase; freed = x.freed; held = x.held; fresh = x.fresh }
+
+-- a gate that is held stays so
+pub look_holds : (p q : PassState) (j : ℕ) (x : Word) → Acts p (step.Look x) q → is_held (now_of p).words j ≡ true → is_held (now_of q).words j ≡ true
+look_holds p q j x a held =
+    eq-eqb (slice_index (now_of q).words.gates j) 2
+    (ap (λ (w : World). slice_index w.now.words.gates j) a.world ∙ a.turn.held_gates j (eqb-true (slice_index (now_of p).words.gates j) 2 held))
+
+-- The tallies of what was counted stay tidy.
+
+steady_no_end : (s : Step) → leaves_steady s ≡ true → is_end s ≡ false
+steady_no_end step.End h = cc
+steady_no_end _ h = refl
+
+counts_nothing : (c : Config) (w : World) (s : Step) → leaves_steady s ≡ true → CountsNothing c w (record { seat = Host; step = s })
+counts_nothing c w s h =
+    let same = steady_behind c w Host s h in
+    record {
+      alike = record {
+        tallies = record {
+          held = ap (λ (x : Steady). x.held) same;
+          fresh = ap (λ (x : Steady). x.fresh) same;
+          cycles = ap (λ (x : Steady). x.cycles) same;
+          released = ap (λ (x : Steady). x.released) same;
+          full = ap (λ (x : Steady). x.full) same;
+        };
+        allocations = ap (λ (x : Steady). x.allocations) same;
+      };
+      no_end = steady_no_end s h;
+      no_full = refl;
+    }
+
+tidy_behind_others : (c : Config) (es fs : List Event) → steady_of (left c fs) ≡ steady_of (left c es) → CountsAreLeft c es fs → TalliesAreTidy c es → TalliesAreTidy c fs
+tidy_behind_others c es fs same counts t =
+    record {
+      cycles = ap (λ (x : Steady). x.cycles) same ∙ t.cycles ∙ ap in_a_word (sym counts.ends);
+      released = ap (λ (x : Steady). x.released) same ∙ t.released ∙ ap (λ (x : Steady). in_a_word (releases x.allocations)) (sym same);
+      full = ap (λ (x : Steady). x.full) same ∙ t.full ∙ ap in_a_word (sym counts.fulls);
+    }
+
+pub tidy_kept : (p q : PassState) (s : Step) → Acts p s q → p.seat ≡ Host → leaves_steady s ≡ true
+    → TalliesAreTidy p.table.config p.seen → TalliesAreTidy q.table.config q.seen
+tidy_kept p q s a host h t =
+    let c : Config = p.table.config in
+    let fs : List Event = p.seen ++ a.makes.others in
+    let e : Event = record { seat = Host; step = s } in
+    let behind : TalliesAreTidy c (fs ++ e ∷ []) =
+    counts_tidy_more c fs e (counts_nothing c (left c fs) s h) (tidy_behind_others c p.seen fs a.turn.steady a.counts t) in
+    let seen_is : q.seen ≡ fs ++ e ∷ [] =
+    ap (λ (r : PassState). r.seen) a.makes.is
+    ∙ ap (λ (x : Seat). fs ++ record { seat = x; step = s } ∷ []) host in
+    subst (λ (d : Config). TalliesAreTidy d q.seen) (sym (config_kept p q s a))
+    (subst (λ (es : List Event). TalliesAreTidy c es) (sym seen_is) behind)
+
+-- The host may make the step, in its turn.
+host_step : (p : PassState) (s : Step) → p.seat ≡ Host → Holds p.table.config (now_of p) p.seat
+    → is_open_to Host (group_of s) ≡ true → comes_next_to_host true s ≡ true → is_in_range p.table.config Host at_rest s ≡ true
+    → has_gates p.table.config (now_of p).words Host at_rest s ≡ true → has_phase (phase_of (now_of p).words) s ≡ true
+    → marker_may p.table.config outside s ≡ true → holder_may p.table.config (now_of p) at_rest s ≡ true → IsEnabledTo p s
+host_step p s host holds kind next range gates phase marker holder =
+    let c : Config = p.table.config in
+    let m : Moment = now_of p in
+    let named : Holds c m Host = subst (λ (x : Seat). Holds c m x) host holds in
+    subst (λ (x : Seat). IsEnabled c m (record { seat = x; step = s })) (sym host)
+    (meets_enabled c m (record { seat = Host; step = s }) (record {
+      seat = refl;
+      kind = kind;
+      order = ap (λ (b : Bool). comes_next_to_host b s) (eq-eqb m.words.turn (1 + c.callers) named) ∙ next;
+      range = range;
+      gates = gates;
+      phase = phase;
+      marker = marker;
+      holder = holder;
+    }))
+
+pub hold_may : (p : PassState) (j : ℕ) → p.seat ≡ Host → Holds p.table.config (now_of p) p.seat → j < p.table.config.callers → NoneHeld p → IsEnabledTo p (step.Hold j)
+hold_may p j host holds lt none =
+    host_step p (step.Hold j) host holds refl refl (and_from (nat_lt j p.table.config.callers) true (lt-ltb j p.table.config.callers lt) refl)
+    (ap not (ne_eqb (slice_index (now_of p).words.gates j) 2 (none j lt))) refl refl refl
+
+pub look_may : (p : PassState) (j r : ℕ) → p.seat ≡ Host → Holds p.table.config (now_of p) p.seat → j < p.table.config.callers → r < 8
+    → is_held (now_of p).words j ≡ true → IsEnabledTo p (step.Look (word.Reg j r))
+look_may p j r host holds lt few held =
+    host_step p (step.Look (word.Reg j r)) host holds refl refl (and_from (nat_lt j p.table.config.callers) (nat_lt r 8) (lt-ltb j p.table.config.callers lt) (lt-ltb r 8 few))
+    held refl refl refl
+
+not_closed : (n : ℕ) → has_phase n step.Give ≡ true → not (n == 3) ≡ true
+not_closed n h = ap not (ne_eqb n 3 (λ three. true≢false (sym h ∙ ap (λ (k : ℕ). has_phase k step.Give) three)))
+
+pub open_may : (p : PassState) (j : ℕ) → Settled p → Holds p.table.config (now_of p) p.seat → j < p.table.config.callers
+    → is_held (now_of p).words j ≡ true → IsEnabledTo p (step.Open j)
+open_may p j x holds lt held =
+    host_step p (step.Open j) x.seat holds refl refl (and_from (nat_lt j p.table.config.callers) true (lt-ltb j p.table.config.callers lt) refl)
+    held (not_closed (phase_of (now_of p).words) x.phase) refl (ap (λ (f : Option RunPages). is_run_gone (now_of p).words f) x.freed)
+
+-- Gates are held one after the other, and opened so.
+
+stays_held : (p q : PassState) (s : Step) (a : Acts p s q) (i : ℕ) → slice_index (now_of q).words.gates i ≡ slice_index (world_at a.makes).now.words.gates i
+    → is_held (now_of p).words i ≡ true → is_held (now_of q).words i ≡ true
+stays_held p q s a i same held =
+    eq-eqb (slice_index (now_of q).words.gates i) 2 (same ∙ a.turn.held_gates i (eqb-true (slice_index (now_of p).words.gates i) 2 held))
+
+hold_elsewhere : (p q : PassState) (j : ℕ) (a : Acts p (step.Hold j) q) (i : ℕ) → i ≢ j → slice_index (now_of q).words.gates i ≡ slice_index (world_at a.makes).now.words.gates i
+hold_elsewhere p q j a i other =
+    ap (λ (w : World). slice_index w.now.words.gates i) a.world ∙ get_or-set_other (world_at a.makes).now.words.gates j i _ 0 other
+
+open_elsewhere : (p q : PassState) (j : ℕ) (a : Acts p (step.Open j) q) (i : ℕ) → i ≢ j → slice_index (now_of q).words.gates i ≡ slice_index (world_at a.makes).now.words.gates i
+open_elsewhere p q j a i other =
+    ap (λ (w : World). slice_index w.now.words.gates i) a.world ∙ get_or-set_other (world_at a.makes).now.words.gates j i 0 0 other
+
+pub holds_one_more : (p q : PassState) (j : ℕ) → HoldsBelow p j → Acts p (step.Hold j) q → is_held (now_of q).words j ≡ true → HoldsBelow q (j + 1)
+holds_one_more p q j h a now =
+    record {
+      held = λ i lt. elim (cases_eq i j) [
+        | inl same ↦ subst (λ (k : ℕ). is_held (now_of q).words k ≡ true) (sym same) now
+        | inr other ↦ stays_held p q (step.Hold j) a i (hold_elsewhere p q j a i other) (h.held i (omega arith))
+      ];
+      free = λ i le lt two. (let other : i ≢ j = λ e. omega arith in
+          a.turn.other_gates i (h.free i (omega arith) (within p q (step.Hold j) a i lt)) (sym (hold_elsewhere p q j a i other) ∙ two));
+    }
+
+pub holds_no_more : (p q : PassState) (j : ℕ) → HoldsBelow p j → Acts p (step.Hold j) q → is_held (now_of q).words j ≡ false → HoldsBelow q j
+holds_no_more p q j h a missed =
+    record {
+      held = λ i lt. (let other : i ≢ j = λ e. omega arith in
+          stays_held p q (step.Hold j) a i (hold_elsewhere p q j a i other) (h.held i lt));
+      free = λ i le lt two. elim (cases_eq i j) [
+        | inl same ↦ eqb-false (slice_index (now_of q).words.gates j) 2 missed (sym (ap (λ (k : ℕ). slice_index (now_of q).words.gates k) same) ∙ two)
+        | inr other ↦ a.turn.other_gates i (h.free i le (within p q (step.Hold j) a i lt)) (sym (hold_elsewhere p q j a i other) ∙ two)
+      ];
+    }
+
+pub opens_last : (p q : PassState) (j : ℕ) → HoldsBelow p (j + 1) → Acts p (step.Open j) q → HoldsBelow q j
+opens_last p q j h a =
+    record {
+      held = λ i lt. (let other : i ≢ j = λ e. omega arith in
+          stays_held p q (step.Open j) a i (open_elsewhere p q j a i other) (h.held i (omega arith)));
+      free = λ i le lt two. elim (cases_eq i j) [
+        | inl same ↦ zero_there (world_at a.makes).now.words.gates j
+            (sym (ap (λ (k : ℕ). slice_index (slice_set (world_at a.makes).now.words.gates j 0) k) same) ∙ sym (ap (λ (w : World). slice_index w.now.words.gates i) a.world) ∙ two)
+        | inr other ↦ a.turn.other_gates i (h.free i (omega arith) (within p q (step.Open j) a i lt)) (sym (open_elsewhere p q j a i other) ∙ two)
+      ];
+    }
+
+pub holds_none : (p : PassState) → none_is_held p.table.config.callers (now_of p).words ≡ true → HoldsBelow p 0
+holds_none p h = record { held = λ i lt. absurd (omega arith); free = λ i le lt. none_held_is p h i lt }
+
+pub none_below : (p : PassState) → Settled p → HoldsBelow p 0 → MayGiveBack p
+none_below p x h = given_back p x (λ i lt. h.free i (omega arith) lt)
+
+pub all_are_held : (p : PassState) → p.seat ≡ Host → HoldsBelow p p.table.config.callers → others_are_held p.table.config.callers (now_of p).words p.seat ≡ true
+all_are_held p host h =
+    ap (λ (s : Seat). others_are_held p.table.config.callers (now_of p).words s) host
+    ∙ all_from p.table.config.callers (λ j. is_held (now_of p).words j) (λ j lt. h.held j lt)
+
+pub others_may_open : (p : PassState) → Settled p → Holds p.table.config (now_of p) p.seat → HoldsBelow p p.table.config.callers → OthersMayOpen p 0
+others_may_open p x holds h j le lt other = open_may p j x holds lt (h.held j lt)
+
+pub settled_opened : (p q : PassState) → Opens p q → Settled p → Settled q
+settled_opened p q o x =
+    record {
+      seat = ap (λ (r : PassState). r.seat) o.is ∙ x.seat;
+      phase = ap (λ (y : Steady). has_phase y.phase step.Give) o.steady ∙ x.phase;
+      freed = ap (λ (y : Holding). y.freed) o.holding ∙ x.freed;
+      held = ap (λ (y : Steady). y.held) o.steady ∙ x.held ∙ sym (ap (λ (y : Steady). words_held_among (uses_of_pages y.pages)) o.steady);
+      fresh = ap (λ (y : Steady). y.fresh) o.steady ∙ x.fresh ∙ sym (ap (λ (y : Steady). y.fresh_words) o.steady);
+    }
+
+pub back_opened : (p q : PassState) → Opens p q → Settled p → none_is_held p.table.config.callers (now_of q).words ≡ true → MayGiveBack q
+back_opened p q o x none =
+    let y = settled_opened p q o x in
+    record {
+      seat = y.seat;
+      gates = ap (λ (r : PassState). none_is_held r.table.config.callers (now_of q).words) o.is ∙ none;
+      phase = y.phase;
+      freed = y.freed;
+      held = y.held;
+      fresh = y.fresh;
+    }
+
+pub tidy_opened : (p q : PassState) → Opens p q → StaysTidy p q
+tidy_opened p q o t =
+    subst (λ (d : Config). TalliesAreTidy d q.seen) (sym (ap (λ (r : PassState). r.table.config) o.is))
+    (tidy_behind_others p.table.config p.seen q.seen (left_same o) o.counts t)
+  where
+    left_same : Opens p q → steady_of (left p.table.config q.seen) ≡ steady_of (left p.table.config p.seen)
+    left_same x = sym (ap (λ (r : PassState). steady_of (left r.table.config q.seen)) x.is) ∙ x.steady

@@ -1,0 +1,46 @@
+use Rattle.std.proofs.Common.{◌≡◌, ◌≤◌, ◌<◌, ◌+◌, ◌-◌, ℕ, refl, sym, ◌∙◌, ap, subst, arith}
+use Rattle.mk_core.specs.declared.events.Step.TheVariants as step
+use Rattle.mk_words.specs.States.{PassState}
+use Rattle.mk_words_clients.specs.Clients.{HoldsBelow}
+use Rattle.mk_words_clients.proofs.TurnFacts.{settled, settled_kept, holds_none, holds_one_more, holds_no_more, tidy_kept}
+use Rattle.mk_words_clients.proofs.stops.hold_all.Goals as goal
+
+pub loop-caller-init : goal.loop-caller-init
+loop-caller-init c =
+    let p : PassState = c.args.turn.now.pass in
+    record {
+      one_table = c.requires.one_table;
+      settled = settled p c.requires.free;
+      within = omega arith;
+      holds = holds_none p c.requires.free.gates;
+      tidy = λ t. t;
+    }
+
+pub loop-caller-preserved : goal.loop-caller-preserved
+loop-caller-preserved c =
+    let inv = c.loop-caller.invariant in
+    let p : PassState = c.loop-caller.turn.pass in
+    let q : PassState = c.try_hold.new.self.pass in
+    let j : ℕ = c.loop-caller.caller in
+    let a = c.try_hold.ensures.acts in
+    let lt = c.loop-caller-test.true in
+    let few = c.callers.ensures in
+    record {
+      one_table = ap (λ (r : PassState). r.table) a.makes.is ∙ inv.one_table;
+      settled = settled_kept p q (step.Hold j) a refl inv.settled;
+      within = omega arith;
+      holds = holds_one_more p q j inv.holds a c.in-Ok.ensures.held;
+      tidy = λ t. tidy_kept p q (step.Hold j) a inv.settled.seat refl (inv.tidy t);
+    }
+
+pub loop-caller-smaller : goal.loop-caller-smaller
+loop-caller-smaller c =
+    let lt = c.loop-caller-test.true in
+    let few = c.callers.ensures in
+    omega arith
+
+pub returns-in-Err-clause-tidy : goal.returns-in-Err-clause-tidy
+returns-in-Err-clause-tidy c = λ t.
+    let inv = c.loop-caller.invariant in
+    c.open_below.ensures.tidy
+    (tidy_kept c.loop-caller.turn.pass c.try_hold.new.self.pass (step.Hold c.loop-caller.caller) c.try_hold.ensures.acts inv.settled.seat refl (inv.tidy t))

@@ -1,0 +1,16 @@
+use Rattle.std.proofs.Common.{◌≡◌, ◌≤◌, true, false, ℕ, ◌+◌, ◌-◌, ◌*◌, ◌<◌, length}
+use Rattle.mk_words_clients.specs.Clients.{MayGiveBack, Settled, HoldsBelow, StaysTidy}
+use Rattle.mk_words_clients.proofs.stops.hold_all.Given as goal
+
+pub record IsHolding (l : goal.Live-loop-caller) : Type 0 where
+  pub one_table : l.turn.pass.table ≡ l.words
+  pub settled : Settled l.turn.pass
+  pub within : l.caller ≤ l.words.config.callers
+  pub holds : HoldsBelow l.turn.pass l.caller
+  pub tidy : StaysTidy l.fn.turn.pass l.turn.pass
+
+abbrev pub invariant-loop-caller : goal.invariant-loop-caller
+invariant-loop-caller l = IsHolding l
+
+abbrev pub decreases-loop-caller : goal.decreases-loop-caller
+decreases-loop-caller l = l.words.config.callers - l.caller

@@ -1,0 +1,32 @@
+use Rattle.std.proofs.Common.{◌≡◌, ◌≤◌, ◌<◌, ◌+◌, ◌-◌, ℕ, refl, sym, ◌∙◌, ap, subst, arith}
+use Rattle.mk_core.specs.declared.events.Step.TheVariants as step
+use Rattle.mk_words.specs.States.{PassState}
+use Rattle.mk_words_clients.specs.Clients.{HoldsBelow}
+use Rattle.mk_words_clients.proofs.TurnFacts.{settled_kept, opens_last, tidy_kept, none_below}
+use Rattle.mk_words_clients.proofs.stops.open_below.Goals as goal
+
+pub loop-caller-preserved : goal.loop-caller-preserved
+loop-caller-preserved c =
+    let inv = c.loop-caller.invariant in
+    let p : PassState = c.loop-caller.turn.pass in
+    let q : PassState = c.open_gate.new.self.pass in
+    let j : ℕ = c.loop-caller.caller - 1 in
+    let some = c.loop-caller-test.true in
+    let within = inv.within in
+    let a = c.open_gate.ensures.acts in
+    let above : c.loop-caller.caller ≡ j + 1 = omega arith in
+    record {
+      one_table = ap (λ (r : PassState). r.table) a.makes.is ∙ inv.one_table;
+      settled = settled_kept p q (step.Open j) a refl inv.settled;
+      within = omega arith;
+      holds = opens_last p q j (subst (λ (n : ℕ). HoldsBelow p n) above inv.holds) a;
+      tidy = λ t. tidy_kept p q (step.Open j) a inv.settled.seat refl (inv.tidy t);
+    }
+
+pub returns-clause-free : goal.returns-clause-free
+returns-clause-free c =
+    let inv = c.loop-caller.invariant in
+    let p : PassState = c.loop-caller.turn.pass in
+    let none = c.loop-caller-test.false in
+    let zero_is : c.loop-caller.caller ≡ 0 = omega arith in
+    none_below p inv.settled (subst (λ (n : ℕ). HoldsBelow p n) zero_is inv.holds)

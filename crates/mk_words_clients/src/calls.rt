@@ -1,0 +1,24 @@
+//! Calls of callers, from `enter` to `leave`.
+ghost use Rattle.std.specs.Prelude.{◌≡◌, ◌<◌};
+ghost use Rattle.mk_words_clients.specs.Clients.{IsCallers, StaysAdmitted};
+ghost use Rattle.mk_never.specs.declared.operations.Op.TheVariants as op;
+
+use mk_never::Op;
+use mk_words::{Held, Pass, Words};
+
+/// `Clear`.
+pub fn clear(words: &Words, pass: &mut Pass, d: u8) -> Result<(), Held>
+    requires one_table { pass.old.table ≡ words.now }
+    requires callers { IsCallers pass.old }
+    requires register { d < 8 }
+    requires admitted { StaysAdmitted pass.old (op.Clear d) }
+    ensures table { pass.new.table ≡ words.now }
+    ensures callers { IsCallers pass.new }
+{
+    pass.is_in_order();
+    pass.enter(words, Op::Clear { d })?;
+    pass.is_in_order();
+    pass.reg_store(words, d, 0);
+    pass.leave(words);
+    Ok(())
+}

@@ -1,0 +1,95 @@
+//! A marker that scans one cell.
+ghost use Rattle.std.specs.Prelude.{◌≡◌, ◌<◌, ◌≤◌, ◌+◌, ◌*◌, true, false, Some, None, IfSome, IfNone};
+ghost use Rattle.mk_core.specs.Effects.{scan_onward};
+ghost use Rattle.mk_core.specs.MarkerConditions.{has_next_word};
+ghost use Rattle.mk_geom.specs.Addresses.{is_heap_address, page_at_address};
+ghost use Rattle.mk_geom.specs.Classes.{class_words_of};
+ghost use Rattle.mk_words.specs.Markers.{marker_in};
+ghost use Rattle.mk_words_clients.specs.Clients.{IsOutside, IsAttending, IsAt};
+
+use mk_core::Word;
+use mk_geom::{Header, cells, class_words, decode, lookup};
+use mk_words::{Pass, Words};
+
+/// The page of a heap of so many pages into which the value points.
+fn page_of(pages: u64, value: u64) -> Option<u64>
+    ensures some { IfSome result (λ page. (page ≡ page_at_address value) × (page < pages) × (is_heap_address pages value ≡ true)) }
+    ensures none { IfNone result (is_heap_address pages value ≡ false) }
+{
+    let page = value.checked_sub(65536)? / 512;
+    if page < pages { Some(page) } else { None }
+}
+
+/// Loads the next word of the cell, and marks what it points to.
+fn scan_word(words: &Words, pass: &mut Pass)
+    requires one_table { pass.old.table ≡ words.now }
+    requires attends { IsAttending pass.old }
+    requires next { has_next_word (marker_in pass.old).scan ≡ true }
+    ensures one_table { pass.new.table ≡ words.now }
+    ensures attends { IsAttending pass.new }
+    ensures scan { (marker_in pass.new).scan ≡ scan_onward (marker_in pass.old).scan }
+{
+    let value = pass.marker_load(words);
+    match page_of(words.pages(), value) {
+        Some(page) => {
+            let header = pass.marker_look(words, Word::Head(page));
+            match lookup(words.pages(), header, value) {
+                Some(_) => pass.marker_mark(words),
+                None => {}
+            }
+        }
+        None => {}
+    }
+}
+
+/// Scans a cell that it has claimed, and blackens it.
+fn scan_words(words: &Words, pass: &mut Pass, page: u64, k: u64, count: u64)
+    requires one_table { pass.old.table ≡ words.now }
+    requires attends { IsAttending pass.old }
+    requires at { IsAt pass.old page k (64 * page + k * count) (64 * page + k * count + count) }
+    ensures one_table { pass.new.table ≡ words.now }
+    ensures attends { IsAttending pass.new }
+{
+    let mut done = 0;
+    while done < count {
+        scan_word(words, pass);
+        done += 1;
+    }
+    pass.marker_black(words);
+}
+
+/// Scans a cell of a block, if it is marked.
+fn scan_cell(words: &Words, pass: &mut Pass, page: u64, k: u64)
+    requires one_table { pass.old.table ≡ words.now }
+    requires attends { IsAttending pass.old }
+    requires idle { (marker_in pass.old).scan ≡ None }
+    requires page { page < words.now.config.pages }
+    ensures one_table { pass.new.table ≡ words.now }
+    ensures attends { IsAttending pass.new }
+{
+    let header = pass.marker_look(words, Word::Head(page));
+    match decode(header) {
+        Some(Header::Block(class)) => {
+            if k < cells(class) && pass.claim(words, page, k) {
+                scan_words(words, pass, page, k, class_words(class));
+            }
+        }
+        _ => {}
+    }
+}
+
+/// Comes in, scans a cell if the marker attends, and goes out.
+pub fn visit(words: &Words, pass: &mut Pass, page: u64, k: u64)
+    requires one_table { pass.old.table ≡ words.now }
+    requires outside { IsOutside pass.old }
+    requires page { page < words.now.config.pages }
+    ensures one_table { pass.new.table ≡ words.now }
+    ensures outside { IsOutside pass.new }
+{
+    if pass.attend(words) % 8 == 1 {
+        scan_cell(words, pass, page, k);
+        pass.quit(words);
+    } else {
+        pass.quit(words);
+    }
+}
