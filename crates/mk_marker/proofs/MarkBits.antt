@@ -103,12 +103,12 @@ module _ (c : Config) (w : World) (seat : Seat) (limits : IsWithinLimits c) (kno
   gives_not h =
       let t = giver_has_turn c w.now seat known h in
       let new = placed_undecided c w.now seat known t (ap (λ (x : Placing). has_place x) is) in
-      let a = and_parts (is_decided (flight_of w.now seat).stage && is_run_gone w.now.words w.now.seats.holding.freed && (w.now.words.held == words_held w.now.words))
-      (w.now.words.fresh == w.now.fresh_words) h.holder in
-      let b = and_parts (is_decided (flight_of w.now seat).stage && is_run_gone w.now.words w.now.seats.holding.freed)
-      (w.now.words.held == words_held w.now.words) a.0 in
-      let d = and_parts (is_decided (flight_of w.now seat).stage)
-      (is_run_gone w.now.words w.now.seats.holding.freed) b.0 in
+      let decided = is_decided (flight_of w.now seat).stage in
+      let gone = is_run_gone w.now.words w.now.seats.holding.freed in
+      let held = w.now.words.held == words_held w.now.words in
+      let a = and_parts (decided && gone && held) (w.now.words.fresh == w.now.fresh_words) h.holder in
+      let b = and_parts (decided && gone) held a.0 in
+      let d = and_parts decided gone b.0 in
       undecided (flight_of w.now seat).stage (undecided_new (flight_of w.now seat) new).stage d.0
 
   takes : (p n : ℕ) → Meets c w.now seat (step.Used p n) → UsedStep c w.now (flight_of w.now seat) p n

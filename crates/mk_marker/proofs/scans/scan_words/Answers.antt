@@ -4,7 +4,14 @@ use Rattle.mk_marker.proofs.Scanned.{goes_nowhere, goes_then}
 use Rattle.mk_marker.proofs.scans.scan_words.Goals as goal
 
 pub words-init : goal.words-init
-words-init c = record { marker = c.requires.marker; scanning = c.requires.scanning; cell = record { page = refl; bit = refl }; left = omega (arith, c.requires.left); goes = goes_nowhere c.args.pass.now }
+words-init c = record {
+  marker = c.requires.marker;
+  scanning = c.requires.scanning;
+  cell = record
+      { page = refl; bit = refl };
+  left = omega (arith, c.requires.left);
+  goes = goes_nowhere c.args.pass.now;
+}
 
 pub words-preserved : goal.words-preserved
 words-preserved c =
