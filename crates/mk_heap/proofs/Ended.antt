@@ -64,27 +64,27 @@ counts_told c es f h tidy no_turn rests told =
 module _ (h : HostState) (w : WordsState) (is : IsHost h) (joined : AllAreJoined h) (own : Has h.pass.seats h.pass.seat)
     (table : h.pass.table ≡ w)
   where
-  pub home : HasAll w.config h.pass.seats
-  home = subst (λ (x : WordsState). HasAll x.config h.pass.seats) table (all_home h is own joined)
+    pub home : HasAll w.config h.pass.seats
+    home = subst (λ (x : WordsState). HasAll x.config h.pass.seats) table (all_home h is own joined)
 
-  all_rest : (s : Seat) → seat_exists h.pass.table.config s ≡ true → Rests (now_of h.pass) s
-  all_rest s exists = is.rests s (all_home h is own joined s exists)
+    all_rest : (s : Seat) → seat_exists h.pass.table.config s ≡ true → Rests (now_of h.pass) s
+    all_rest s exists = is.rests s (all_home h is own joined s exists)
 
-  module _ (f : Final) (history : IsHistory h.pass.table.config h.pass.seen) (tidy : IsTidy h.pass.table.config h.pass.seen)
-      (seen : final.history_of f ≡ h.pass.seen) (config : final.config_of f ≡ w.config)
-    where
-    pub ends_whole : IsWhole (final.config_of f) (final.history_of f)
-    ends_whole =
-        subst (λ (c : Config). IsWhole c (final.history_of f)) (ap (λ (x : WordsState). x.config) table ∙ sym config)
-        (subst (λ (es : List Event). IsWhole h.pass.table.config es) (sym seen)
-        (record { history = history; tidy = tidy; rests = all_rest }))
+    module _ (f : Final) (history : IsHistory h.pass.table.config h.pass.seen) (tidy : IsTidy h.pass.table.config h.pass.seen)
+        (seen : final.history_of f ≡ h.pass.seen) (config : final.config_of f ≡ w.config)
+      where
+        pub ends_whole : IsWhole (final.config_of f) (final.history_of f)
+        ends_whole =
+            subst (λ (c : Config). IsWhole c (final.history_of f)) (ap (λ (x : WordsState). x.config) table ∙ sym config)
+            (subst (λ (es : List Event). IsWhole h.pass.table.config es) (sym seen)
+            (record { history = history; tidy = tidy; rests = all_rest }))
 
-    pub ends_counted : HasTallies (now_of h.pass).words w.config.pages f
-        → HasCounts (final.config_of f) (final.history_of f)
-        (record { held = f.held; fresh = f.fresh; quarantined = f.quarantined; released = f.released; cycles = f.cycles; full = f.full; last = f })
-    ends_counted told =
-        let r : Report = record { held = f.held; fresh = f.fresh; quarantined = f.quarantined; released = f.released; cycles = f.cycles; full = f.full; last = f } in
-        subst (λ (c : Config). HasCounts c (final.history_of f) r) (ap (λ (x : WordsState). x.config) table ∙ sym config)
-        (subst (λ (es : List Event). HasCounts h.pass.table.config es r) (sym seen)
-        (counts_told h.pass.table.config h.pass.seen f history tidy is.no_turn all_rest
-        (subst (λ (x : WordsState). HasTallies (now_of h.pass).words x.config.pages f) (sym table) told)))
+        pub ends_counted : HasTallies (now_of h.pass).words w.config.pages f
+            → HasCounts (final.config_of f) (final.history_of f)
+            (record { held = f.held; fresh = f.fresh; quarantined = f.quarantined; released = f.released; cycles = f.cycles; full = f.full; last = f })
+        ends_counted told =
+            let r : Report = record { held = f.held; fresh = f.fresh; quarantined = f.quarantined; released = f.released; cycles = f.cycles; full = f.full; last = f } in
+            subst (λ (c : Config). HasCounts c (final.history_of f) r) (ap (λ (x : WordsState). x.config) table ∙ sym config)
+            (subst (λ (es : List Event). HasCounts h.pass.table.config es r) (sym seen)
+            (counts_told h.pass.table.config h.pass.seen f history tidy is.no_turn all_rest
+            (subst (λ (x : WordsState). HasTallies (now_of h.pass).words x.config.pages f) (sym table) told)))

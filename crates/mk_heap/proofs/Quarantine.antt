@@ -87,7 +87,6 @@ is_in_too c p k a x =
     (eq-eqb cell.index k (ap (λ (y : Cell). y.index) x.cell))
 
 module _ (c : Config) (es : List Event) (h : IsHistory c es) (quiet : phase_of (left c es).now.words ≢ 4) where
-
   counted_in_cell : (p k : ℕ) → count_by (in_cell c p k) (left c es).allocations
       ≡ cond (is_freed (left c es).now.words (record { page = p; index = k })) 1 0
   unfolding in_cell on_page
