@@ -1,0 +1,68 @@
+-- What is done in parts.
+use Rattle.std.proofs.Common.{◌≡◌, Bool, true, List, [], ◌++◌, refl, sym, ◌∙◌, ap, subst, append_assoc, append-nil}
+use Rattle.mk_core.specs.declared.events.Step.{Step}
+use Rattle.mk_core.specs.declared.events.Event.{Event}
+use Rattle.mk_core.specs.Growing.{Finding, own_from}
+use Rattle.mk_words.specs.States.{WordsState, PassState}
+use Rattle.mk_turns.specs.Doing.{AreOwnOrOfOthers, Does, are_of, done_in}
+use Rattle.mk_turns.proofs.Doing.{done_in_parts, own_or_others_in_parts}
+use Rattle.mk_marker.specs.Doing.{Did}
+use Rattle.mk_marker.specs.Steps.{IsOf}
+
+then_at : (p : PassState) (more : List Event) (xs ys : List Finding) → AreOwnOrOfOthers p.seat p.seats more
+    → done_in p more ≡ xs
+    → (r : PassState) → Did (record p { seen = p.seen ++ more }) ys r → Did p (xs ++ ys) r
+then_at p more xs ys own done r d =
+    record {
+      more = more ++ d.more;
+      is = d.is ∙ ap (λ (es : List Event). record p { seen = es }) (append_assoc p.seen more d.more);
+      own_or_others = own_or_others_in_parts p.seat p.seats more d.more own d.own_or_others;
+      done =
+          done_in_parts p more d.more
+          ∙ ap (λ (zs : List Finding). zs ++ done_in (record p { seen = p.seen ++ more }) d.more) done
+          ∙ ap (λ (zs : List Finding). xs ++ zs) d.done;
+    }
+
+pub did_then : (p : PassState) (xs : List Finding) (q : PassState) (ys : List Finding) (r : PassState) → Did p xs q
+    → Did q ys r → Did p (xs ++ ys) r
+did_then p xs q ys r d e = then_at p d.more xs ys d.own_or_others d.done r
+    (subst (λ (x : PassState). Did x ys r) d.is e)
+
+pub seat_kept : (p : PassState) (xs : List Finding) (q : PassState) → Did p xs q → q.seat ≡ p.seat
+seat_kept p xs q d = ap (λ (x : PassState). x.seat) d.is
+
+pub table_kept : (p : PassState) (xs : List Finding) (q : PassState) → Did p xs q → q.table ≡ p.table
+table_kept p xs q d = ap (λ (x : PassState). x.table) d.is
+
+pub still_of : (w : WordsState) (p : PassState) (xs : List Finding) (q : PassState) → IsOf w p → Did p xs q → IsOf w q
+still_of w p xs q o d =
+    record {
+      one_table = table_kept p xs q d ∙ o.one_table;
+      marker = record { number = o.marker.number; exists = o.marker.exists; seat = seat_kept p xs q d ∙ o.marker.seat };
+    }
+
+pub did_nothing : (p : PassState) → Did p [] p
+unfolding AreOwnOrOfOthers own_from
+did_nothing p = record {
+  more = [];
+  is = sym
+      (ap (λ (es : List Event). record p { seen = es }) (append-nil p.seen));
+  own_or_others = tt;
+  done = refl;
+}
+
+-- but for what it has seen the pass is the same
+pub pass_kept : (p : PassState) (xs : List Finding) (q : PassState) → Did p xs q → q ≡ record p { seen = q.seen }
+pass_kept p xs q d = d.is ∙ ap (λ (es : List Event). record p { seen = es }) (sym (ap (λ (x : PassState). x.seen) d.is))
+
+-- where all steps are of these kinds, that is what was done
+pub did_only : (kinds : Step → Bool) (p : PassState) (xs : List Finding) (q : PassState) → Did p xs q
+    → are_of kinds xs ≡ true → Does kinds p q
+did_only kinds p xs q d of =
+    record {
+      more = d.more;
+      is = d.is;
+      own_or_others = d.own_or_others;
+      of_kinds = ap
+          (λ (ys : List Finding). are_of kinds ys) d.done ∙ of;
+    }

@@ -1,0 +1,33 @@
+-- A page has at most 32 cells.
+use Rattle.std.proofs.Common.{◌≡◌, ℕ, ◌<◌, refl, arith}
+use Rattle.std.specs.Prelude.{Option, Some, None}
+use Rattle.std.proofs.lemmas.Nat.{mul-le}
+use Rattle.mk_geom.specs.declared.headers.Header.{Header}
+use Rattle.mk_geom.specs.declared.headers.Header.TheVariants.{Free, Block, Run, Later, LeafBlock, LeafRun}
+use Rattle.mk_geom.specs.Classes.{cells_of, class_words_of}
+use Rattle.mk_geom.specs.Headers.{header_of, IsInRange}
+use Rattle.mk_geom.proofs.ClassTable.{class_words_within, cell_ends}
+use Rattle.mk_geom.proofs.HeaderLemmas.{word_of-header_of}
+use Rattle.mk_core.specs.Cells.{cells_under}
+
+few_of_class : (class k : ℕ) → class < 8 → k < cells_of class → k < 32
+few_of_class class k known lt =
+    let range = class_words_within class known in
+    let ends = cell_ends k (class_words_of class) lt in
+    let m = mul-le k 2 k (class_words_of class) (omega arith) range.0 in
+    omega arith
+
+few_under : (h : Header) (k : ℕ) → IsInRange h → k < cells_under (Some h) → k < 32
+few_under Free k in_range lt = absurd (omega arith)
+few_under (Block class) k in_range lt = few_of_class class k in_range lt
+few_under (Run pages mapped) k in_range lt = omega arith
+few_under (Later distance mapped) k in_range lt = absurd (omega arith)
+few_under (LeafBlock class) k in_range lt = few_of_class class k in_range lt
+few_under (LeafRun pages) k in_range lt = omega arith
+
+pub few_cells : (word k : ℕ) → k < cells_under (header_of word) → k < 32
+few_cells word k lt = by (header_of word) refl lt
+  where
+    by : (h : Option Header) → header_of word ≡ h → k < cells_under h → k < 32
+    by (Some h) is lt = few_under h k (word_of-header_of word h is).0 lt
+    by None is lt = absurd (omega arith)

@@ -1,0 +1,10 @@
+pub mod Did
+pub mod Moving
+pub mod FewCells
+pub mod Scanned
+pub mod PointedCells
+pub mod MarkBits
+pub mod NewMarks
+pub mod MarkedCells
+pub mod Looking
+pub mod Worked

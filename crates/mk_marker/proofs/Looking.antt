@@ -1,0 +1,268 @@
+-- Looks at pages, one behind the other.
+use Rattle.std.proofs.Common.{◌≡◌, ◌≢◌, ◌⊎◌, ℕ, ◌+◌, ◌<◌, ◌≤◌, true, List, [], ◌∷◌, ◌++◌, refl, sym, ◌∙◌, ap, subst, inl, inr, append_assoc, arith}
+use Rattle.std.specs.Prelude.{not, Option, Some, None, IfSome, IfNone}
+use Rattle.std.proofs.lemmas.Bool.{and_parts, not-true}
+use Rattle.mk_geom.specs.Headers.{header_of}
+use Rattle.mk_core.specs.declared.config.Config.{Config}
+use Rattle.mk_core.specs.declared.events.Seat.{Seat}
+use Rattle.mk_core.specs.declared.events.Seat.TheVariants.{Caller, Marker, Host}
+use Rattle.mk_core.specs.declared.events.Word.TheVariants as word
+use Rattle.mk_core.specs.declared.events.Step.{Step}
+use Rattle.mk_core.specs.declared.events.Step.TheVariants as step
+use Rattle.mk_core.specs.declared.seats.Marker.{Marker as MarkerState}
+use Rattle.mk_core.specs.declared.seats.SeenHeader.{SeenHeader}
+use Rattle.mk_core.specs.Bits.{has_bit, without}
+use Rattle.mk_core.specs.Cells.{cells_under}
+use Rattle.mk_core.specs.Effects.{marker_behind}
+use Rattle.mk_core.specs.Growing.{Finding}
+use Rattle.mk_core.specs.History.{IsHistory}
+use Rattle.mk_core.specs.Moments.{Moment, marker_at}
+use Rattle.mk_core.specs.StopConditions.{is_attending}
+use Rattle.mk_core.specs.Words.{named_word, header_at}
+use Rattle.mk_core.proofs.BitsWithout.{has_bit_without}
+use Rattle.mk_protocol.proofs.Known.{Known, known_left}
+use Rattle.mk_guard.specs.Guard.{IsMarking}
+use Rattle.mk_words.specs.States.{PassState, now_of}
+use Rattle.mk_words.specs.Markers.{marker_in}
+use Rattle.mk_turns.proofs.Doing.{of_kinds_in_parts}
+use Rattle.mk_marker.specs.declared.cells.MarkedCell.{MarkedCell}
+use Rattle.mk_marker.specs.Markers.{IsBetweenScans, between_scans, attends}
+use Rattle.mk_marker.specs.Doing.{Did, finding, looking, is_look}
+use Rattle.mk_marker.specs.Working.{SeesNoWork, SeesACell}
+use Rattle.mk_marker.specs.Steps.{Moves, IsMarkedIn, LooksInVain, SeesCell}
+use Rattle.mk_marker.proofs.Did.{did_then, did_nothing, seat_kept}
+use Rattle.mk_marker.proofs.MarkedCells.{marks_are_of_cells}
+
+-- one more step
+pub did_more : (p : PassState) (xs : List Finding) (q : PassState) (s : Step) (n : ℕ) (r : PassState) → Did p xs q
+    → Moves q s n r
+    → Did p (xs ++ finding p.seat s n ∷ []) r
+did_more p xs q s n r d m =
+    did_then p xs q (finding p.seat s n ∷ []) r d
+    (subst (λ (seat : Seat). Did q (finding seat s n ∷ []) r) (seat_kept p xs q d) m.did)
+
+-- what was seen of a page in some of the steps
+
+seen_before : (s : Seat) (page : ℕ) (xs ys : List Finding) → SeesNoWork s page xs → SeesNoWork s page (xs ++ ys)
+seen_before s page xs ys h =
+    record {
+      before = h.before;
+      behind = h.behind ++ ys;
+      marks = h.marks;
+      blacks = h.blacks;
+      is =
+          ap (λ (zs : List Finding). zs ++ ys) h.is
+          ∙ append_assoc h.before (looking s (word.Mark page) h.marks ∷ looking s
+          (word.Black page) h.blacks ∷ h.behind) ys;
+      no_work = elim h.no_work [
+        | inl none ↦ inl none
+        | inr free ↦ inr
+            (free.0 ++ ys, ap (λ (zs : List Finding). zs ++ ys) free.1)
+      ];
+    }
+
+seen_behind : (s : Seat) (page : ℕ) (xs ys : List Finding) → SeesNoWork s page ys → SeesNoWork s page (xs ++ ys)
+seen_behind s page xs ys h =
+    record {
+      before = xs ++ h.before;
+      behind = h.behind;
+      marks = h.marks;
+      blacks = h.blacks;
+      is =
+          ap (λ (zs : List Finding). xs ++ zs) h.is
+          ∙ sym (append_assoc xs h.before (looking s (word.Mark page) h.marks ∷ looking s
+          (word.Black page) h.blacks ∷ h.behind));
+      no_work = h.no_work;
+    }
+
+pub looked_at_none : (p : PassState) (first : ℕ) → IsBetweenScans p → LooksInVain p first first p
+looked_at_none p first between =
+    record {
+      steps = [];
+      did = did_nothing p;
+      looks = refl;
+      pages = λ page le lt. absurd
+          (omega arith);
+      between = between;
+    }
+
+pub looked_on : (p : PassState) (a b : ℕ) (q : PassState) (d e : ℕ) (r : PassState) (first end : ℕ)
+    → LooksInVain p a b q → LooksInVain q d e r
+    → ((page : ℕ) → first ≤ page → page < end → ((a ≤ page) × (page < b)) ⊎ ((d ≤ page) × (page < e)))
+    → LooksInVain p first end r
+looked_on p a b q d e r first end one two all =
+    record {
+      steps = one.steps ++ two.steps;
+      did = did_then p one.steps q two.steps r one.did two.did;
+      looks = of_kinds_in_parts is_look one.steps two.steps one.looks two.looks;
+      pages = λ page le lt. elim (all page le lt) [
+        | inl there ↦ seen_before p.seat page one.steps two.steps (one.pages page there.0 there.1)
+        | inr there ↦ seen_behind p.seat page one.steps two.steps
+            (subst (λ (s : Seat). SeesNoWork s page two.steps) (seat_kept p one.steps q one.did)
+            (two.pages page there.0 there.1))
+      ];
+      between = two.between;
+    }
+
+pub sees_then : (p : PassState) (a b : ℕ) (q : PassState) (cell : MarkedCell) (r : PassState) → LooksInVain p a b q
+    → SeesCell q cell r → SeesCell p cell r
+sees_then p a b q cell r one two =
+    let sees : SeesACell p.seat cell.page cell.index cell.header two.steps =
+    subst (λ (s : Seat). SeesACell s cell.page cell.index cell.header two.steps)
+    (seat_kept p one.steps q one.did) two.sees in
+    record {
+      steps = one.steps ++ two.steps;
+      did = did_then p one.steps q two.steps r one.did two.did;
+      sees = record {
+        looks = one.steps ++ sees.looks;
+        marks = sees.marks;
+        blacks = sees.blacks;
+        is =
+            ap (λ (zs : List Finding). one.steps ++ zs) sees.is
+            ∙ sym (append_assoc one.steps sees.looks
+            (looking p.seat (word.Mark cell.page) sees.marks ∷ looking p.seat
+            (word.Black cell.page) sees.blacks ∷ looking p.seat (word.Head cell.page) cell.header ∷ []));
+        are_looks = of_kinds_in_parts is_look one.steps sees.looks one.looks sees.are_looks;
+        marked = sees.marked;
+        not_black = sees.not_black;
+        cell = sees.cell;
+      };
+      marker = two.marker;
+      marked = two.marked;
+    }
+
+-- A look of a marker between two scans leaves it so.
+
+behind_look : (c : Config) (n page : ℕ) (x : MarkerState) (seen : Option SeenHeader) → x ≡ between_scans seen
+    → marker_behind c n (step.Mlook (word.Head page)) x ≡ between_scans (Some (record { page = page; header = n }))
+behind_look c n page x seen is = ap (λ (y : MarkerState). marker_behind c n (step.Mlook (word.Head page)) y) is
+
+-- the looks at a page's mark and black word
+pub record TwoLooks (p : PassState) (page n m : ℕ) (b : PassState) : Type 0 where
+  pub did : Did p (looking p.seat (word.Mark page) n ∷ looking p.seat (word.Black page) m ∷ []) b
+  pub marker : marker_in b ≡ between_scans None
+
+pub two_looks : (p : PassState) (page n : ℕ) (a : PassState) (m : ℕ) (b : PassState) → IsBetweenScans p
+    → Moves p (step.Mlook (word.Mark page)) n a
+    → Moves a (step.Mlook (word.Black page)) m b → TwoLooks p page n m b
+two_looks p page n a m b between one two =
+    let at : marker_in a ≡ between_scans None =
+    one.marker ∙ ap (λ (x : MarkerState). marker_behind p.table.config n (step.Mlook (word.Mark page)) x) between.1 in
+    record {
+      did = did_more p (looking p.seat (word.Mark page) n ∷ []) a (step.Mlook (word.Black page)) m b one.did two;
+      marker = two.marker ∙ ap (λ (x : MarkerState). marker_behind a.table.config m
+          (step.Mlook (word.Black page)) x) at;
+    }
+
+pub nothing_to_scan : (p : PassState) (page n m : ℕ) (b : PassState) → TwoLooks p page n m b → without n m ≡ 0
+    → LooksInVain p page (page + 1) b
+nothing_to_scan p page n m b two none =
+    record {
+      steps = looking p.seat (word.Mark page) n ∷ looking p.seat (word.Black page) m ∷ [];
+      did = two.did;
+      looks = refl;
+      pages = λ other le lt.
+          let same : page ≡ other = omega arith in
+          subst (λ (i : ℕ). SeesNoWork p.seat i (looking p.seat (word.Mark page) n ∷ looking p.seat
+          (word.Black page) m ∷ [])) same
+          (record { before = []; behind = []; marks = n; blacks = m; is = refl; no_work = inl none });
+      between = (None, two.marker);
+    }
+
+pub no_cell_yet : (p : PassState) (page n m : ℕ) (b : PassState) (h : ℕ) (d : PassState) → TwoLooks p page n m b
+    → Moves b (step.Mlook (word.Head page)) h d → h ≡ 0 → LooksInVain p page (page + 1) d
+no_cell_yet p page n m b h d two head free =
+    let xs = looking p.seat (word.Mark page) n ∷ looking p.seat (word.Black page) m ∷ looking p.seat
+    (word.Head page) 0 ∷ [] in
+    record {
+      steps = looking p.seat (word.Mark page) n ∷ looking p.seat (word.Black page) m ∷ looking p.seat
+          (word.Head page) 0 ∷ [];
+      did =
+          subst (λ (i : ℕ). Did p (looking p.seat (word.Mark page) n ∷ looking p.seat
+          (word.Black page) m ∷ looking p.seat (word.Head page) i ∷ []) d) free
+          (did_more p (looking p.seat (word.Mark page) n ∷ looking p.seat (word.Black page) m ∷ []) b
+          (step.Mlook (word.Head page)) h d two.did head);
+      looks = refl;
+      pages = λ other le lt.
+          let same : page ≡ other = omega arith in
+          subst (λ (i : ℕ). SeesNoWork p.seat i (looking p.seat (word.Mark page) n ∷ looking p.seat
+          (word.Black page) m ∷ looking p.seat (word.Head page) 0 ∷ [])) same
+          (record {
+            before = [];
+            behind = looking p.seat
+                (word.Head page) 0 ∷ [];
+            marks = n;
+            blacks = m;
+            is = refl;
+            no_work = inr ([], refl);
+          });
+      between = (
+        Some (record { page = page; header = h }),
+        head.marker
+            ∙ behind_look b.table.config h page (marker_in b) None two.marker,
+      );
+    }
+
+-- a marker attends while a cycle marks
+marking_for : (c : Config) (m : Moment) (s : Seat) → Known c m → is_attending (marker_at m s).presence ≡ true
+    → IsMarking m.words
+marking_for c m (Marker k) known on = known.orderly.attends k on
+marking_for c m (Caller k) known on = cc
+marking_for c m Host known on = cc
+
+pub a_cell : (p : PassState) (page n : ℕ) (a : PassState) (m : ℕ) (b : PassState) (h : ℕ) (d : PassState) (k : ℕ)
+    → IsBetweenScans p
+    → Moves p (step.Mlook (word.Mark page)) n a → n ≡ named_word (now_of a).words (word.Mark page)
+    → Moves a (step.Mlook (word.Black page)) m b
+    → Moves b (step.Mlook (word.Head page)) h d → h ≡ named_word (now_of d).words (word.Head page)
+    → IsHistory d.table.config d.seen → h ≢ 0 → has_bit (without n m) k ≡ true
+    → SeesCell p (record { page = page; index = k; header = h }) d
+a_cell p page n a m b h d k between one marks two head shows history some bit =
+    let looks = two_looks p page n a m b between one two in
+    let at : marker_in a ≡ between_scans None =
+    one.marker ∙ ap (λ (x : MarkerState). marker_behind p.table.config n (step.Mlook (word.Mark page)) x) between.1 in
+    let now : marker_in d ≡ between_scans (Some (record { page = page; header = h })) =
+    head.marker ∙ behind_look b.table.config h page (marker_in b) None looks.marker in
+    let parts = and_parts (has_bit n k) (not (has_bit m k)) (sym (has_bit_without n m k) ∙ bit) in
+    let here : IsMarkedIn a page k = subst (λ (i : ℕ). has_bit i k ≡ true) marks parts.0 in
+    let there : IsMarkedIn b page k = two.marks (ap (λ (x : MarkerState). is_attending x.presence) at) page k here in
+    let still : IsMarkedIn d page k = head.marks
+    (ap (λ (x : MarkerState). is_attending x.presence) looks.marker) page k there in
+    let on : attends d ≡ true = ap (λ (x : MarkerState). is_attending x.presence) now in
+    let early : IsMarking (now_of d).words =
+    marking_for d.table.config (now_of d) d.seat
+    (known_left d.table.config d.seen history.within_limits history.enabled) on in
+    let cell : k < cells_under (header_of (header_at (now_of d).words page)) =
+    marks_are_of_cells d.table.config d.seen history early page k still (λ z. some (shows ∙ z)) in
+    record {
+      steps = looking p.seat (word.Mark page) n ∷ looking p.seat (word.Black page) m ∷ looking p.seat
+          (word.Head page) h ∷ [];
+      did = did_more p (looking p.seat (word.Mark page) n ∷ looking p.seat (word.Black page) m ∷ []) b
+          (step.Mlook (word.Head page)) h d looks.did head;
+      sees = record {
+        looks = [];
+        marks = n;
+        blacks = m;
+        is = refl;
+        are_looks = refl;
+        marked = parts.0;
+        not_black = not-true (has_bit m k) parts.1;
+        cell = subst (λ (i : ℕ). k < cells_under (header_of i)) (sym shows) cell;
+      };
+      marker = now;
+      marked = still;
+    }
+
+-- two searches, one behind the other
+
+pub none_both : (r : Option MarkedCell) (p : PassState) (a b : ℕ) (q : PassState) (d e : ℕ) (t : PassState)
+    (first end : ℕ) → LooksInVain p a b q
+    → ((page : ℕ) → first ≤ page → page < end → ((a ≤ page) × (page < b)) ⊎ ((d ≤ page) × (page < e)))
+    → IfNone r (LooksInVain q d e t) → IfNone r (LooksInVain p first end t)
+none_both (Some x) p a b q d e t first end one all h = h
+none_both None p a b q d e t first end one all h = looked_on p a b q d e t first end one h all
+
+pub some_then : (r : Option MarkedCell) (p : PassState) (a b : ℕ) (q t : PassState) → LooksInVain p a b q
+    → IfSome r (λ (cell : MarkedCell). SeesCell q cell t) → IfSome r (λ (cell : MarkedCell). SeesCell p cell t)
+some_then (Some x) p a b q t one h = sees_then p a b q x t one h
+some_then None p a b q t one h = h

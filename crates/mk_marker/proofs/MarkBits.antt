@@ -1,0 +1,184 @@
+-- What an event leaves of the marks while a cycle marks: each is of a cell, or of one that a New is to carve.
+use Rattle.std.proofs.Common.{◌≡◌, ◌⊎◌, ℕ, ◌+◌, ◌<◌, Bool, true, false, refl, sym, ◌∙◌, ap, subst, inl, inr, arith}
+use Rattle.std.specs.Prelude.{Option, slice_index, ◌&&◌, ◌==◌, if◌then◌else◌}
+use Rattle.std.proofs.lemmas.Bool.{eqb-true, ne_eqb, true≢false, and_parts}
+use Rattle.mk_geom.specs.declared.pages.Place.{Place}
+use Rattle.mk_geom.specs.Headers.{header_of}
+use Rattle.mk_core.specs.declared.config.Config.{Config}
+use Rattle.mk_core.specs.declared.events.Seat.{Seat}
+use Rattle.mk_core.specs.declared.events.Step.{Step}
+use Rattle.mk_core.specs.declared.events.Step.TheVariants as step
+use Rattle.mk_core.specs.declared.seats.Holding.{Holding}
+use Rattle.mk_core.specs.declared.seats.Object.{Object}
+use Rattle.mk_core.specs.declared.seats.Placing.{Placing}
+use Rattle.mk_core.specs.declared.seats.Placing.TheVariants.{Unplaced, Chosen, Used, Granted}
+use Rattle.mk_core.specs.declared.seats.Stage.{Stage}
+use Rattle.mk_core.specs.declared.seats.Stage.TheVariants as stage
+use Rattle.mk_core.specs.Bits.{has_bit}
+use Rattle.mk_core.specs.Config.{IsWithinLimits}
+use Rattle.mk_core.specs.Words.{header_at, phase_of}
+use Rattle.mk_core.specs.Cells.{header_in, cells_under}
+use Rattle.mk_core.specs.NewPlaces.{object_made, header_made, is_run_gone}
+use Rattle.mk_core.specs.ObjectHeaders.{IsSized, cells_made}
+use Rattle.mk_core.specs.TurnConditions.{place_now, words_held, is_decided, is_used_once}
+use Rattle.mk_core.specs.StopConditions.{marks_place}
+use Rattle.mk_core.specs.Effects.{chosen}
+use Rattle.mk_core.specs.Moments.{Moment, flight_of, is_phase, nothing_done}
+use Rattle.mk_core.specs.History.{World}
+use Rattle.mk_core.proofs.ObjectHeaders.{made_shows, part_cells}
+use Rattle.mk_core.proofs.PageSteps.{UsedStep, ItTakes, ItGivesBack, used_step}
+use Rattle.mk_core.proofs.PlacesNow.{IsPlaced, ByFit, AsChosen, AsUsed, placed_now, undecided_new}
+use Rattle.mk_core.proofs.Sizes.{pages_some}
+use Rattle.mk_protocol.specs.Protocol.{has_place}
+use Rattle.mk_protocol.proofs.Actors.{Meets}
+use Rattle.mk_protocol.proofs.Known.{Known}
+use Rattle.mk_protocol.proofs.OthersMoves.{WorldBehind}
+use Rattle.mk_guard.specs.Guard.{GoesOn, IsMarking}
+use Rattle.mk_layout.specs.Terrain.{object_now}
+use Rattle.mk_layout.proofs.Behind.{object_kind}
+use Rattle.mk_layout.proofs.Holders.{new_has_turn, giver_has_turn, holding_object, placed_undecided, made_sized}
+
+-- the cell of a place whose first page is to be carved
+pub record IsToCarve (c : Config) (m : Moment) (p k : ℕ) : Type 0 where
+  pub place : Place
+  pub chosen : m.seats.holding.placing ≡ Chosen place
+  pub page : place.page ≡ p
+  pub cell : k < cells_made (object_now c m)
+
+abbrev pub IsCell : Config → Moment → ℕ → ℕ → Type 0
+IsCell c m p k = (k < cells_under (header_in m.words p)) ⊎ IsToCarve c m p k
+
+-- while a cycle marks, each mark is of one of these
+abbrev pub MarksAreOfCells : Config → Moment → Type 0
+MarksAreOfCells c m = IsMarking m.words → (p k : ℕ) → has_bit (slice_index m.words.marks p) k ≡ true → IsCell c m p k
+
+-- The header that is made there has the cell.
+pub made_has : (o : Object) (header k : ℕ) → IsSized o → header ≡ header_made o 0 → k < cells_made o
+    → k < cells_under (header_of header)
+made_has o header k sized is lt =
+    let some = pages_some o sized in
+    let cells = part_cells o (header_of (header_made o 0)) (made_shows o 0 sized (omega arith)) in
+    subst (λ (n : ℕ). k < cells_under (header_of n)) (sym is) (subst (λ (n : ℕ). k < n) (sym cells) lt)
+
+-- What a step leaves of a place that is chosen: it stays so, or its headers stand.
+
+either : (b : Bool) (h : Holding) (place : Place) → h.placing ≡ Chosen place → (b ≡ true → h.placing ≡ Unplaced)
+    → (if b then nothing_done else h).placing ≡ Chosen place
+either true h place is none = let e : Unplaced ≡ Chosen place = sym (none refl) ∙ is in absurd (apart e)
+  where
+    apart : Unplaced ≡ Chosen place → ⊥
+    apart e = cc
+either false h place is none = is
+
+still_chosen : (b : Bool) (p : Placing) (o : Option Place) (place : Place) → p ≡ Chosen place
+    → (if b then p else chosen p o) ≡ Chosen place
+still_chosen true p o place is = is
+still_chosen false p o place is = ap (λ (x : Placing). chosen x o) is
+
+chosen_still : (b : Bool) (p : Placing) (o : Option Place) (place : Place) → p ≡ Chosen place
+    → (if b then chosen p o else p) ≡ Chosen place
+chosen_still true p o place is = ap (λ (x : Placing). chosen x o) is
+chosen_still false p o place is = is
+
+undecided : (s : Stage) → s ≡ stage.Turn → is_decided s ≡ true → ⊥
+undecided stage.Turn at h = cc
+undecided _ at h = cc
+
+not_used : (p : Placing) (place : Place) → p ≡ Chosen place → is_used_once p ≡ true → ⊥
+not_used (Chosen x) place is h = cc
+not_used _ place is h = cc
+
+pub marking_not_four : (n : ℕ) → (n ≡ 1) ⊎ (n ≡ 2) → (n == 4) ≡ false
+marking_not_four n early = ne_eqb n 4 (λ e. elim early [ inl x ↦ omega arith | inr x ↦ omega arith ])
+
+abbrev pub StaysChosen : Config → World → Seat → Place → Step → Type 0
+StaysChosen c w seat place x =
+    ((WorldBehind c w seat x).now.seats.holding.placing ≡ Chosen place)
+    ⊎ ((header_at w.now.words place.page ≡ header_made (object_now c w.now) 0) × IsSized (object_now c w.now))
+
+module _ (c : Config) (w : World) (seat : Seat) (limits : IsWithinLimits c) (known : Known c w.now)
+    (early : IsMarking w.now.words) (place : Place)
+    (is : w.now.seats.holding.placing ≡ Chosen place) where
+  gives_not : Meets c w.now seat step.Give → ⊥
+  gives_not h =
+      let t = giver_has_turn c w.now seat known h in
+      let new = placed_undecided c w.now seat known t (ap (λ (x : Placing). has_place x) is) in
+      let decided = is_decided (flight_of w.now seat).stage in
+      let gone = is_run_gone w.now.words w.now.seats.holding.freed in
+      let held = w.now.words.held == words_held w.now.words in
+      let a = and_parts (decided && gone && held) (w.now.words.fresh == w.now.fresh_words) h.holder in
+      let b = and_parts (decided && gone) held a.0 in
+      let d = and_parts decided gone b.0 in
+      undecided (flight_of w.now seat).stage (undecided_new (flight_of w.now seat) new).stage d.0
+
+  takes : (p n : ℕ) → Meets c w.now seat (step.Used p n) → UsedStep c w.now (flight_of w.now seat) p n
+      → StaysChosen c w seat place (step.Used p n)
+  takes p n h (ItTakes four once t) =
+      let now = placed_now c w.now (flight_of w.now seat) t.place t.there in
+      let o : Object = object_made c (flight_of w.now seat).op in
+      let sized : IsSized o = made_sized c w.now seat limits known now.new in
+      let same : object_now c w.now ≡ o = holding_object c w.now seat known
+      (new_has_turn c w.now seat h.seat now.new) in
+      let there : t.place ≡ place = by w.now.seats.holding.placing is now.placed in
+      let some = pages_some o sized in
+      let stands : header_at w.now.words (t.place.page + 0) ≡ header_made o 0 = t.taken.headers 0 (omega arith) in
+      let first : t.place.page + 0 ≡ place.page = let e = ap (λ (x : Place). x.page) there in omega arith in
+      inr (
+        subst (λ (y : Object). header_at w.now.words place.page ≡ header_made y 0) (sym same)
+            (subst (λ (q : ℕ). header_at w.now.words q ≡ header_made o 0) first stands),
+        subst (λ (y : Object). IsSized y) (sym same) sized,
+      )
+    where
+      by : (x : Placing) → x ≡ Chosen place → IsPlaced c.resident w.now.words.pages
+          (object_made c (flight_of w.now seat).op) t.place x → t.place ≡ place
+      by Unplaced e (ByFit f) = cc
+      by (Chosen y) e AsChosen = cc
+      by (Used y) e AsUsed = cc
+      by Granted e x4 = elim x4 [ ]
+  takes p n h (ItGivesBack four g) = absurd (true≢false (sym four ∙ marking_not_four (phase_of w.now.words) early))
+
+  pub stays_chosen : (x : Step) → Meets c w.now seat x → StaysChosen c w seat place x
+  stays_chosen (step.Take o) h =
+      inl (either (w.now.words.turn == 0) w.now.seats.holding place is
+      (λ z. ap (λ (y : Holding). y.placing) (known.orderly.free (eqb-true w.now.words.turn 0 z))))
+  stays_chosen step.Give h = absurd (gives_not h)
+  stays_chosen (step.Head p n) h = inl (still_chosen (is_phase w.now.words 4) w.now.seats.holding.placing
+      (place_now c w.now (flight_of w.now seat)) place is)
+  stays_chosen (step.Used p n) h = takes p n h (used_step c w.now (flight_of w.now seat) p n h.holder)
+  stays_chosen step.Grant h = absurd (not_used w.now.seats.holding.placing place is h.holder)
+  stays_chosen (step.Mark p n) h =
+      inl (chosen_still (marks_place w.now.words (object_made c (flight_of w.now seat).op)
+      (place_now c w.now (flight_of w.now seat)) p n) w.now.seats.holding.placing
+      (place_now c w.now (flight_of w.now seat)) place is)
+  stays_chosen _ h = inl is
+
+-- So a mark that was of a cell is of one behind a step: headers go on.
+pub still_a_cell : (c : Config) (w : World) (seat : Seat) (x : Step) (p k : ℕ) → IsWithinLimits c → Known c w.now
+    → IsMarking w.now.words → Meets c w.now seat x
+    → GoesOn c.pages (header_at w.now.words p) (header_at (WorldBehind c w seat x).now.words p)
+    → IsCell c w.now p k → IsCell c (WorldBehind c w seat x).now p k
+still_a_cell c w seat x p k limits known early h goes is = elim is [
+  | inl lt ↦ inl (onward lt)
+  | inr t ↦ elim (stays_chosen c w seat limits known early t.place t.chosen x h) [
+    | inl still ↦
+        let same : object_now c (WorldBehind c w seat x).now ≡ object_now c w.now = object_kind c w seat x known h
+        (ap (λ (y : Placing). has_place y) still) in
+        inr (record {
+          place = t.place;
+          chosen = still;
+          page = t.page;
+          cell = subst (λ (o : Object). k < cells_made o)
+              (sym same) t.cell;
+        })
+    | inr stands ↦
+        inl (onward (subst (λ (q : ℕ). k < cells_under (header_in w.now.words q)) t.page
+        (made_has (object_now c w.now) (header_at w.now.words t.place.page) k stands.1 stands.0 t.cell)))
+  ]
+]
+  where
+    onward : k < cells_under (header_in w.now.words p)
+        → k < cells_under (header_in (WorldBehind c w seat x).now.words p)
+    onward lt =
+        let same : cells_under (header_in (WorldBehind c w seat x).now.words p) ≡ cells_under
+        (header_in w.now.words p) = goes.count (λ z. omega arith) in
+        subst (λ (n : ℕ). k < n) (sym same) lt

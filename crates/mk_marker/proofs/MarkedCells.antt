@@ -1,0 +1,161 @@
+-- While a cycle marks, each mark on a page that has a header is of a cell.
+use Rattle.std.proofs.Common.{◌≡◌, ◌≢◌, ◌⊎◌, ℕ, ◌+◌, ◌<◌, true, false, List, [], ◌∷◌, ◌++◌, refl, sym, ◌∙◌, subst, inl, inr, arith, append-nil, append_assoc}
+use Rattle.std.specs.Prelude.{slice_index, ◌&&◌, ◌==◌}
+use Rattle.std.proofs.lemmas.Bool.{cases_lt, eqb-true, true≢false, and_parts}
+use Rattle.std.proofs.lemmas.List.{get_or_past}
+use Rattle.mk_core.specs.declared.config.Config.{Config}
+use Rattle.mk_core.specs.declared.events.Event.{Event}
+use Rattle.mk_core.specs.declared.events.Seat.{Seat}
+use Rattle.mk_core.specs.declared.events.Step.{Step}
+use Rattle.mk_core.specs.declared.events.Step.TheVariants as step
+use Rattle.mk_core.specs.declared.seats.Placing.{Placing}
+use Rattle.mk_core.specs.Bits.{has_bit}
+use Rattle.mk_core.specs.Bounded.{all_below}
+use Rattle.mk_core.specs.Cells.{header_in, cells_under}
+use Rattle.mk_core.specs.Config.{IsWithinLimits}
+use Rattle.mk_core.specs.History.{IsHistory, World, left, left_from, never_behind}
+use Rattle.mk_core.specs.Layout.{AreOfPages}
+use Rattle.mk_core.specs.NewPlaces.{header_made}
+use Rattle.mk_core.specs.StopConditions.{has_clean_page}
+use Rattle.mk_core.specs.Words.{header_at, phase_of}
+use Rattle.mk_core.proofs.AllBelow.{all_below-at}
+use Rattle.mk_core.proofs.HistoryParts.{earlier_part_is_history}
+use Rattle.mk_core.proofs.Sizes.{pages_some}
+use Rattle.mk_core.proofs.WordBits.{no_bit}
+use Rattle.mk_protocol.proofs.Actors.{Meets}
+use Rattle.mk_protocol.proofs.Known.{Known}
+use Rattle.mk_protocol.proofs.OthersMoves.{WorldBehind}
+use Rattle.mk_guard.specs.Guard.{GoesOn, Guard, IsMarking, MarksStand}
+use Rattle.mk_guard.specs.Kept.{OthersSay}
+use Rattle.mk_guard.proofs.Changes.{headers_kind, is_head}
+use Rattle.mk_guard.proofs.FoundHeaders.{head_finds}
+use Rattle.mk_guard.proofs.Headers.{head_keeps}
+use Rattle.mk_guard.proofs.KeptGuard.{goes_equal}
+use Rattle.mk_guard.proofs.Phases.{is_phase_step, phase_stays, over_phase}
+use Rattle.mk_invariant.proofs.Joined.{told_to_guard}
+use Rattle.mk_layout.specs.Scene.{PlotStands, IsPlotShown}
+use Rattle.mk_layout.specs.Terrain.{IsLaidOut, object_now, plot_of}
+use Rattle.mk_frames.proofs.LastEvents.{stands, comes_last}
+use Rattle.mk_marker.proofs.MarkBits.{MarksAreOfCells, IsCell, IsToCarve, made_has, marking_not_four, still_a_cell}
+use Rattle.mk_marker.proofs.NewMarks.{new_mark}
+
+-- headers go on while a cycle marks
+headers_go_on : (c : Config) (w : World) (seat : Seat) (x : Step) → IsWithinLimits c → Known c w.now
+    → AreOfPages c.pages w.now.words → IsMarking w.now.words
+    → OthersSay c w → Meets c w.now seat x → (p : ℕ)
+    → GoesOn c.pages (header_at w.now.words p) (header_at (WorldBehind c w seat x).now.words p)
+headers_go_on c w seat (step.Head q n) limits known len early say h p =
+    (head_keeps c w.now seat q n len h (head_finds c w seat q n limits known early say h)).headers p
+headers_go_on c w seat x limits known len early say h p = rest x refl
+  where
+    rest : (y : Step) → is_head y ≡ false → GoesOn c.pages (header_at w.now.words p)
+        (header_at (WorldBehind c w seat y).now.words p)
+    rest y no_head = goes_equal c.pages (header_at w.now.words p) (header_at (WorldBehind c w seat y).now.words p)
+        (headers_kind c w.now seat y no_head p)
+
+-- behind a `begin` nothing is marked
+nothing_marked : (c : Config) (w : World) (seat : Seat) → AreOfPages c.pages w.now.words
+    → Meets c w.now seat step.Begin → (p k : ℕ)
+    → has_bit (slice_index w.now.words.marks p) k ≡ true → ⊥
+nothing_marked c w seat len h p k is = true≢false (sym is ∙ no_bit (slice_index w.now.words.marks p) k none)
+  where
+    own : all_below c.pages (has_clean_page w.now.words) ≡ true
+    own = (and_parts (all_below c.pages (has_clean_page w.now.words)) (w.now.words.fresh == 0) h.holder).0
+
+    none : slice_index w.now.words.marks p ≡ 0
+    none = elim (cases_lt p c.pages) [
+      | inl lt ↦
+          let clean = all_below-at c.pages p (has_clean_page w.now.words) own lt in
+          let a = and_parts ((slice_index w.now.words.marks p == 0) && (slice_index w.now.words.blacks p == 0))
+          (slice_index w.now.words.freed p == slice_index w.now.words.snapshot p) clean in
+          eqb-true (slice_index w.now.words.marks p) 0
+          (and_parts (slice_index w.now.words.marks p == 0) (slice_index w.now.words.blacks p == 0) a.0).0
+      | inr past ↦ get_or_past w.now.words.marks p 0 (omega (arith, len.marks))
+    ]
+
+cells_kept : (c : Config) (w : World) (seat : Seat) (x : Step) → IsWithinLimits c → Known c w.now
+    → AreOfPages c.pages w.now.words → IsLaidOut c w → OthersSay c w
+    → Guard c w.now → IsMarking w.now.words → Meets c w.now seat x → MarksAreOfCells c w.now → (p k : ℕ)
+    → has_bit (slice_index (WorldBehind c w seat x).now.words.marks p) k ≡ true
+    → IsCell c (WorldBehind c w seat x).now p k
+cells_kept c w seat x limits known len laid say guard early h all p k is =
+    let goes = headers_go_on c w seat x limits known len early say h in
+    elim (new_mark c w seat limits known laid
+    (marking_not_four (phase_of w.now.words) early) x p k h early guard.markers goes is) [
+      | inl old ↦ still_a_cell c w seat x p k limits known early h (goes p) (all early p k old)
+      | inr new ↦ new
+    ]
+
+-- One event, whatever it is.
+marks_behind : (c : Config) (w : World) (seat : Seat) (x : Step) → IsWithinLimits c → Known c w.now
+    → AreOfPages c.pages w.now.words → IsLaidOut c w → OthersSay c w
+    → MarksStand c w.now → Meets c w.now seat x → MarksAreOfCells c w.now
+    → MarksAreOfCells c (WorldBehind c w seat x).now
+marks_behind c w seat step.Begin limits known len laid say g h all early p k is = absurd
+    (nothing_marked c w seat len h p k is)
+marks_behind c w seat step.Want limits known len laid say g h all early p k is =
+    let one = eqb-true (phase_of w.now.words) 1 h.phase in
+    cells_kept c w seat step.Want limits known len laid say (g.guarded (inl one)) (inl one) h all p k is
+marks_behind c w seat step.Close limits known len laid say g h all early p k is =
+    let two = eqb-true (phase_of w.now.words) 2 h.phase in absurd
+    (elim early [ inl e ↦ omega arith | inr e ↦ omega arith ])
+marks_behind c w seat step.Release limits known len laid say g h all early p k is =
+    let three = eqb-true (phase_of w.now.words) 3 h.phase in absurd
+    (elim early [ inl e ↦ omega arith | inr e ↦ omega arith ])
+marks_behind c w seat step.End limits known len laid say g h all early p k is =
+    let four = eqb-true (phase_of w.now.words) 4 h.phase in absurd
+    (elim early [ inl e ↦ omega arith | inr e ↦ omega arith ])
+marks_behind c w seat step.Over limits known len laid say g h all early p k is =
+    let zero = over_phase c w.now seat h in absurd (elim early [ inl e ↦ omega arith | inr e ↦ omega arith ])
+marks_behind c w seat x limits known len laid say g h all early p k is = rest x h refl early is
+  where
+    rest : (y : Step) → Meets c w.now seat y → is_phase_step y ≡ false → IsMarking (WorldBehind c w seat y).now.words
+        → has_bit (slice_index (WorldBehind c w seat y).now.words.marks p) k ≡ true
+        → IsCell c (WorldBehind c w seat y).now p k
+    rest y hy stays on there =
+        let before : IsMarking w.now.words = subst (λ (n : ℕ). (n ≡ 1) ⊎ (n ≡ 2))
+        (phase_stays c w.now seat y stays) on in
+        cells_kept c w seat y limits known len laid say (g.guarded before) before hy all p k there
+
+-- and so along each history
+along : (c : Config) (done es : List Event) → IsHistory c (done ++ es) → MarksAreOfCells c (left c done).now
+    → MarksAreOfCells c (left c (done ++ es)).now
+along c done [] h all = subst (λ (xs : List Event). MarksAreOfCells c (left c xs).now) (sym (append-nil done)) all
+along c done (e ∷ es) h all =
+    let split : done ++ e ∷ es ≡ (done ++ e ∷ []) ++ es = sym (append_assoc done (e ∷ []) es) in
+    let parts : IsHistory c ((done ++ e ∷ []) ++ es) = subst (λ (xs : List Event). IsHistory c xs) split h in
+    let last = comes_last c done e (earlier_part_is_history c (done ++ e ∷ []) es parts) in
+    let st = stands c done last.before in
+    let next : MarksAreOfCells c (left c (done ++ e ∷ [])).now =
+    subst (λ (v : World). MarksAreOfCells c v.now) (sym last.leaves)
+    (marks_behind c (left c done) e.seat e.step st.known.limits st.known.now st.known.lengths st.all.order.laid
+    (told_to_guard c (left c done) (never_behind c done) st.known st.all) st.all.marks last.meets all) in
+    subst (λ (xs : List Event). MarksAreOfCells c (left c xs).now) (sym split) (along c (done ++ e ∷ []) es parts next)
+
+none_at_first : (c : Config) → MarksAreOfCells c (left c []).now
+unfolding left_from
+none_at_first c early p k is = absurd (elim early [ inl e ↦ omega arith | inr e ↦ omega arith ])
+
+-- where the place that is chosen has its first header, that has its cells
+to_carve_shown : (c : Config) (w : World) (p k : ℕ) → IsLaidOut c w → IsToCarve c w.now p k
+    → header_at w.now.words p ≢ 0 → k < cells_under (header_in w.now.words p)
+to_carve_shown c w p k laid t some =
+    let plot : IsPlotShown w.now.words.pages t.place.page (object_now c w.now) =
+    subst (λ (y : Placing). PlotStands w.now.words.pages (plot_of (object_now c w.now) y)) t.chosen laid.scene.plot in
+    let pages = pages_some (object_now c w.now) plot.sized in
+    let first : t.place.page + 0 ≡ p = let at = t.page in omega arith in
+    elim (plot.headers 0 (omega arith)) [
+      | inl free ↦ absurd (some (subst (λ (q : ℕ). header_at w.now.words q ≡ 0) first free))
+      | inr made ↦
+          made_has (object_now c w.now) (header_at w.now.words p) k plot.sized
+          (subst (λ (q : ℕ). header_at w.now.words q ≡ header_made (object_now c w.now) 0) first made) t.cell
+    ]
+
+pub marks_are_of_cells : (c : Config) (es : List Event) → IsHistory c es → IsMarking (left c es).now.words
+    → (page k : ℕ)
+    → has_bit (slice_index (left c es).now.words.marks page) k ≡ true → header_at (left c es).now.words page ≢ 0
+    → k < cells_under (header_in (left c es).now.words page)
+marks_are_of_cells c es h early page k is some = elim (along c [] es h (none_at_first c) early page k is) [
+  | inl lt ↦ lt
+  | inr t ↦ to_carve_shown c (left c es) page k (stands c es h).all.order.laid t some
+]

@@ -1,0 +1,234 @@
+-- One step of a marker: what it leaves.
+use Rattle.std.proofs.Common.{◌≡◌, ℕ, ◌+◌, ◌-◌, ◌*◌, ◌<◌, Bool, true, List, [], ◌∷◌, ◌++◌, refl, sym, ◌∙◌, ap, subst, append_assoc, arith}
+use Rattle.std.specs.Prelude.{slice_index, if◌then◌else◌, Some, None, ◌&&◌, nat_lt, slice_set, bit_or}
+use Rattle.std.proofs.lemmas.Bool.{lt-ltb, eq-eqb}
+use Rattle.mk_geom.specs.Headers.{header_of}
+use Rattle.mk_core.specs.declared.config.Config.{Config}
+use Rattle.mk_core.specs.declared.events.Seat.{Seat}
+use Rattle.mk_core.specs.declared.events.Seat.TheVariants.{Caller, Marker, Host}
+use Rattle.mk_core.specs.declared.events.Step.{Step}
+use Rattle.mk_core.specs.declared.events.Step.TheVariants as step
+use Rattle.mk_core.specs.declared.events.Word.{Word}
+use Rattle.mk_core.specs.declared.events.Event.{Event}
+use Rattle.mk_core.specs.declared.seats.Marker.{Marker as MarkerState}
+use Rattle.mk_core.specs.declared.seats.Presence.TheVariants.{Attending}
+use Rattle.mk_core.specs.Accesses.{found, scan_page, scan_bit}
+use Rattle.mk_core.specs.Cells.{words_under, cells_under}
+use Rattle.mk_core.specs.Enabled.{failing, marker_may}
+use Rattle.mk_core.proofs.Conditions.{meets_enabled}
+use Rattle.mk_core.specs.Effects.{marker_behind, scan_begun}
+use Rattle.mk_core.specs.Bits.{has_bit, bit_for}
+use Rattle.mk_core.specs.Frames.{Attends, ScanIsLeft}
+use Rattle.mk_core.specs.Growing.{Finding, own_from}
+use Rattle.mk_core.specs.History.{IsHistory, World, left, world_behind}
+use Rattle.mk_core.specs.Moments.{Moment, marker_at}
+use Rattle.mk_core.specs.StopConditions.{is_attending}
+use Rattle.mk_core.specs.Words.{named_word}
+use Rattle.mk_core.proofs.Lengths.{histories_keep_lengths}
+use Rattle.mk_core.proofs.WordBits.{bits_added, bit_for_has}
+use Rattle.mk_guard.proofs.Changes.{marks_kind}
+use Rattle.mk_marker.specs.Working.{IsBlackIn}
+use Rattle.mk_words.specs.Seats.{Has}
+use Rattle.mk_words.specs.States.{WordsState, PassState, now_of, event_of}
+use Rattle.mk_words.specs.Steps.{Makes, Finds, found_by, IsEnabledTo}
+use Rattle.mk_words.specs.Markers.{marker_in, Marks}
+use Rattle.mk_words.proofs.Made.{made}
+use Rattle.mk_words.proofs.Seats.{same_self}
+use Rattle.mk_turns.specs.Doing.{AreOwnOrOfOthers, done_in}
+use Rattle.mk_turns.proofs.Doing.{done_in_parts, own_or_others_in_parts, others_are_so, none_own}
+use Rattle.mk_marker.specs.declared.cells.MarkedCell.{MarkedCell}
+use Rattle.mk_marker.specs.Markers.{attends, between_scans}
+use Rattle.mk_marker.specs.Doing.{Did, finding}
+use Rattle.mk_marker.specs.Scanning.{words_scanned}
+use Rattle.mk_marker.specs.Steps.{IsOf, Moves, Moved, MarksGrow, IsMarkedIn, IsScanning, IsScanOf, ClaimsMarked, words_left}
+
+-- one own event
+one_own : (c : Config) (s : Seat) (w : World) (x : Step)
+    → own_from c s w (record { seat = s; step = x } ∷ []) ≡ finding s x
+    (found c w.now (record { seat = s; step = x })) ∷ []
+unfolding own_from
+one_own c s w x = ap (λ (b : Bool). if b then finding s x
+    (found c w.now (record { seat = s; step = x })) ∷ [] else []) (same_self s)
+
+itself : (s : Seat) (seats : List Seat) (x : Step) → Has seats s
+    → AreOwnOrOfOthers s seats (record { seat = s; step = x } ∷ [])
+unfolding AreOwnOrOfOthers
+itself s seats x has = (has ∙ sym (same_self s), tt)
+
+pub did_step : (p : PassState) (s : Step) (n : ℕ) (q : PassState) → Has p.seats p.seat → Finds p s n q
+    → Did p (finding p.seat s n ∷ []) q
+did_step p s n q has f =
+    let e : Event = event_of p s in
+    let others : List Event = f.makes.others in
+    let v : PassState = record p { seen = p.seen ++ others } in
+    record {
+      more = others ++ e ∷ [];
+      is = f.makes.is ∙ ap (λ (es : List Event). record p { seen = es }) (append_assoc p.seen others (e ∷ []));
+      own_or_others =
+          own_or_others_in_parts p.seat p.seats others (e ∷ [])
+          (others_are_so p.seats p.seat others has f.makes.of_others) (itself p.seat p.seats s has);
+      done =
+          done_in_parts p others (e ∷ [])
+          ∙ ap (λ (zs : List Finding). zs ++ done_in v (e ∷ []))
+          (none_own p.table.config p.seats p.seat (left p.table.config p.seen) others has f.makes.of_others)
+          ∙ one_own p.table.config p.seat (left p.table.config v.seen) s
+          ∙ ap (λ (i : ℕ). finding p.seat s i ∷ []) (sym f.finds);
+    }
+
+-- who attends is a marker
+pub attends_there : (m : Moment) (s : Seat) → is_attending (marker_at m s).presence ≡ true → Attends m s
+attends_there m (Marker k) h = h
+attends_there m (Caller k) h = cc
+attends_there m Host h = cc
+
+pub marks_grow : (p : PassState) (s : Step) (q : PassState) → Has p.seats p.seat → IsHistory q.table.config q.seen
+    → Makes p s q → MarksGrow p q
+marks_grow p s q has history makes on page k is =
+    let d = made p s q makes has history in
+    let scan : ScanIsLeft (left p.table.config p.seen) (left p.table.config (p.seen ++ makes.others)) = d.frame.scan
+    (attends_there (now_of p) p.seat on) in
+    subst (λ (w : World). has_bit (slice_index w.now.words.marks page) k ≡ true) (sym d.world)
+    (marks_kind p.table.config (left p.table.config (p.seen ++ makes.others)).now p.seat s scan.phase d.meets page k
+    (scan.marks page k is))
+
+pub moves : (p : PassState) (s : Step) (n : ℕ) (q : PassState) → Has p.seats p.seat → IsHistory q.table.config q.seen
+    → Marks p s n q → Moves p s n q
+moves p s n q has history m =
+    record { did = did_step p s n q has m.finds; marker = m.marker; marks = marks_grow p s q has history m.finds.makes }
+
+-- a look shows the word as it is then
+pub look_shows : (p : PassState) (x : Word) (n : ℕ) (q : PassState) → Has p.seats p.seat
+    → IsHistory q.table.config q.seen → Finds p (step.Mlook x) n q
+    → n ≡ named_word (now_of q).words x
+look_shows p x n q has history f =
+    let d = made p (step.Mlook x) q f.makes has history in
+    f.finds ∙ sym (ap (λ (w : World). named_word w.now.words x) d.world)
+
+-- a step of which the number that it found isn't told
+pub moved : (p : PassState) (s : Step) (q : PassState) → Has p.seats p.seat → IsHistory q.table.config q.seen
+    → (m : Makes p s q)
+    → marker_in q ≡ marker_behind p.table.config (found_by m) s (marker_in p) → Moved p s q
+moved p s q has history m behind = (
+  found_by m,
+  moves p s (found_by m) q has history
+      (record { finds = record { makes = m; finds = refl }; marker = behind }),
+)
+
+-- A claim of a cell that was marked finds it marked.
+pub still_marked : (p : PassState) (page k n : ℕ) (q : PassState) → Has p.seats p.seat
+    → IsHistory q.table.config q.seen → attends p ≡ true
+    → IsMarkedIn p page k → Finds p (step.Claim page k) n q → has_bit n k ≡ true
+still_marked p page k n q has history on is f =
+    let d = made p (step.Claim page k) q f.makes has history in
+    let scan = d.frame.scan (attends_there (now_of p) p.seat on) in
+    ap (λ (i : ℕ). has_bit i k) f.finds ∙ scan.marks page k is
+
+scan_of : (c : Config) (page k header n : ℕ) → has_bit n k ≡ true
+    → marker_behind c n (step.Claim page k) (between_scans (Some (record { page = page; header = header })))
+    ≡ record {
+      presence = Attending;
+      scan = Some (scan_begun page k header);
+      hand = None;
+      seen = Some
+          (record { page = page; header = header });
+    }
+scan_of c page k header n is =
+    ap (λ (b : Bool). record {
+      presence = Attending;
+      scan = if b then Some
+          (scan_begun page k header) else None;
+      hand = None;
+      seen = Some (record { page = page; header = header });
+    }) is
+
+pub claimed : (p : PassState) (cell : MarkedCell) (n : ℕ) (q : PassState) → Has p.seats p.seat
+    → IsHistory q.table.config q.seen
+    → marker_in p ≡ between_scans (Some (record { page = cell.page; header = cell.header }))
+    → IsMarkedIn p cell.page cell.index
+    → Marks p (step.Claim cell.page cell.index) n q
+    → ClaimsMarked p cell q × IsScanning (marker_in q) × IsScanOf (marker_in q) cell.page cell.index ×
+    (words_left (marker_in q) ≡ words_scanned cell.header)
+claimed p cell n q has history at is m =
+    let on : attends p ≡ true = ap (λ (x : MarkerState). is_attending x.presence) at in
+    let marked = still_marked p cell.page cell.index n q has history on is m.finds in
+    let x : MarkerState = record {
+      presence = Attending;
+      scan = Some
+          (scan_begun cell.page cell.index cell.header);
+      hand = None;
+      seen = Some
+          (record { page = cell.page; header = cell.header });
+    } in
+    let now : marker_in q ≡ x =
+    m.marker ∙ ap (λ (y : MarkerState). marker_behind p.table.config n (step.Claim cell.page cell.index) y) at
+    ∙ scan_of p.table.config cell.page cell.index cell.header n marked in (
+      record { found = n; moves = moves p (step.Claim cell.page cell.index) n q has history m; marked = marked },
+      record {
+        scan = scan_begun cell.page cell.index cell.header;
+        seen = Some
+            (record { page = cell.page; header = cell.header });
+        is = now;
+        next = omega arith;
+      },
+      record {
+        on_page = ap (λ (y : MarkerState). scan_page y.scan) now;
+        bit = ap
+            (λ (y : MarkerState). scan_bit y.scan) now;
+      },
+      ap (λ (y : MarkerState). words_left y) now
+          ∙ begun_left (64 * cell.page + cell.index * words_under (header_of cell.header)) (words_scanned cell.header),
+    )
+  where
+    begun_left : (a w : ℕ) → (a + w) - a ≡ w
+    begun_left a w = omega arith
+
+pub may_claim_seen : (w : WordsState) (p : PassState) (cell : MarkedCell) → IsOf w p
+    → marker_in p ≡ between_scans (Some (record { page = cell.page; header = cell.header }))
+    → cell.page < w.config.pages → cell.index < cells_under (header_of cell.header) → cell.index < 32
+    → IsEnabledTo p (step.Claim cell.page cell.index)
+may_claim_seen w p cell of at page index few =
+    let s : Step = step.Claim cell.page cell.index in
+    let c : Config = p.table.config in
+    let page_in : (nat_lt cell.page c.pages && nat_lt cell.index 32) ≡ true =
+    ap (λ (b : Bool). b && nat_lt cell.index 32)
+    (lt-ltb cell.page c.pages (subst (λ (t : WordsState). cell.page < t.config.pages) (sym of.one_table) page))
+    ∙ lt-ltb cell.index 32 few in
+    let may : marker_may c (marker_in p) s ≡ true =
+    ap (λ (x : MarkerState). marker_may c x s) at
+    ∙ ap (λ (b : Bool). b && nat_lt cell.index (cells_under (header_of cell.header)))
+    (eq-eqb cell.page cell.page refl) ∙ lt-ltb cell.index (cells_under (header_of cell.header)) index in
+    subst (λ (seat : Seat). failing c (now_of p) (record { seat = seat; step = s }) ≡ 0) (sym of.marker.seat)
+    (meets_enabled c (now_of p) (record { seat = Marker of.marker.number; step = s })
+    (record {
+      seat = lt-ltb of.marker.number 8 of.marker.exists;
+      kind = refl;
+      order = refl;
+      range = page_in;
+      gates = refl;
+      phase = refl;
+      marker = subst (λ (seat : Seat). marker_may c (marker_at (now_of p) seat) s ≡ true) of.marker.seat may;
+      holder = refl;
+    }))
+
+-- behind its `mblack` the cell is black
+pub blackened : (p : PassState) (page k : ℕ) (q : PassState) → Has p.seats p.seat → IsHistory q.table.config q.seen
+    → Makes p step.Mblack q
+    → IsScanOf (marker_in p) page k → page < p.table.config.pages → k < 64 → IsBlackIn q page k
+blackened p page k q has history makes of lt few =
+    let d = made p step.Mblack q makes has history in
+    let c : Config = p.table.config in
+    let w : World = left c (p.seen ++ makes.others) in
+    let at : scan_page (marker_at w.now p.seat).scan ≡ page = ap
+    (λ (y : MarkerState). scan_page y.scan) d.frame.own.marker ∙ of.on_page in
+    let bit : scan_bit (marker_at w.now p.seat).scan ≡ bit_for k = ap
+    (λ (y : MarkerState). scan_bit y.scan) d.frame.own.marker ∙ of.bit in
+    let len = histories_keep_lengths c (p.seen ++ makes.others) in
+    let there : has_bit (slice_index (slice_set w.now.words.blacks page
+    (bit_or (slice_index w.now.words.blacks page) (bit_for k))) page) k ≡ true =
+    bits_added w.now.words.blacks page (bit_for k) k (omega (arith, len.blacks, lt)) (bit_for_has k few) in
+    let black : has_bit (slice_index (world_behind c w (event_of p step.Mblack)).now.words.blacks page) k ≡ true =
+    subst (λ (i : ℕ). has_bit (slice_index (slice_set w.now.words.blacks i
+    (bit_or (slice_index w.now.words.blacks i) (scan_bit (marker_at w.now p.seat).scan))) page) k ≡ true) (sym at)
+    (subst (λ (i : ℕ). has_bit (slice_index (slice_set w.now.words.blacks page
+    (bit_or (slice_index w.now.words.blacks page) i)) page) k ≡ true) (sym bit) there) in
+    subst (λ (v : World). has_bit (slice_index v.now.words.blacks page) k ≡ true) (sym d.world) black

@@ -1,0 +1,72 @@
+-- The steps of a scan, one behind the other.
+use Rattle.std.proofs.Common.{◌≡◌, ℕ, ◌+◌, Bool, true, false, List, [], ◌∷◌, ◌++◌, refl, ◌∙◌, ap, subst}
+use Rattle.std.specs.Prelude.{◌&&◌, cond}
+use Rattle.std.proofs.lemmas.List.Sums.{sum_by-append}
+use Rattle.mk_core.specs.declared.events.Step.{Step}
+use Rattle.mk_core.specs.declared.events.Step.TheVariants as step
+use Rattle.mk_core.specs.declared.events.Seat.{Seat}
+use Rattle.mk_core.specs.Growing.{Finding}
+use Rattle.mk_words.specs.States.{PassState}
+use Rattle.mk_turns.proofs.Doing.{of_kinds_in_parts}
+use Rattle.mk_marker.specs.declared.cells.MarkedCell.{MarkedCell}
+use Rattle.mk_marker.specs.Doing.{Did, finding, is_of_scan, is_load, count_loads}
+use Rattle.mk_marker.specs.Scanning.{words_scanned}
+use Rattle.mk_marker.specs.Steps.{Moves, Moved, ClaimsMarked, GoesOn, ScansCell}
+use Rattle.mk_marker.proofs.Did.{did_then, did_nothing, seat_kept}
+
+count_in_parts : (xs ys : List Finding) → count_loads (xs ++ ys) ≡ count_loads xs + count_loads ys
+count_in_parts xs ys = sum_by-append (λ (x : Finding). cond (is_load x.event.step) 1 0) xs ys
+
+pub goes_nowhere : (p : PassState) → GoesOn p 0 p
+goes_nowhere p = record { steps = []; did = did_nothing p; of_scan = refl; has_loads = refl }
+
+pub goes_then : (p : PassState) (i : ℕ) (q : PassState) (j : ℕ) (r : PassState) → GoesOn p i q → GoesOn q j r
+    → GoesOn p (i + j) r
+goes_then p i q j r a b =
+    record {
+      steps = a.steps ++ b.steps;
+      did = did_then p a.steps q b.steps r a.did b.did;
+      of_scan = of_kinds_in_parts is_of_scan a.steps b.steps a.of_scan b.of_scan;
+      has_loads = count_in_parts a.steps b.steps ∙ ap (λ (n : ℕ). n + count_loads b.steps) a.has_loads
+          ∙ ap (λ (n : ℕ). i + n) b.has_loads;
+    }
+
+pub goes_once : (p : PassState) (s : Step) (n : ℕ) (q : PassState) → is_of_scan s ≡ true → is_load s ≡ false
+    → Moves p s n q → GoesOn p 0 q
+goes_once p s n q allowed silent m =
+    record {
+      steps = finding p.seat s n ∷ [];
+      did = m.did;
+      of_scan = ap (λ (b : Bool). b && true) allowed;
+      has_loads = ap (λ (b : Bool). 0 + cond {A = ℕ} b 1 0) silent;
+    }
+
+pub loads_once : (p : PassState) (n : ℕ) (q : PassState) → Moves p step.Mload n q → GoesOn p 1 q
+loads_once p n q m = record { steps = finding p.seat step.Mload n ∷ []; did = m.did; of_scan = refl; has_loads = refl }
+
+pub scanned : (p : PassState) (cell : MarkedCell) (a : PassState) (count : ℕ) (b q : PassState)
+    → ClaimsMarked p cell a → GoesOn a count b
+    → count ≡ words_scanned cell.header → Moved b step.Mblack q → ScansCell p cell q
+scanned p cell a count b q claims goes is black =
+    let one = goes.did in
+    let at : b.seat ≡ p.seat = seat_kept a goes.steps b goes.did
+    ∙ seat_kept p (finding p.seat (step.Claim cell.page cell.index) claims.found ∷ []) a claims.moves.did in
+    let last : Did b (finding p.seat step.Mblack black.0 ∷ []) q = subst
+    (λ (s : Seat). Did b (finding s step.Mblack black.0 ∷ []) q) at black.1.did in
+    record {
+      steps = finding p.seat (step.Claim cell.page cell.index) claims.found ∷
+          (goes.steps ++ finding p.seat step.Mblack black.0 ∷ []);
+      did =
+          did_then p (finding p.seat (step.Claim cell.page cell.index) claims.found ∷ []) a
+          (goes.steps ++ finding p.seat step.Mblack black.0 ∷ []) q claims.moves.did
+          (did_then a goes.steps b (finding p.seat step.Mblack black.0 ∷ []) q goes.did last);
+      scans = record {
+        marks = claims.found;
+        blacks = black.0;
+        words = goes.steps;
+        is = refl;
+        marked = claims.marked;
+        of_scan = goes.of_scan;
+        loads = goes.has_loads ∙ is;
+      };
+    }

@@ -1,0 +1,65 @@
+-- What a call did, from its parts.
+use Rattle.std.proofs.Common.{◌≡◌, ◌≢◌, ℕ, ◌%◌, [], ◌∷◌, ◌++◌, refl, ◌∙◌, ap, subst, arith}
+use Rattle.mk_core.specs.declared.events.Seat.{Seat}
+use Rattle.mk_core.specs.declared.events.Word.TheVariants as word
+use Rattle.mk_core.specs.declared.events.Step.TheVariants as step
+use Rattle.mk_core.specs.declared.seats.Marker.{Marker as MarkerState}
+use Rattle.mk_core.specs.MarkerConditions.{is_out}
+use Rattle.mk_words.specs.States.{PassState}
+use Rattle.mk_marker.specs.declared.cells.MarkedCell.{MarkedCell}
+use Rattle.mk_marker.specs.Doing.{finding, looking}
+use Rattle.mk_marker.specs.Scanning.{Scans}
+use Rattle.mk_marker.specs.Working.{FindsPhase, SeesNoWork, SeesACell, FindsNoWork, ScansACell, IsBlackIn}
+use Rattle.mk_marker.specs.Steps.{Moves, Moved, LooksInVain, SeesCell, ScansCell}
+use Rattle.mk_marker.proofs.Did.{did_then, seat_kept}
+use Rattle.mk_marker.proofs.Looking.{did_more}
+
+pub finds_phase : (p : PassState) (n : ℕ) (a q : PassState) → Moves p step.Attend n a → Moved a step.Quit q
+    → n % 8 ≢ 1 → FindsPhase p (n % 8) q
+finds_phase p n a q comes goes other =
+    record {
+      found = n;
+      left = goes.0;
+      did = did_more p (finding p.seat step.Attend n ∷ []) a step.Quit goes.0 q comes.did goes.1;
+      low_bits = refl;
+      other = other;
+      out = ap (λ (x : MarkerState). is_out x.presence) goes.1.marker;
+    }
+
+pub finds_no_work : (p : PassState) (n : ℕ) (a q : PassState) (pages : ℕ) → Moves p (step.Mlook word.Phase) n a
+    → n % 8 ≢ 2 → pages ≡ p.table.config.pages
+    → LooksInVain a 0 pages q → FindsNoWork p q
+finds_no_work p n a q pages looks unwanted is vain =
+    record {
+      phase = n;
+      steps = vain.steps;
+      did = did_then p (looking p.seat word.Phase n ∷ []) a vain.steps q looks.did vain.did;
+      not_wanted = unwanted;
+      looks = vain.looks;
+      pages = λ page lt.
+          subst (λ (s : Seat). SeesNoWork s page vain.steps)
+          (seat_kept p (looking p.seat word.Phase n ∷ []) a looks.did)
+          (vain.pages page (omega arith) (omega arith));
+    }
+
+pub scans_a_cell : (p : PassState) (n : ℕ) (a b q : PassState) (cell : MarkedCell)
+    → Moves p (step.Mlook word.Phase) n a → n % 8 ≢ 2
+    → SeesCell a cell b → ScansCell b cell q → IsBlackIn q cell.page cell.index → ScansACell p q
+scans_a_cell p n a b q cell looks unwanted sees scans black =
+    let first : a.seat ≡ p.seat = seat_kept p (looking p.seat word.Phase n ∷ []) a looks.did in
+    let second : b.seat ≡ p.seat = seat_kept a sees.steps b sees.did ∙ first in
+    record {
+      phase = n;
+      page = cell.page;
+      index = cell.index;
+      header = cell.header;
+      search = sees.steps;
+      scan = scans.steps;
+      did =
+          did_then p (looking p.seat word.Phase n ∷ []) a (sees.steps ++ scans.steps) q looks.did
+          (did_then a sees.steps b scans.steps q sees.did scans.did);
+      not_wanted = unwanted;
+      sees = subst (λ (s : Seat). SeesACell s cell.page cell.index cell.header sees.steps) first sees.sees;
+      scans = subst (λ (s : Seat). Scans s cell.page cell.index cell.header scans.steps) second scans.scans;
+      black = black;
+    }

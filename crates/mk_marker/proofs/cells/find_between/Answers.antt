@@ -1,0 +1,23 @@
+use Rattle.std.proofs.Common.{◌+◌, inl, inr, arith}
+use Rattle.std.proofs.lemmas.Bool.{cases_lt}
+use Rattle.mk_marker.proofs.Looking.{looked_at_none, looked_on, sees_then}
+use Rattle.mk_marker.proofs.cells.find_between.Goals as goal
+
+pub pages-init : goal.pages-init
+pages-init c = looked_at_none c.args.pass.now c.args.first c.requires.between
+
+pub returns-in-Some-clause-some : goal.returns-in-Some-clause-some
+returns-in-Some-clause-some c =
+    sees_then c.args.pass.now c.args.first c.pages.page c.pages.pass c.in-Some.cell c.find_on_page.new.pass
+    c.pages.invariant c.in-Some.ensures.some
+
+pub pages-preserved : goal.pages-preserved
+pages-preserved c =
+    looked_on c.args.pass.now c.args.first c.pages.page c.pages.pass c.pages.page
+    (c.pages.page + 1) c.find_on_page.new.pass c.args.first
+    (c.pages.page + 1) c.pages.invariant c.in_default.ensures.none
+    (λ other le lt. elim (cases_lt other c.pages.page) [
+      | inl before ↦ inl (le, before)
+      | inr here ↦ inr
+          (omega arith, lt)
+    ])

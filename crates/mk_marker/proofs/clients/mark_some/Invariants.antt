@@ -1,0 +1,9 @@
+use Rattle.std.proofs.Common.{◌≡◌, true}
+use Rattle.mk_marker.specs.Markers.{attends}
+use Rattle.mk_marker.proofs.clients.mark_some.Given as goal
+
+abbrev pub invariant-cells : goal.invariant-cells
+invariant-cells l = record {
+  attends : attends l.marker ≡ true;
+  pass : l.marker ≡ record l.initial.marker { seen = l.marker.seen };
+}

@@ -1,0 +1,9 @@
+use Rattle.mk_marker.proofs.Scanned.{loads_once, goes_then}
+use Rattle.mk_marker.proofs.scans.scan_word.Goals as goal
+
+pub returns-in-Some-clause-goes : goal.returns-in-Some-clause-goes
+returns-in-Some-clause-goes c =
+    let p = c.args.pass.now in
+    let q = c.load-value.new.pass in
+    let r = c.mark_target.new.pass in
+    goes_then p 1 q 0 r (loads_once p c.load-value.result q c.load-value.ensures) c.mark_target.ensures.goes

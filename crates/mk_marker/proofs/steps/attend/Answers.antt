@@ -1,0 +1,7 @@
+use Rattle.mk_core.specs.declared.events.Step.TheVariants as step
+use Rattle.mk_marker.proofs.Moving.{moves}
+use Rattle.mk_marker.proofs.steps.attend.Goals as goal
+
+pub returns : goal.returns
+returns c = moves c.args.pass.now step.Attend c.attend-found.result c.attend-found.new.self c.is_in_order.ensures.own
+    c.is_in_order-2.ensures.history c.attend-found.ensures

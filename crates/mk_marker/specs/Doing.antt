@@ -1,0 +1,44 @@
+-- What a marker did in a call: all its own steps, in their order, and what each of them found.
+use Rattle.std.specs.Prelude.{◌≡◌, ℕ, Bool, true, false, List, ◌++◌, count_by}
+use Rattle.mk_core.specs.declared.events.Seat.{Seat}
+use Rattle.mk_core.specs.declared.events.Word.{Word}
+use Rattle.mk_core.specs.declared.events.Word.TheVariants as word
+use Rattle.mk_core.specs.declared.events.Step.{Step}
+use Rattle.mk_core.specs.declared.events.Step.TheVariants as step
+use Rattle.mk_core.specs.declared.events.Event.{Event}
+use Rattle.mk_core.specs.Growing.{Finding}
+use Rattle.mk_words.specs.States.{PassState}
+use Rattle.mk_turns.specs.Doing.{AreOwnOrOfOthers, done_in}
+
+-- a step of a seat that found this number
+abbrev pub finding : Seat → Step → ℕ → Finding
+finding s x n = record { event = record { seat = s; step = x }; found = n }
+
+-- a look that found this word
+abbrev pub looking : Seat → Word → ℕ → Finding
+looking s x n = finding s (step.Mlook x) n
+
+-- From what one pass had seen to what it has seen now, these are the steps of its seat.
+pub record Did (p : PassState) (xs : List Finding) (q : PassState) : Type 0 where
+  pub more : List Event
+  pub is : q ≡ record p { seen = p.seen ++ more }
+  pub own_or_others : AreOwnOrOfOthers p.seat p.seats more
+  pub done : done_in p more ≡ xs
+
+abbrev pub is_look : Step → Bool
+is_look (step.Mlook x) = true
+is_look _ = false
+
+abbrev pub is_load : Step → Bool
+is_load step.Mload = true
+is_load _ = false
+
+-- the steps of a scan between its `claim` and its `mblack`
+abbrev pub is_of_scan : Step → Bool
+is_of_scan (step.Mlook (word.Head p)) = true
+is_of_scan step.Mload = true
+is_of_scan step.Mmark = true
+is_of_scan _ = false
+
+abbrev pub count_loads : List Finding → ℕ
+count_loads xs = count_by (λ (x : Finding). is_load x.event.step) xs

@@ -1,0 +1,5 @@
+pub mod Markers
+pub mod Doing
+pub mod Scanning
+pub mod Working
+pub mod Steps

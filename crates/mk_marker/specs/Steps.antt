@@ -1,0 +1,111 @@
+-- A marker's pass on its way through a call: what one step leaves, and what a marker is at.
+use Rattle.std.specs.Prelude.{◌≡◌, ℕ, ◌-◌, ◌<◌, ◌≤◌, true, List, [], ◌∷◌, Option, Some, None, slice_index}
+use Rattle.mk_core.specs.declared.events.Step.{Step}
+use Rattle.mk_core.specs.declared.events.Step.TheVariants as step
+use Rattle.mk_core.specs.declared.seats.Marker.{Marker as MarkerState}
+use Rattle.mk_core.specs.declared.seats.Presence.TheVariants.{Attending}
+use Rattle.mk_core.specs.declared.seats.Scan.{Scan}
+use Rattle.mk_core.specs.declared.seats.SeenHeader.{SeenHeader}
+use Rattle.mk_core.specs.Accesses.{scan_page, scan_bit}
+use Rattle.mk_core.specs.Bits.{has_bit, bit_for}
+use Rattle.mk_core.specs.Effects.{marker_behind}
+use Rattle.mk_core.specs.Frames.{OnlyGrow}
+use Rattle.mk_core.specs.Growing.{Finding}
+use Rattle.mk_words.specs.States.{WordsState, PassState, now_of}
+use Rattle.mk_words.specs.Markers.{marker_in}
+use Rattle.mk_turns.specs.Doing.{are_of}
+use Rattle.mk_marker.specs.declared.cells.MarkedCell.{MarkedCell}
+use Rattle.mk_marker.specs.Markers.{IsMarkers, IsBetweenScans, between_scans, attends}
+use Rattle.mk_marker.specs.Doing.{Did, finding, is_look, is_of_scan, count_loads}
+use Rattle.mk_marker.specs.Scanning.{Scans}
+use Rattle.mk_marker.specs.Working.{SeesNoWork, SeesACell}
+
+-- The pass is a marker's, of this table.
+pub record IsOf (w : WordsState) (p : PassState) : Type 0 where
+  pub one_table : p.table ≡ w
+  pub marker : IsMarkers p
+
+-- While a marker attends, no mark is taken back.
+abbrev pub MarksGrow : PassState → PassState → Type 0
+MarksGrow p q = attends p ≡ true → OnlyGrow (now_of p).words.marks (now_of q).words.marks
+
+-- The pass made one step, which found this number.
+pub record Moves (p : PassState) (s : Step) (n : ℕ) (q : PassState) : Type 0 where
+  pub did : Did p (finding p.seat s n ∷ []) q
+  pub marker : marker_in q ≡ marker_behind p.table.config n s (marker_in p)
+  pub marks : MarksGrow p q
+
+-- whatever it found
+abbrev pub Moved : PassState → Step → PassState → Type 0
+Moved p s q = (n : ℕ) × Moves p s n q
+
+-- The cell is marked behind what the pass has seen.
+abbrev pub IsMarkedIn : PassState → ℕ → ℕ → Type 0
+IsMarkedIn p page index = has_bit (slice_index (now_of p).words.marks page) index ≡ true
+
+-- the words that a marker has still to load of its cell
+abbrev pub words_left : MarkerState → ℕ
+words_left x = by x.scan
+  where
+    by : Option Scan → ℕ
+    by (Some scan) = scan.end - scan.next
+    by None = 0
+
+-- A marker scans a cell, and has no open hand.
+pub record IsScanning (x : MarkerState) : Type 0 where
+  pub scan : Scan
+  pub seen : Option SeenHeader
+  pub is : x ≡ record { presence = Attending; scan = Some scan; hand = None; seen = seen }
+  pub next : scan.next ≤ scan.end
+
+-- It scans this cell.
+pub record IsScanOf (x : MarkerState) (page index : ℕ) : Type 0 where
+  pub on_page : scan_page x.scan ≡ page
+  pub bit : scan_bit x.scan ≡ bit_for index
+
+-- It scans the same cell.
+pub record SameScan (x y : MarkerState) : Type 0 where
+  pub page : scan_page y.scan ≡ scan_page x.scan
+  pub bit : scan_bit y.scan ≡ scan_bit x.scan
+
+-- It has this value in its hand.
+pub record IsHolding (x : MarkerState) (value : ℕ) : Type 0 where
+  pub scan : Scan
+  pub seen : Option SeenHeader
+  pub is : x ≡ record { presence = Attending; scan = Some scan; hand = Some value; seen = seen }
+  pub next : scan.next ≤ scan.end
+
+-- The pass claimed the cell, and found it marked.
+pub record ClaimsMarked (p : PassState) (cell : MarkedCell) (q : PassState) : Type 0 where
+  pub found : ℕ
+  pub moves : Moves p (step.Claim cell.page cell.index) found q
+  pub marked : has_bit found cell.index ≡ true
+
+-- The pass made these steps of a scan, with so many loads, and is still scanning.
+pub record GoesOn (p : PassState) (loads : ℕ) (q : PassState) : Type 0 where
+  pub steps : List Finding
+  pub did : Did p steps q
+  pub of_scan : are_of is_of_scan steps ≡ true
+  pub has_loads : count_loads steps ≡ loads
+
+-- It scanned the cell, from its `claim` to its `mblack`.
+pub record ScansCell (p : PassState) (cell : MarkedCell) (q : PassState) : Type 0 where
+  pub steps : List Finding
+  pub did : Did p steps q
+  pub scans : Scans p.seat cell.page cell.index cell.header steps
+
+-- It looked at these pages, and saw no work.
+pub record LooksInVain (p : PassState) (first end : ℕ) (q : PassState) : Type 0 where
+  pub steps : List Finding
+  pub did : Did p steps q
+  pub looks : are_of is_look steps ≡ true
+  pub pages : (page : ℕ) → first ≤ page → page < end → SeesNoWork p.seat page steps
+  pub between : IsBetweenScans q
+
+-- It saw a cell that it may claim, which is still marked.
+pub record SeesCell (p : PassState) (cell : MarkedCell) (q : PassState) : Type 0 where
+  pub steps : List Finding
+  pub did : Did p steps q
+  pub sees : SeesACell p.seat cell.page cell.index cell.header steps
+  pub marker : marker_in q ≡ between_scans (Some (record { page = cell.page; header = cell.header }))
+  pub marked : IsMarkedIn q cell.page cell.index

@@ -1,0 +1,11 @@
+//! One marker thread's end of a heap.
+#![tactic(auto)]
+
+mod cells;
+mod clients;
+mod headers;
+mod markers;
+mod scans;
+mod steps;
+
+pub use markers::{Marker, NotMarking, Work};

@@ -1,0 +1,118 @@
+//! The steps of a marker, each with what it leaves.
+ghost use Rattle.std.specs.Prelude.{◌≡◌, ◌<◌, ◌&&◌, true, false, Some};
+ghost use Rattle.mk_geom.specs.Headers.{header_of};
+ghost use Rattle.mk_core.specs.declared.events.Step.TheVariants as step;
+ghost use Rattle.mk_core.specs.Words.{named_word};
+ghost use Rattle.mk_core.specs.Ranges.{is_word};
+ghost use Rattle.mk_core.specs.MarkerConditions.{is_markers_word, is_out, may_mmark, may_mblack};
+ghost use Rattle.mk_core.specs.Cells.{cells_under};
+ghost use Rattle.mk_words.specs.States.{now_of};
+ghost use Rattle.mk_words.specs.Markers.{marker_in};
+ghost use Rattle.mk_marker.specs.Markers.{IsOut, attends, between_scans};
+ghost use Rattle.mk_marker.specs.Scanning.{words_scanned};
+ghost use Rattle.mk_marker.specs.Working.{IsBlackIn};
+ghost use Rattle.mk_marker.specs.Steps.{IsOf, Moves, Moved, IsMarkedIn, IsScanning, IsScanOf, ClaimsMarked, words_left};
+
+use crate::cells::MarkedCell;
+use mk_core::Word;
+use mk_words::{Pass, Words};
+
+/// Comes in, and answers the phase word as it was.
+#[inline(always)]
+pub(crate) fn attend(words: &Words, pass: &mut Pass) -> u64
+    requires marker { IsOf words.now pass.old }
+    requires out { IsOut pass.old }
+    ensures { Moves pass.old step.Attend result pass.new }
+{
+    pass.is_in_order();
+    let found = pass.attend(words);
+    pass.is_in_order();
+    found
+}
+
+/// Goes out.
+#[inline(always)]
+pub(crate) fn quit(words: &Words, pass: &mut Pass)
+    requires marker { IsOf words.now pass.old }
+    requires comes { is_out (marker_in pass.old).presence ≡ false }
+    ensures { Moved pass.old step.Quit pass.new }
+{
+    pass.is_in_order();
+    pass.quit(words);
+    pass.is_in_order();
+}
+
+/// Looks at the phase, or at a mark, black or header word.
+#[inline(always)]
+pub(crate) fn look(words: &Words, pass: &mut Pass, x: Word) -> u64
+    requires marker { IsOf words.now pass.old }
+    requires attends { attends pass.old ≡ true }
+    requires word { (is_markers_word x && is_word words.now.config x) ≡ true }
+    ensures moves { Moves pass.old (step.Mlook x) result pass.new }
+    ensures shows { result ≡ named_word (now_of pass.new).words x }
+{
+    pass.is_in_order();
+    let found = pass.marker_look(words, x);
+    pass.is_in_order();
+    found
+}
+
+/// Claims a cell that it has seen marked. It is marked still, since no mark is taken back while a marker attends.
+#[inline(always)]
+pub(crate) fn claim(words: &Words, pass: &mut Pass, cell: MarkedCell)
+    requires marker { IsOf words.now pass.old }
+    requires seen { marker_in pass.old ≡ between_scans (Some (record { page = cell.page; header = cell.header })) }
+    requires page { cell.page < words.now.config.pages }
+    requires index { cell.index < cells_under (header_of cell.header) }
+    requires marked { IsMarkedIn pass.old cell.page cell.index }
+    ensures claims { ClaimsMarked pass.old cell pass.new }
+    ensures scanning { IsScanning (marker_in pass.new) }
+    ensures cell { IsScanOf (marker_in pass.new) cell.page cell.index }
+    ensures left { words_left (marker_in pass.new) ≡ words_scanned cell.header }
+{
+    pass.is_in_order();
+    pass.claim(words, cell.page, cell.index);
+    pass.is_in_order();
+}
+
+/// Loads the next word of the cell.
+#[inline(always)]
+pub(crate) fn load(words: &Words, pass: &mut Pass) -> u64
+    requires marker { IsOf words.now pass.old }
+    requires scanning { IsScanning (marker_in pass.old) }
+    requires more { 0 < words_left (marker_in pass.old) }
+    ensures { Moves pass.old step.Mload result pass.new }
+{
+    pass.is_in_order();
+    let found = pass.marker_load(words);
+    pass.is_in_order();
+    found
+}
+
+/// Marks the cell that it has seen, into which its open hand points.
+#[inline(always)]
+pub(crate) fn mark(words: &Words, pass: &mut Pass)
+    requires marker { IsOf words.now pass.old }
+    requires cell { may_mmark words.now.config (marker_in pass.old) ≡ true }
+    ensures { Moved pass.old step.Mmark pass.new }
+{
+    pass.is_in_order();
+    pass.marker_mark(words);
+    pass.is_in_order();
+}
+
+/// Blackens the cell that it has scanned.
+#[inline(always)]
+pub(crate) fn blacken(words: &Words, pass: &mut Pass, cell: MarkedCell)
+    requires marker { IsOf words.now pass.old }
+    requires scanned { may_mblack (marker_in pass.old) ≡ true }
+    requires cell { IsScanOf (marker_in pass.old) cell.page cell.index }
+    requires page { cell.page < words.now.config.pages }
+    requires index { cell.index < 64 }
+    ensures moves { Moved pass.old step.Mblack pass.new }
+    ensures black { IsBlackIn pass.new cell.page cell.index }
+{
+    pass.is_in_order();
+    pass.marker_black(words);
+    pass.is_in_order();
+}
