@@ -1,5 +1,6 @@
 -- What always holds of the host holds of the first, and is kept where a caller or a marker is made or joined.
 use Rattle.std.proofs.Common.{◌≡◌, ◌⊎◌, ℕ, ◌+◌, ◌<◌, ◌≤◌, true, false, List, [], ◌∷◌, ◌++◌, get_or, replicate, refl, sym, ◌∙◌, ap, subst, inl, inr, ⊎_elim, arith}
+use Rattle.std.specs.Prelude.{Option, Some}
 use Rattle.std.proofs.lemmas.Bool.{ne_eqb, lt-ltb, cases_lt, ltb-true}
 use Rattle.std.proofs.lemmas.List.{get_or-replicate, get_or_past, length-replicate}
 use Rattle.mk_core.specs.declared.config.Config.{Config}
@@ -9,13 +10,13 @@ use Rattle.mk_core.specs.declared.events.Seat.TheVariants.{Caller, Marker, Host}
 use Rattle.mk_core.specs.Calls.{at_rest}
 use Rattle.mk_core.specs.Growing.{Grows, is_same_seat}
 use Rattle.mk_core.specs.History.{left, left_from, IsHistory}
-use Rattle.mk_core.specs.Moments.{first_moment, outside}
+use Rattle.mk_core.specs.Moments.{first_moment, marker_at, outside}
 use Rattle.mk_core.specs.Order.{seat_exists, host_has_turn}
 use Rattle.mk_words.specs.Seats.{Has, HasAll, all_seats, without_seat}
 use Rattle.mk_words.specs.States.{WordsState, PassState, now_of}
 use Rattle.mk_words.proofs.Seats.{has_all, has_either, has_left, has_right, only_one, without_keeps, without_less}
 use Rattle.mk_caller.specs.States.{IsIdleCaller}
-use Rattle.mk_heap.specs.Hosts.{HostState, pass_for, first_host, with_caller_made, with_marker_made, with_joined, AllAreJoined, Rests, IsDone, IsHost}
+use Rattle.mk_heap.specs.Hosts.{HostState, host_of, IsWholeHost, pass_for, first_host, with_caller_made, with_marker_made, with_joined, AllAreJoined, Rests, IsDone, IsHost}
 use Rattle.mk_heap.proofs.Joining.{still_rests, still_no_turn}
 
 all_same : {A : Type 0} (n k : ℕ) (x : A) → get_or (replicate n x) k x ≡ x
@@ -103,4 +104,25 @@ next_is_idle h is lt =
       caller = h.callers;
       seat = refl;
       rest = (is.rests (Caller h.callers) (is.callers h.callers (omega arith) lt)).call;
+    }
+
+-- What a host is whose pass is home.
+
+abbrev pub home_host : PassState → ℕ → ℕ → HostState
+home_host p callers markers = record { pass = p; callers = callers; markers = markers }
+
+pub home_is : (x : Option PassState) (p : PassState) (callers markers : ℕ) → x ≡ Some p → IsWholeHost x callers markers
+    → IsHost (home_host p callers markers)
+home_is x p callers markers is whole = subst (λ (y : Option PassState). IsWholeHost y callers markers) is whole
+
+pub home_view : (x : Option PassState) (p : PassState) (callers markers : ℕ) (h : HostState) → x ≡ Some p → host_of x callers markers ≡ h
+    → home_host p callers markers ≡ h
+home_view x p callers markers h is view = ap (λ (y : Option PassState). host_of y callers markers) (sym is) ∙ view
+
+-- A caller that is in no call is done.
+pub idle_is_done : (p : PassState) → p.seats ≡ p.seat ∷ [] → IsIdleCaller p → IsDone p
+idle_is_done p alone idle =
+    record {
+      alone = alone;
+      rests = record { call = idle.rest; out = ap (λ (s : Seat). marker_at (now_of p) s) idle.seat };
     }

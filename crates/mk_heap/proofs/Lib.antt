@@ -3,3 +3,5 @@ pub mod Joining
 pub mod HostsKept
 pub mod Quarantine
 pub mod Ended
+pub mod Waiting
+pub mod Telling

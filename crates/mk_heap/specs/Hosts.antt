@@ -1,5 +1,5 @@
 -- What contracts see of the host, and what always holds of it.
-use Rattle.std.specs.Prelude.{◌≡◌, ℕ, ◌+◌, ◌<◌, ◌≤◌, Bool, true, false, List, [], ◌∷◌, ◌++◌, None}
+use Rattle.std.specs.Prelude.{◌≡◌, ℕ, ◌+◌, ◌<◌, ◌≤◌, Bool, true, false, List, [], ◌∷◌, ◌++◌, Option, Some, None}
 use Rattle.mk_core.specs.declared.config.Config.{Config}
 use Rattle.mk_core.specs.declared.events.Event.{Event}
 use Rattle.mk_core.specs.declared.events.Seat.{Seat}
@@ -8,6 +8,7 @@ use Rattle.mk_core.specs.Calls.{at_rest}
 use Rattle.mk_core.specs.Moments.{Moment, flight_of, marker_at, outside}
 use Rattle.mk_core.specs.Order.{seat_exists, host_has_turn}
 use Rattle.mk_words.specs.Seats.{Has, HasAll, all_seats, without_seat}
+use Rattle.mk_words.specs.Rule.{no_config}
 use Rattle.mk_words.specs.States.{WordsState, PassState, now_of}
 
 -- Its pass, and how many callers and markers were made.
@@ -43,6 +44,10 @@ abbrev pub with_joined : HostState → PassState → List Event → HostState
 with_joined h p seen =
     record h { pass = record h.pass { seats = h.pass.seats ++ p.seats; seen = seen } }
 
+-- It has seen these events.
+abbrev pub with_seen : HostState → List Event → HostState
+with_seen h seen = record h { pass = record h.pass { seen = seen } }
+
 -- All callers and markers that were made are joined.
 pub record AllAreJoined (h : HostState) : Type 0 where
   pub callers : (k : ℕ) → k < h.callers → Has h.pass.seats (Caller k)
@@ -65,3 +70,20 @@ pub record IsHost (h : HostState) : Type 0 where
   pub rests : (s : Seat) → Has h.pass.seats s → Rests (now_of h.pass) s
   pub callers : (k : ℕ) → h.callers ≤ k → k < h.pass.table.config.callers → Has h.pass.seats (Caller k)
   pub markers : (k : ℕ) → h.markers ≤ k → k < 8 → Has h.pass.seats (Marker k)
+
+-- What a host is made of: its pass, which is home between its calls, and the two numbers.
+
+abbrev pub no_table : WordsState
+no_table =
+    record {
+      id = record { words = 0; slots = 0; views_name = 0; atom = 0; block = 0; offset = 0; slot_names = [] };
+      config = no_config;
+    }
+
+abbrev pub host_of : Option PassState → ℕ → ℕ → HostState
+host_of (Some p) callers markers = record { pass = p; callers = callers; markers = markers }
+host_of None callers markers = first_host no_table
+
+abbrev pub IsWholeHost : Option PassState → ℕ → ℕ → Type 0
+IsWholeHost (Some p) callers markers = IsHost (record { pass = p; callers = callers; markers = markers })
+IsWholeHost None callers markers = ⊥

@@ -1,2 +1,3 @@
 pub mod Hosts
 pub mod Reports
+pub mod Turns

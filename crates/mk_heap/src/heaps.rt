@@ -37,7 +37,7 @@ impl Heap {
         Ok((
             Heap { words },
             Host {
-                pass,
+                pass: Some(pass),
                 callers: 0,
                 markers: 0,
             },
@@ -55,8 +55,13 @@ impl Heap {
     {
         let Heap { words } = self;
         let Host { pass, .. } = host;
-        pass.is_in_order();
-        let last = Words::close(words, pass);
+        let last = match pass {
+            Some(home) => {
+                home.is_in_order();
+                Words::close(words, home)
+            }
+            None => unreachable!(),
+        };
         Report {
             held: last.held,
             fresh: last.fresh,

@@ -1,33 +1,37 @@
 //! The host: it makes callers, and joins them.
-ghost use Rattle.std.specs.Prelude.{◌≡◌, ◌<◌, ◌∷◌, false};
+ghost use Rattle.std.specs.Prelude.{◌≡◌, ◌<◌, [], ◌∷◌, true, false};
 ghost use Rattle.mk_core.specs.Growing.{Grows};
 ghost use Rattle.mk_core.specs.declared.events.Seat.TheVariants as seat;
 ghost use Rattle.mk_words.specs.Seats.{has_over};
-ghost use Rattle.mk_caller.specs.States.{at_home};
-ghost use Rattle.mk_heap.specs.Hosts.{pass_for, with_caller_made, with_joined, IsDone};
+ghost use Rattle.mk_core.specs.Ranges.{is_word};
+ghost use Rattle.mk_caller.specs.States.{at_home, IsIdleCaller};
+ghost use Rattle.mk_heap.specs.Hosts.{pass_for, with_caller_made, with_joined, with_seen};
+ghost use Rattle.mk_heap.specs.Turns.{is_register, Tells};
 
 use crate::heaps::Heap;
+use crate::turns::take_turn;
 use mk_caller::Caller;
-use mk_core::Seat;
+use mk_core::{Seat, Word};
 use mk_words::{Pass, Words};
 use std::marker::Model;
+use std::sync::Wait;
 
 /// Who makes the callers and markers of a heap, and joins them.
 #[derive(Drop)]
 pub struct Host {
-    pub(crate) pass: Pass,
+    pub(crate) pass: Option<Pass>,
     pub(crate) callers: u64,
     pub(crate) markers: u64,
 }
 
 impl Model for Host {
-    ghost use Rattle.mk_heap.specs.Hosts.{HostState, IsHost};
+    ghost use Rattle.mk_heap.specs.Hosts.{HostState, host_of, IsWholeHost};
 
     ghost Value = { HostState };
 
-    ghost view = { λ h. record { pass = h.pass; callers = h.callers; markers = h.markers } };
+    ghost view = { λ h. host_of h.pass h.callers h.markers };
 
-    ghost invariant = { λ h. IsHost (record { pass = h.pass; callers = h.callers; markers = h.markers }) };
+    ghost invariant = { λ h. IsWholeHost h.pass h.callers h.markers };
 }
 
 impl Host {
@@ -41,22 +45,58 @@ impl Host {
     {
         let words = &heap.words;
         words.is_within_limits();
-        let pass = Words::split(words, &mut self.pass, Seat::Caller(self.callers));
-        self.callers += 1;
-        Caller::new(words, pass)
+        match &mut self.pass {
+            Some(home) => {
+                let pass = Words::split(words, home, Seat::Caller(self.callers));
+                self.callers += 1;
+                Caller::new(words, pass)
+            }
+            None => unreachable!(),
+        }
     }
 
     /// Takes the pass of a caller back, as its `finish` handed it back.
     pub fn join_caller(&mut self, heap: &Heap, pass: Pass)
         requires one_table { self.old.pass.table ≡ heap.now }
         requires of_table { pass.table ≡ heap.now }
-        requires done { IsDone pass }
+        requires alone { pass.seats ≡ pass.seat ∷ [] }
+        requires idle { IsIdleCaller pass }
         ensures host { self.new ≡ with_joined self.old pass self.new.pass.seen }
         ensures own { Grows self.old.pass.seats self.old.pass.seen self.new.pass.seen }
         ensures came { Grows pass.seats pass.seen self.new.pass.seen }
     {
-        self.pass.is_in_order();
-        Words::join(&heap.words, &mut self.pass, pass);
-        self.pass.is_in_order();
+        match &mut self.pass {
+            Some(home) => {
+                home.is_in_order();
+                Words::join(&heap.words, home, pass);
+                home.is_in_order();
+            }
+            None => unreachable!(),
+        }
+    }
+
+    /// Takes the turn, looks at one word, and gives the turn back.
+    pub fn tell<R: Wait>(&mut self, rt: &R, heap: &Heap, x: Word) -> u64
+        requires one_table { self.old.pass.table ≡ heap.now }
+        requires word { is_word heap.now.config x ≡ true }
+        requires no_register { is_register x ≡ false }
+        ensures host { self.new ≡ with_seen self.old self.new.pass.seen }
+        ensures tells { Tells self.old.pass x result self.new.pass }
+    {
+        let words = &heap.words;
+        match self.pass.take() {
+            Some(home) => {
+                home.is_in_order();
+                let mut turn = take_turn(rt, words, home);
+                turn.is_in_order();
+                let found = turn.look(words, x);
+                turn.is_in_order();
+                let back = turn.give(words);
+                back.is_in_order();
+                self.pass = Some(back);
+                found
+            }
+            None => unreachable!(),
+        }
     }
 }

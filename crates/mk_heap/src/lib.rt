@@ -4,6 +4,7 @@
 mod heaps;
 mod hosts;
 mod reports;
+mod turns;
 
 pub use heaps::Heap;
 pub use hosts::Host;

@@ -1,21 +1,25 @@
 use Rattle.std.proofs.Common.{◌≡◌, ◌∙◌, ℕ, ◌<◌, ◌+◌, sym, ap, subst, arith}
-use Rattle.mk_core.specs.declared.events.Seat.TheVariants.{Caller}
 use Rattle.mk_caller.specs.States.{IsIdleCaller}
 use Rattle.mk_words.specs.States.{WordsState, PassState}
 use Rattle.mk_heap.specs.Hosts.{HostState, IsHost}
-use Rattle.mk_heap.proofs.HostsKept.{caller_made_is_host, next_is_idle}
+use Rattle.mk_heap.proofs.HostsKept.{caller_made_is_host, home_host, home_is, home_view, next_is_idle}
 use Rattle.mk_heap.proofs.hosts.Host.caller.Goals as goal
 
 pub new-requires-clause-idle : goal.new-requires-clause-idle
 new-requires-clause-idle c =
-    let h : HostState = record { pass = c.self.inside.pass; callers = c.self.inside.callers; markers = c.self.inside.markers } in
+    let s = c.self.inside in
+    let h : HostState = home_host c.in-Some.home s.callers s.markers in
+    let is = home_is s.pass c.in-Some.home s.callers s.markers c.in-Some.is c.self.invariant in
+    let view = home_view s.pass c.in-Some.home s.callers s.markers c.args.self.now c.in-Some.is c.self.view_is in
     subst (λ (p : PassState). IsIdleCaller p) (sym c.split-pass.ensures.made)
-    (next_is_idle h c.self.invariant
-    (subst (λ (g : HostState). g.callers < g.pass.table.config.callers) (sym c.self.view_is)
+    (next_is_idle h is
+    (subst (λ (g : HostState). g.callers < g.pass.table.config.callers) (sym view)
     (subst (λ (w : WordsState). c.args.self.now.callers < w.config.callers) (sym c.requires.one_table) c.requires.more)))
 
 pub invariant_of-self : goal.invariant_of-self
 invariant_of-self c =
-    let h : HostState = record { pass = c.self.inside.pass; callers = c.self.inside.callers; markers = c.self.inside.markers } in
+    let s = c.self.inside in
+    let h : HostState = home_host c.in-Some.home s.callers s.markers in
+    let is = home_is s.pass c.in-Some.home s.callers s.markers c.in-Some.is c.self.invariant in
     subst (λ (p : PassState). IsHost (record { pass = p; callers = h.callers + 1; markers = h.markers })) (sym c.split-pass.ensures.pass)
-    (caller_made_is_host h c.self.invariant)
+    (caller_made_is_host h is)

@@ -1,0 +1,84 @@
+-- What the host asks where it tells a word: a look decides nothing, and the turn may be given back behind it.
+use Rattle.std.proofs.Common.{◌≡◌, ◌≢◌, ℕ, ◌+◌, true, false, List, [], ◌∷◌, ◌++◌, refl, sym, ◌∙◌, ap, subst, append-nil, arith}
+use Rattle.std.specs.Prelude.{None}
+use Rattle.std.proofs.lemmas.Bool.{ne_eqb}
+use Rattle.mk_core.specs.declared.config.Config.{Config}
+use Rattle.mk_core.specs.declared.events.Event.{Event}
+use Rattle.mk_core.specs.declared.events.Seat.{Seat}
+use Rattle.mk_core.specs.declared.events.Seat.TheVariants.{Host}
+use Rattle.mk_core.specs.declared.events.Step.TheVariants as step
+use Rattle.mk_core.specs.declared.events.Word.{Word}
+use Rattle.mk_core.specs.Counts.{TalliesAreTidy, in_a_word, releases}
+use Rattle.mk_core.specs.Decided.{Decided, asked}
+use Rattle.mk_core.specs.Frames.{Steady, steady_of, CountsAreLeft}
+use Rattle.mk_core.specs.History.{World, first_world, left, IsHistory, never_first, calls}
+use Rattle.mk_core.specs.Order.{host_has_turn}
+use Rattle.mk_core.proofs.Histories.{calls_more}
+use Rattle.mk_never.specs.Admitted.{AreAdmitted}
+use Rattle.mk_placement.proofs.TallySteps.{CountsNothing}
+use Rattle.mk_words.specs.States.{PassState, now_of, event_of}
+use Rattle.mk_words.specs.Steps.{IsAdmittedTo}
+use Rattle.mk_words.specs.TurnSteps.{Acts}
+use Rattle.mk_words.proofs.Tallies.{counts_tidy_more}
+use Rattle.mk_heap.specs.Turns.{TakesTurn, Tells}
+use Rattle.mk_heap.proofs.Waiting.{MovesOn, waits_move, moves_more}
+
+-- No step of the host's decides a call.
+pub look_admitted : (p : PassState) (x : Word) → p.seat ≡ Host → IsHistory p.table.config p.seen → IsAdmittedTo p (step.Look x)
+look_admitted p x host h =
+    let c : Config = p.table.config in
+    subst (λ (s : Seat). AreAdmitted c.globals (never_first c) (asked (calls c (p.seen ++ record { seat = s; step = step.Look x } ∷ [])))) (sym host)
+    (subst (λ (xs : List Decided). AreAdmitted c.globals (never_first c) (asked xs))
+    (sym (calls_more c (first_world c) p.seen (record { seat = Host; step = step.Look x }) ∙ append-nil (calls c p.seen))) h.admitted)
+
+look_counts_nothing : (c : Config) (w : World) (x : Word) → CountsNothing c w (record { seat = Host; step = step.Look x })
+look_counts_nothing c w x =
+    record {
+      alike = record {
+        tallies = record { held = refl; fresh = refl; cycles = refl; released = refl; full = refl };
+        allocations = refl;
+      };
+      no_end = refl;
+      no_full = refl;
+    }
+
+tidy_behind_others : (c : Config) (es fs : List Event) → steady_of (left c fs) ≡ steady_of (left c es) → CountsAreLeft c es fs
+    → TalliesAreTidy c es → TalliesAreTidy c fs
+tidy_behind_others c es fs same counts t =
+    record {
+      cycles = ap (λ (x : Steady). x.cycles) same ∙ t.cycles ∙ ap in_a_word (sym counts.ends);
+      released = ap (λ (x : Steady). x.released) same ∙ t.released
+          ∙ ap (λ (x : Steady). in_a_word (releases x.allocations)) (sym same);
+      full = ap (λ (x : Steady). x.full) same ∙ t.full ∙ ap in_a_word (sym counts.fulls);
+    }
+
+-- A look leaves the tallies what they count (as in the clients of the shared words).
+pub look_tidy : (p q : PassState) (x : Word) → Acts p (step.Look x) q → p.seat ≡ Host
+    → TalliesAreTidy p.table.config p.seen → TalliesAreTidy q.table.config q.seen
+look_tidy p q x a host t =
+    let c : Config = p.table.config in
+    let fs : List Event = p.seen ++ a.makes.others in
+    let e : Event = record { seat = Host; step = step.Look x } in
+    let behind : TalliesAreTidy c (fs ++ e ∷ []) =
+    counts_tidy_more c fs e (look_counts_nothing c (left c fs) x) (tidy_behind_others c p.seen fs a.turn.steady a.counts t) in
+    let seen_is : q.seen ≡ fs ++ e ∷ [] =
+    ap (λ (r : PassState). r.seen) a.makes.is ∙ ap (λ (s : Seat). fs ++ record { seat = s; step = step.Look x } ∷ []) host in
+    subst (λ (d : Config). TalliesAreTidy d q.seen) (sym (ap (λ (r : PassState). r.table.config) a.makes.is))
+    (subst (λ (es : List Event). TalliesAreTidy c es) (sym seen_is) behind)
+
+-- Behind a `give` the host hasn't the turn.
+pub given_no_turn : (p q : PassState) → Acts p step.Give q → host_has_turn q.table.config (now_of q) ≡ false
+given_no_turn p q a =
+    ne_eqb (now_of q).words.turn (1 + q.table.config.callers)
+    (λ e. let zero : (now_of q).words.turn ≡ 0 = ap (λ (w : World). w.now.words.turn) a.world in absurd (omega arith))
+
+pub told_moves : (p q : PassState) (x : Word) (n : ℕ) → Tells p x n q → MovesOn p q
+told_moves p q x n t =
+    moves_more p t.looked q step.Give
+    (moves_more p t.taken t.looked (step.Look x)
+    (moves_more p t.takes.waited t.taken (step.Take None) (waits_move p t.takes.waited t.takes.waits) t.takes.takes.makes)
+    t.looks.makes) t.gives
+
+pub turn_moves : (p q : PassState) → TakesTurn p q → MovesOn p q
+turn_moves p q t =
+    moves_more p t.waited q (step.Take None) (waits_move p t.waited t.waits) t.takes.makes
