@@ -43,7 +43,7 @@ use Rattle.mk_cycle.proofs.MayAct.{may_act}
 state_at : World → ℕ → PageState
 state_at w r = record { page = page_of w.now.words r; freed = slice_index w.now.words.freed r; snapshot = slice_index w.now.words.snapshot r }
 
-state_there : (p q : PassState) (w : World) (s t : Steady) → s ≡ t → (r : ℕ)
+pub state_there : (p q : PassState) (w : World) (s t : Steady) → s ≡ t → (r : ℕ)
     → record { page = slice_index_or s.pages r free_page; freed = slice_index s.freed r; snapshot = slice_index s.snapshot r }
     ≡ (let x : PageState = record { page = slice_index_or t.pages r free_page; freed = slice_index t.freed r; snapshot = slice_index t.snapshot r } in x)
 state_there p q w s t e r = ap (λ (y : Steady). record { page = slice_index_or y.pages r free_page; freed = slice_index y.freed r; snapshot = slice_index y.snapshot r }) e

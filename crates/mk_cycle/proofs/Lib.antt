@@ -14,3 +14,5 @@ pub mod CellBits
 pub mod PageSteps
 pub mod GiveBack
 pub mod SettledPages
+pub mod ReleasedCells
+pub mod EndSteps
