@@ -16,3 +16,4 @@ pub mod GiveBack
 pub mod SettledPages
 pub mod ReleasedCells
 pub mod EndSteps
+pub mod GivingAll
