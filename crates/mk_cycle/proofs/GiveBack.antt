@@ -112,9 +112,9 @@ module _ (p b d q : PassState) (t : InTurn p) (k : FreesNone p b) (tb : InTurn b
         frees = page_then page p b q (page_at_once page p b k) (page_then page b d q gives last);
         header = ap (λ (x : PageState). x.page.header) state ∙ ap (λ (x : PageState). x.page.header) state_d;
         none_left =
-          ap (λ (x : PageState). without x.snapshot (slice_index (now_of q).words.marks page)) state
-          ∙ ap (λ (n : ℕ). without n (slice_index (now_of q).words.marks page))
-          (high_part (without (quarantine % 2 ^ 32) gone) (quarantine / 2 ^ 32 - gone) freed_small)
-          ∙ ap (λ (ms : List ℕ). without (quarantine / 2 ^ 32 - gone) (slice_index ms page)) last.frees.marks
-          ∙ none_is_left (quarantine / 2 ^ 32) (slice_index (now_of d).words.marks page) gone gone_there;
+            ap (λ (x : PageState). without x.snapshot (slice_index (now_of q).words.marks page)) state
+            ∙ ap (λ (n : ℕ). without n (slice_index (now_of q).words.marks page))
+            (high_part (without (quarantine % 2 ^ 32) gone) (quarantine / 2 ^ 32 - gone) freed_small)
+            ∙ ap (λ (ms : List ℕ). without (quarantine / 2 ^ 32 - gone) (slice_index ms page)) last.frees.marks
+            ∙ none_is_left (quarantine / 2 ^ 32) (slice_index (now_of d).words.marks page) gone gone_there;
       }

@@ -72,13 +72,13 @@ releases_unmarked p b d q t free marks tb close td release tq =
       makes = record { closing = b; closed = d; marks = marks; close = close.makes; release = release.makes };
       call = calls_then p d q (calls_then p b d marks.keeps.call one.0.call) two.call;
       steady =
-        ap (λ (x : World). steady_of x) release.world
-        ∙ ap (λ (n : ℕ). record (steady_of (world_at release.makes)) { phase = n; allocations = map (with_released d.table.config w) (world_at release.makes).allocations }) phase
-        ∙ ap (λ (s : Steady). record s { phase = 4; allocations = map (with_released d.table.config w) s.allocations }) release.turn.steady
-        ∙ ap (λ (s : Steady). record s { phase = 4; allocations = map (with_released d.table.config w) s.allocations }) one.0.steady
-        ∙ ap (λ (s : Steady). record s { phase = 4; allocations = map (with_released d.table.config w) s.allocations }) marks.keeps.steady
-        ∙ ap (λ (e : Config). record (steady_of (world_of p)) { phase = 4; allocations = map (with_released e w) (world_of p).allocations }) same_d;
+          ap (λ (x : World). steady_of x) release.world
+          ∙ ap (λ (n : ℕ). record (steady_of (world_at release.makes)) { phase = n; allocations = map (with_released d.table.config w) (world_at release.makes).allocations }) phase
+          ∙ ap (λ (s : Steady). record s { phase = 4; allocations = map (with_released d.table.config w) s.allocations }) release.turn.steady
+          ∙ ap (λ (s : Steady). record s { phase = 4; allocations = map (with_released d.table.config w) s.allocations }) one.0.steady
+          ∙ ap (λ (s : Steady). record s { phase = 4; allocations = map (with_released d.table.config w) s.allocations }) marks.keeps.steady
+          ∙ ap (λ (e : Config). record (steady_of (world_of p)) { phase = 4; allocations = map (with_released e w) (world_of p).allocations }) same_d;
       counts =
-        counts_then p b q same_b marks.keeps.counts
-        (counts_then b d q (same_config b d one.0.call.pass) one.0.counts two.counts);
+          counts_then p b q same_b marks.keeps.counts
+          (counts_then b d q (same_config b d one.0.call.pass) one.0.counts two.counts);
     }

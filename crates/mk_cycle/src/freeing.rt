@@ -13,14 +13,7 @@ use mk_core::Word;
 use mk_words::{Turn, Words};
 
 /// Gives back the released cells of a page: those of the snapshot that have no mark.
-fn give_back(
-    turn: &mut Turn,
-    words: &Words,
-    page: u64,
-    size: u64,
-    quarantine: u64,
-    gone: u64,
-)
+fn give_back(turn: &mut Turn, words: &Words, page: u64, size: u64, quarantine: u64, gone: u64)
     requires one_table { turn.old.pass.table ≡ words.now }
     requires free { IsFreeForCycle turn.old.pass }
     requires phase { IsAtPhase turn.old.pass 4 }
