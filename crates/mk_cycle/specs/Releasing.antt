@@ -25,5 +25,8 @@ pub record ReleasesUnmarked (p q : PassState) : Type 0 where
   pub makes : MakesRelease p q
   pub call : KeepsCall p q
   pub steady : steady_of (world_of q)
-      ≡ record (steady_of (world_of p)) { phase = 4; allocations = map (with_released p.table.config (words_released makes)) (world_of p).allocations }
+      ≡ record (steady_of (world_of p)) {
+        phase = 4;
+        allocations = map (with_released p.table.config (words_released makes)) (world_of p).allocations;
+      }
   pub counts : CountsAreLeft p.table.config p.seen q.seen

@@ -90,7 +90,8 @@ pub(crate) fn take_snapshot(turn: &mut Turn, words: &Words, page: u64, value: u6
     requires free { IsFreeForCycle turn.old.pass }
     requires phase { IsAtPhase turn.old.pass 0 }
     requires within { page < words.now.config.pages }
-    requires value { value ≡ quarantine_word (slice_index (now_of turn.old.pass).words.freed page) (slice_index (now_of turn.old.pass).words.freed page) }
+    requires value { value ≡ quarantine_word (slice_index (now_of turn.old.pass).words.freed page)
+        (slice_index (now_of turn.old.pass).words.freed page) }
     ensures op { turn.new.op ≡ turn.old.op }
     ensures was { InTurn turn.old.pass }
     ensures acts { Acts turn.old.pass (step.Quar page value) turn.new.pass }
@@ -157,7 +158,8 @@ pub(crate) fn wipe(turn: &mut Turn, words: &Words, word: u64)
     requires free { IsFreeForCycle turn.old.pass }
     requires phase { IsAtPhase turn.old.pass 4 }
     requires within { word < 64 * words.now.config.pages }
-    requires released { is_some_and (is_released (now_of turn.old.pass).words) (pointed_cell turn.old.pass.table.config.pages (now_of turn.old.pass).words.pages (address_of word)) ≡ true }
+    requires released { is_some_and (is_released (now_of turn.old.pass).words)
+        (pointed_cell turn.old.pass.table.config.pages (now_of turn.old.pass).words.pages (address_of word)) ≡ true }
     ensures op { turn.new.op ≡ turn.old.op }
     ensures was { InTurn turn.old.pass }
     ensures acts { Acts turn.old.pass (step.Wipe word) turn.new.pass }
