@@ -1,6 +1,6 @@
 -- The `end` of a cycle.
-use Rattle.std.proofs.Common.{◌≡◌, ℕ, ◌+◌, ◌-◌, ◌/◌, ◌%◌, ◌^◌, ◌<◌, ◌≤◌, ◌++◌, [], ◌∷◌, Bool, true, List, refl, sym, ap, subst, ◌∙◌, arith}
-use Rattle.std.specs.Prelude.{◌==◌, count_by, if◌then◌else◌}
+use Rattle.std.proofs.Common.{◌≡◌, ℕ, ◌+◌, ◌-◌, ◌/◌, ◌%◌, ◌^◌, ◌<◌, ◌≤◌, ◌++◌, [], ◌∷◌, List, refl, ap, subst, ◌∙◌, arith}
+use Rattle.std.specs.Prelude.{count_by, if◌then◌else◌}
 use Rattle.std.proofs.lemmas.Bool.{eq-eqb}
 use Rattle.std.proofs.lemmas.List.Sums.{count_by-le-length, sum_by-append}
 use Rattle.mk_core.specs.declared.events.Event.{Event}
@@ -21,7 +21,7 @@ use Rattle.mk_words.specs.TurnSteps.{world_at, Acts}
 use Rattle.mk_words.proofs.Made.{made}
 use Rattle.mk_cycle.specs.EngineLaw.{IsFreeForCycle, IsAtPhase}
 use Rattle.mk_cycle.specs.Freeing.{IsSettledPage}
-use Rattle.mk_cycle.specs.TurnKeeps.{Done, done_of, IsGone, InTurn, KeepsGates}
+use Rattle.mk_cycle.specs.TurnKeeps.{done_of, IsGone, InTurn, KeepsGates}
 use Rattle.mk_cycle.proofs.Allowed.{protocol}
 use Rattle.mk_cycle.proofs.BeginSteps.{all_from}
 use Rattle.mk_cycle.proofs.KeptInParts.{gates_behind}

@@ -1,6 +1,5 @@
 -- The gates are opened behind a `release`.
 use Rattle.std.proofs.Common.{◌≡◌, ℕ, Bool, true, false, List, [], ◌∷◌, ◌++◌, refl, sym, ap, subst, ◌∙◌, inl, inr, append-nil, append_assoc}
-use Rattle.std.specs.Prelude.{◌⊎◌}
 use Rattle.mk_core.specs.declared.config.Config.{Config}
 use Rattle.mk_core.specs.declared.events.Event.{Event}
 use Rattle.mk_core.specs.declared.events.Seat.{Seat}
@@ -8,7 +7,6 @@ use Rattle.mk_core.specs.declared.events.Step.{Step}
 use Rattle.mk_core.specs.declared.events.Step.TheVariants as step
 use Rattle.mk_core.specs.Growing.{AreOfOthers, is_one_of}
 use Rattle.mk_core.specs.History.{IsHistory}
-use Rattle.mk_core.specs.Readings.{Holds}
 use Rattle.mk_core.proofs.HistoryParts.{earlier_part_is_history}
 use Rattle.mk_protocol.proofs.Actors.{is_holders}
 use Rattle.mk_protocol.proofs.Frames.{others_leave}
@@ -24,7 +22,7 @@ use Rattle.mk_words.specs.Steps.{Makes}
 use Rattle.mk_words.specs.TurnSteps.{op_for, world_at}
 use Rattle.mk_words.proofs.Seats.{others_own}
 use Rattle.mk_words.proofs.TurnSteps.{acts, still_turn}
-use Rattle.std.specs.Prelude.{◌==◌, ◌&&◌, ◌||◌, not, nat_lt}
+use Rattle.std.specs.Prelude.{◌==◌, ◌||◌, not, nat_lt}
 use Rattle.std.proofs.lemmas.Bool.{and_from, lt-ltb}
 use Rattle.mk_core.specs.Moments.{is_held, is_number_of, others_are_held}
 use Rattle.mk_core.specs.Words.{Words}

@@ -1,32 +1,29 @@
 -- Behind a `release` the released cells have no word of a mapped allocation.
-use Rattle.std.proofs.Common.{◌≡◌, ℕ, ◌+◌, ◌*◌, ◌<◌, ◌≤◌, ◌++◌, Bool, true, false, List, refl, sym, ap, subst, ◌∙◌, arith, inl, inr}
+use Rattle.std.proofs.Common.{◌≡◌, ℕ, ◌+◌, ◌*◌, ◌<◌, ◌++◌, Bool, true, false, List, refl, sym, ap, subst, ◌∙◌, arith, inl, inr}
 use Rattle.std.specs.Prelude.{◌⊎◌, slice_index, ◌==◌, ◌&&◌, ◌||◌, not, map}
-use Rattle.std.proofs.lemmas.Bool.{and_parts, true≢false, ne_eqb}
+use Rattle.std.proofs.lemmas.Bool.{and_parts, true≢false}
 use Rattle.mk_never.specs.Types.{kinds_of, is_large}
 use Rattle.mk_geom.specs.declared.addresses.Cell.{Cell}
-use Rattle.mk_geom.specs.Headers.{header_of}
 use Rattle.mk_geom.specs.StorageWords.{IsWordOf}
 use Rattle.mk_core.specs.declared.config.Config.{Config}
 use Rattle.mk_core.specs.declared.events.Event.{Event}
 use Rattle.mk_core.specs.declared.events.Step.TheVariants as step
-use Rattle.mk_core.specs.Allocations.{PlacedAllocation, cell_of_allocation, is_mapped, placed_at, storage_of, storage_words, with_released}
+use Rattle.mk_core.specs.Allocations.{PlacedAllocation, is_mapped, placed_at, storage_of, storage_words, with_released}
 use Rattle.mk_core.specs.Bits.{has_bit}
 use Rattle.mk_core.specs.Cells.{cell_words, first_word, header_in, is_left_unmarked, left_unmarked, words_under}
 use Rattle.mk_core.specs.Frames.{Steady}
 use Rattle.mk_core.specs.History.{World}
 use Rattle.mk_core.specs.Moments.{is_phase}
-use Rattle.mk_core.specs.Words.{Words, phase_of}
 use Rattle.mk_core.proofs.BitsWithout.{has_bit_without}
 use Rattle.mk_core.proofs.ChangedAllocations.{changed_at}
 use Rattle.mk_core.proofs.PointedAllocations.{released_where_left}
 use Rattle.mk_core.proofs.StandingAllocations.{cells_begin}
-use Rattle.mk_layout.specs.LayoutLaws.{StandsInOrder}
 use Rattle.mk_layout.specs.Quarantine.{IsFreedCell}
 use Rattle.mk_layout.specs.Scene.{is_released_in}
 use Rattle.mk_invariant.proofs.Theorems.{allocations_are_disjoint, allocations_stand}
 use Rattle.mk_frames.proofs.LastEvents.{stands}
 use Rattle.mk_zeros.specs.Zeros.{IsMappedWord}
-use Rattle.mk_words.specs.States.{PassState, world_of, now_of}
+use Rattle.mk_words.specs.States.{PassState, now_of}
 use Rattle.mk_words.specs.TurnSteps.{world_at, Acts}
 use Rattle.mk_words.proofs.Made.{made}
 use Rattle.mk_cycle.specs.EngineLaw.{IsAtPhase}

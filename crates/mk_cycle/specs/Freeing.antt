@@ -1,5 +1,5 @@
 -- Behind a `release` what was released is wiped and given back, page by page.
-use Rattle.std.specs.Prelude.{◌≡◌, ◌≢◌, ℕ, ◌+◌, ◌*◌, ◌<◌, true, false, List, [], slice_index}
+use Rattle.std.specs.Prelude.{◌≡◌, ◌≢◌, ℕ, ◌+◌, ◌*◌, ◌<◌, true, false, [], slice_index}
 use Rattle.mk_geom.specs.declared.pages.Page.{Page}
 use Rattle.mk_core.specs.Bits.{has_bit}
 use Rattle.mk_core.specs.Cells.{left_unmarked, header_in, words_under}

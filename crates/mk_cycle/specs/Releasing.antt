@@ -1,5 +1,5 @@
 -- What is made in the stop: the marks are closed, and what is unmarked is released.
-use Rattle.std.specs.Prelude.{◌≡◌, ℕ, map}
+use Rattle.std.specs.Prelude.{◌≡◌, map}
 use Rattle.mk_core.specs.declared.events.Step.TheVariants as step
 use Rattle.mk_core.specs.Allocations.{with_released}
 use Rattle.mk_core.specs.Frames.{steady_of, CountsAreLeft}
