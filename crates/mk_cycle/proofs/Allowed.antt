@@ -1,5 +1,5 @@
 -- The steps that a turn which is free for a cycle may make at phase 0.
-use Rattle.std.proofs.Common.{◌≡◌, ℕ, ◌<◌, Bool, true, false, List, refl, sym, subst, ap, ◌∙◌}
+use Rattle.std.proofs.Common.{◌≡◌, ℕ, ◌<◌, Bool, true, false, refl, sym, subst, ap, ◌∙◌}
 use Rattle.std.specs.Prelude.{slice_index, ◌==◌, ◌||◌, ◌&&◌, ◌%◌, ◌/◌, ◌^◌, if◌then◌else◌, nat_lt, not, Option, None}
 use Rattle.std.proofs.lemmas.Bool.{eq-eqb, lt-ltb}
 use Rattle.mk_geom.specs.declared.addresses.Cell.{Cell}
@@ -10,11 +10,10 @@ use Rattle.mk_core.specs.declared.events.Word.{Word}
 use Rattle.mk_core.specs.declared.events.Word.TheVariants as word
 use Rattle.mk_core.specs.declared.events.Step.TheVariants as step
 use Rattle.mk_core.specs.declared.seats.Flight.{Flight}
-use Rattle.mk_core.specs.Cells.{heads_run}
-use Rattle.mk_core.specs.Moments.{Moment, is_phase, others_are_held}
+use Rattle.mk_core.specs.Moments.{is_phase, others_are_held}
 use Rattle.mk_core.specs.NewPlaces.{target}
-use Rattle.mk_core.specs.Ranges.{is_word, is_run_cell, has_gates, has_phase}
-use Rattle.mk_core.specs.TurnConditions.{frees, takes_snapshot, drops, may_quarantine}
+use Rattle.mk_core.specs.Ranges.{is_word, is_run_cell, has_gates}
+use Rattle.mk_core.specs.TurnConditions.{frees, takes_snapshot, drops}
 use Rattle.mk_core.specs.Words.{Words, phase_of, quarantine_word}
 use Rattle.mk_protocol.specs.Protocol.{Protocol}
 use Rattle.mk_protocol.proofs.Protocols.{lists_keep_the_protocol}

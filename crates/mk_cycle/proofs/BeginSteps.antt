@@ -1,38 +1,34 @@
 -- The `begin` of a cycle, and the calls around it.
-use Rattle.std.proofs.Common.{◌≡◌, ℕ, zero, suc, ◌+◌, ◌*◌, ◌/◌, ◌%◌, ◌^◌, ◌<◌, ◌≤◌, Bool, true, false, List, [], ◌∷◌, ◌++◌, length, refl, sym, ap, subst, ◌∙◌, arith}
-use Rattle.std.specs.Prelude.{◌&&◌, ◌==◌, not, map, filter, sum_by, count_by, if◌then◌else◌, slice_index, Option, None}
+use Rattle.std.proofs.Common.{◌≡◌, ℕ, zero, suc, ◌+◌, ◌/◌, ◌%◌, ◌^◌, ◌<◌, ◌≤◌, Bool, true, false, List, [], ◌∷◌, length, refl, sym, ap, subst, ◌∙◌, arith}
+use Rattle.std.specs.Prelude.{◌&&◌, ◌==◌, map, filter, sum_by, count_by, if◌then◌else◌, slice_index}
 use Rattle.std.proofs.lemmas.Bool.{and_from, eq-eqb}
 use Rattle.std.proofs.lemmas.List.Sums.{count_by-le-length}
 use Rattle.mk_core.specs.declared.config.Config.{Config}
-use Rattle.mk_core.specs.declared.events.Event.{Event}
-use Rattle.mk_core.specs.declared.events.Seat.{Seat}
 use Rattle.mk_core.specs.declared.events.Step.TheVariants as step
-use Rattle.mk_core.specs.declared.seats.Flight.{Flight}
 use Rattle.mk_core.specs.declared.seats.Holding.{Holding}
 use Rattle.mk_core.specs.declared.seats.OwnCycle.TheVariants.{Begun}
 use Rattle.mk_core.specs.Allocations.{PlacedAllocation, no_longer_fresh, unreleased_storage, storage_of, storage_words, held_words, fresh_words_of, is_mapped}
 use Rattle.mk_geom.specs.Storages.{Storage}
 use Rattle.mk_geom.specs.StorageWords.{mapped_words}
 use Rattle.mk_core.specs.Bounded.{all_below}
-use Rattle.mk_core.specs.Counts.{releases, in_a_word, TalliesAreExact, TalliesAreTidy, ends, fulls}
+use Rattle.mk_core.specs.Counts.{releases, in_a_word, TalliesAreExact, TalliesAreTidy, fulls}
 use Rattle.mk_core.specs.Frames.{Steady, steady_of, CountsAreLeft}
-use Rattle.mk_core.specs.History.{World, world_behind, IsHistory}
-use Rattle.mk_core.specs.Moments.{Moment, flight_of}
+use Rattle.mk_core.specs.History.{World}
 use Rattle.mk_core.specs.Readings.{is_in}
-use Rattle.mk_core.specs.StopConditions.{has_clean_page, may_begin}
-use Rattle.mk_core.specs.Words.{Words, phase_of}
+use Rattle.mk_core.specs.StopConditions.{has_clean_page}
+use Rattle.mk_core.specs.Words.{phase_of}
 use Rattle.mk_books.proofs.PlaceLemmas.{count_by-map}
 use Rattle.mk_core.proofs.AllBelow.{all_below_zero_is, all_below_more_is}
-use Rattle.mk_protocol.specs.Protocol.{Protocol, has_place}
+use Rattle.mk_protocol.specs.Protocol.{has_place}
 use Rattle.mk_frames.proofs.LastEvents.{stands}
-use Rattle.mk_words.specs.States.{PassState, world_of, now_of, call_of, event_of}
+use Rattle.mk_words.specs.States.{PassState, world_of, now_of, call_of}
 use Rattle.mk_words.specs.Steps.{IsEnabledTo}
 use Rattle.mk_words.specs.TurnSteps.{world_at, Acts}
 use Rattle.mk_words.proofs.Made.{made}
 use Rattle.mk_cycle.specs.BeginCycle.{BeginsCycle, with_cycle_begun}
 use Rattle.mk_cycle.specs.Cleaning.{Cleans, IsClean}
 use Rattle.mk_cycle.specs.EngineLaw.{IsFreeForCycle, IsAtPhase, BeginsMarking, is_pending_free}
-use Rattle.mk_cycle.specs.TurnKeeps.{Done, done_of, IsGone, KeepsGates, InTurn, but_cleaned}
+use Rattle.mk_cycle.specs.TurnKeeps.{Done, done_of, IsGone, KeepsGates, InTurn}
 use Rattle.mk_cycle.proofs.Allowed.{protocol}
 use Rattle.mk_cycle.proofs.KeptInParts.{gates_behind, gates_then, same_config}
 use Rattle.mk_cycle.proofs.MayAct.{may_act}

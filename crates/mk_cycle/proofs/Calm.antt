@@ -1,7 +1,6 @@
 -- Steps of the turn's holder that go on with its call and with what it has done in its turn as they were.
 use Rattle.std.proofs.Common.{◌≡◌, ℕ, Bool, true, false, refl, ◌∙◌, ap}
-use Rattle.std.specs.Prelude.{Option, None, Some, not, ◌&&◌, if◌then◌else◌}
-use Rattle.std.proofs.lemmas.Bool.{cases_Bool}
+use Rattle.std.specs.Prelude.{Option, None, not, ◌&&◌, if◌then◌else◌}
 use Rattle.mk_never.specs.declared.operations.Op.{Op}
 use Rattle.mk_never.specs.declared.operations.Op.TheVariants as op
 use Rattle.mk_geom.specs.declared.addresses.Cell.{Cell}
@@ -13,14 +12,13 @@ use Rattle.mk_core.specs.declared.events.Step.{Step}
 use Rattle.mk_core.specs.declared.events.Step.TheVariants as step
 use Rattle.mk_core.specs.declared.seats.Flight.{Flight}
 use Rattle.mk_core.specs.declared.seats.Holding.{Holding}
-use Rattle.mk_core.specs.declared.seats.RunPages.{RunPages}
 use Rattle.mk_core.specs.declared.seats.Stage.{Stage}
 use Rattle.mk_core.specs.declared.seats.Stage.TheVariants as stage
 use Rattle.mk_geom.specs.PageUses.{or_else}
 use Rattle.mk_core.specs.Calls.{still}
 use Rattle.mk_core.specs.Effects.{progress, progress_look, progress_freed, decided, sees_double, holding_behind, run_of_cell}
 use Rattle.mk_core.specs.Moments.{Moment, is_phase}
-use Rattle.mk_core.specs.NewPlaces.{is_undecided_free, is_free_at, target}
+use Rattle.mk_core.specs.NewPlaces.{is_free_at, target}
 use Rattle.mk_core.specs.TurnConditions.{cell_freed, frees}
 use Rattle.mk_core.specs.Words.{Words}
 use Rattle.mk_core.specs.Cells.{pointed_cell}

@@ -1,7 +1,7 @@
 -- Pages are cleaned step by step.
-use Rattle.std.proofs.Common.{◌≡◌, ◌≢◌, ℕ, ◌+◌, ◌<◌, ◌≤◌, ◌%◌, ◌/◌, ◌^◌, Bool, true, false, List, [], ◌∷◌, ◌++◌, length, refl, sym, ap, subst, ◌∙◌, arith, inl, inr}
-use Rattle.std.specs.Prelude.{Option, None, map, slice_index, slice_set, not, ◌&&◌, ◌==◌, nat_lt}
-use Rattle.std.proofs.lemmas.Bool.{cases_eq, cases_lt, eq-eqb, lt-ltb}
+use Rattle.std.proofs.Common.{◌≡◌, ℕ, ◌<◌, ◌%◌, ◌/◌, ◌^◌, true, false, List, [], ◌∷◌, ◌++◌, length, refl, sym, ap, subst, ◌∙◌, arith, inl, inr}
+use Rattle.std.specs.Prelude.{Option, None, map, slice_index, slice_set}
+use Rattle.std.proofs.lemmas.Bool.{cases_eq, cases_lt}
 use Rattle.std.proofs.lemmas.List.{get_or-set_same, get_or-set_other, set_past, set-get_or}
 use Rattle.mk_core.specs.declared.config.Config.{Config}
 use Rattle.mk_core.specs.declared.events.Step.{Step}
@@ -9,7 +9,7 @@ use Rattle.mk_core.specs.declared.events.Word.{Word}
 use Rattle.mk_core.specs.declared.events.Seat.{Seat}
 use Rattle.mk_core.specs.declared.events.Step.TheVariants as step
 use Rattle.mk_core.specs.declared.events.Tally.TheVariants as tally
-use Rattle.mk_core.specs.Effects.{holding_behind, progress}
+use Rattle.mk_core.specs.Effects.{progress}
 use Rattle.mk_core.specs.Frames.{Steady, steady_of}
 use Rattle.mk_core.specs.History.{World, world_behind, IsHistory}
 use Rattle.mk_core.specs.Moments.{Moment, flight_of}
@@ -17,25 +17,20 @@ use Rattle.mk_core.specs.Calls.{still}
 use Rattle.mk_core.specs.Cycles.{is_end}
 use Rattle.mk_core.specs.declared.seats.Flight.{Flight}
 use Rattle.mk_zeros.specs.ZeroLaws.{stores}
-use Rattle.mk_core.specs.Words.{Words, phase_of, quarantine_word}
+use Rattle.mk_core.specs.Words.{Words, quarantine_word}
 use Rattle.mk_core.specs.Allocations.{PlacedAllocation, freed_where_it_stands}
 use Rattle.mk_geom.specs.declared.addresses.Cell.{Cell}
-use Rattle.mk_protocol.proofs.Protocols.{lists_keep_the_protocol}
-use Rattle.mk_words.specs.Seats.{Has}
-use Rattle.mk_words.specs.States.{WordsState, PassState, world_of, now_of, call_of, event_of}
-use Rattle.mk_words.specs.Steps.{IsEnabledTo}
+use Rattle.mk_words.specs.States.{WordsState, PassState, now_of, event_of}
 use Rattle.mk_words.specs.TurnSteps.{world_at, Acts}
-use Rattle.mk_turns.specs.Doing.{Does}
 use Rattle.mk_turns.proofs.Doing.{does_nothing, does_then, does_step}
-use Rattle.mk_cycle.specs.Cleaning.{IsUnmarked, IsUnscanned, HasSnapshot, IsClean, Cleans}
+use Rattle.mk_cycle.specs.Cleaning.{HasSnapshot, IsClean, Cleans}
 use Rattle.mk_cycle.specs.EngineLaw.{IsFreeForCycle, IsAtPhase, is_pending_free}
 use Rattle.mk_cycle.specs.Kinds.{clears}
-use Rattle.mk_cycle.specs.TurnKeeps.{KeepsCall, KeepsTurn, KeepsGates, InTurn, but_cleaned}
+use Rattle.mk_cycle.specs.TurnKeeps.{KeepsTurn, InTurn, but_cleaned}
 use Rattle.mk_core.specs.declared.events.Event.{Event}
 use Rattle.mk_frames.proofs.LastEvents.{stands}
 use Rattle.mk_words.proofs.Made.{made}
 use Rattle.mk_cycle.proofs.KeptInParts.{free_then, keeps_at_once, keeps_then, gates_then, gates_behind}
-use Rattle.mk_cycle.proofs.MayAct.{may_act}
 use Rattle.mk_cycle.proofs.Calm.{is_calm, calm_still, calm_done, frees_none}
 use Rattle.mk_cycle.proofs.OwnSteps.{keeps_call, keeps_counts}
 

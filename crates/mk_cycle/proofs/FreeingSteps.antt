@@ -1,7 +1,7 @@
 -- Cells are given back step by step.
-use Rattle.std.proofs.Common.{◌≡◌, ◌≢◌, ℕ, ◌+◌, ◌<◌, ◌≤◌, Bool, true, false, List, [], ◌∷◌, ◌++◌, length, refl, sym, ap, subst, ◌∙◌, arith, inl, inr, append-nil, append_assoc}
-use Rattle.std.specs.Prelude.{slice_index, slice_set, ◌==◌, not, ◌&&◌, if◌then◌else◌, Option, ◌⊎◌}
-use Rattle.std.proofs.lemmas.Bool.{cases_Bool, cases_eq, cases_lt, eq-eqb, eqb-true, eqb-false, ne_eqb, false_from_ne_true, true≢false}
+use Rattle.std.proofs.Common.{◌≡◌, ◌≢◌, ℕ, Bool, true, false, List, ◌++◌, length, refl, sym, ap, subst, ◌∙◌, arith, inl, inr}
+use Rattle.std.specs.Prelude.{slice_index, slice_set, if◌then◌else◌}
+use Rattle.std.proofs.lemmas.Bool.{cases_eq, cases_lt, eq-eqb, eqb-false, ne_eqb}
 use Rattle.std.proofs.lemmas.List.{get_or-set_same, get_or-set_other, set_past}
 use Rattle.mk_core.specs.declared.config.Config.{Config}
 use Rattle.mk_core.specs.declared.events.Event.{Event}
@@ -16,20 +16,20 @@ use Rattle.mk_core.specs.Calls.{still}
 use Rattle.mk_core.specs.Cycles.{is_end}
 use Rattle.mk_core.specs.Effects.{progress, holding_behind, chosen, taken}
 use Rattle.mk_core.specs.TurnConditions.{place_now}
-use Rattle.mk_core.specs.Frames.{Steady, steady_of, TurnIsLeft}
+use Rattle.mk_core.specs.Frames.{Steady, steady_of}
 use Rattle.mk_core.specs.Growing.{AreOfOthers}
-use Rattle.mk_core.specs.History.{World, world_behind, left, IsHistory}
+use Rattle.mk_core.specs.History.{World, world_behind, IsHistory}
 use Rattle.mk_core.specs.Moments.{Moment, flight_of, is_held, is_phase}
 use Rattle.mk_core.specs.Words.{phase_of}
 use Rattle.mk_zeros.specs.Zeros.{IsMappedWord}
 use Rattle.mk_zeros.specs.ZeroLaws.{stores}
 use Rattle.mk_frames.proofs.RunsStill.{HolderFinds, holder_finds}
-use Rattle.mk_words.specs.States.{WordsState, PassState, world_of, now_of, call_of, event_of}
+use Rattle.mk_words.specs.States.{WordsState, PassState, world_of, now_of, event_of}
 use Rattle.mk_words.specs.TurnSteps.{world_at, Acts}
 use Rattle.mk_words.proofs.Made.{made}
 use Rattle.mk_turns.proofs.Doing.{does_nothing, does_then, does_step}
 use Rattle.mk_cycle.specs.EngineLaw.{IsFreeForCycle, IsAtPhase, is_pending_free}
-use Rattle.mk_cycle.specs.Freeing.{but_pages, IsUnmapped, IsZero, Frees}
+use Rattle.mk_cycle.specs.Freeing.{but_pages, IsUnmapped, Frees}
 use Rattle.mk_cycle.specs.Kinds.{gives_back}
 use Rattle.mk_cycle.specs.TurnKeeps.{InTurn, KeepsTurn}
 use Rattle.mk_core.specs.NewPlaces.{is_run_gone}

@@ -1,14 +1,13 @@
 -- What the steps that give back make of a page's words.
-use Rattle.std.proofs.Common.{◌≡◌, ◌≢◌, ℕ, ◌+◌, ◌*◌, ◌-◌, ◌/◌, ◌%◌, ◌^◌, ◌<◌, ◌≤◌, Bool, true, false, List, ◌++◌, length, refl, sym, ap, subst, ◌∙◌, arith, inl, inr}
-use Rattle.std.specs.Prelude.{slice_index, slice_index_or, slice_set, ◌==◌, ◌&&◌, ◌||◌, not, nat_lt, nat_le, if◌then◌else◌, Option, Some, None, bit_and}
-use Rattle.std.proofs.lemmas.Bool.{cases_lt, eq-eqb, eqb-true, lt-ltb, ltb-true, leb-true, and_from, and_parts, true≢false, ne_eqb}
+use Rattle.std.proofs.Common.{◌≡◌, ℕ, ◌+◌, ◌*◌, ◌-◌, ◌/◌, ◌%◌, ◌^◌, ◌<◌, Bool, true, List, ◌++◌, length, refl, sym, ap, subst, ◌∙◌, arith, inl, inr}
+use Rattle.std.specs.Prelude.{slice_index, slice_index_or, slice_set, ◌==◌, ◌&&◌, ◌||◌, not, nat_lt, nat_le, if◌then◌else◌, Option, Some, None}
+use Rattle.std.proofs.lemmas.Bool.{cases_lt, eq-eqb, eqb-true, lt-ltb, ltb-true, leb-true, and_parts}
 use Rattle.std.proofs.lemmas.List.{get_or-set_same, get_or-set_other, get_or_past, set_past}
 use Rattle.mk_geom.specs.declared.addresses.Cell.{Cell}
 use Rattle.mk_geom.specs.declared.pages.Page.{Page}
 use Rattle.mk_geom.specs.Addresses.{address_of}
 use Rattle.mk_geom.specs.Storages.{free_page}
 use Rattle.mk_core.specs.declared.config.Config.{Config}
-use Rattle.mk_core.specs.declared.events.Event.{Event}
 use Rattle.mk_core.specs.declared.events.Step.TheVariants as step
 use Rattle.mk_core.specs.declared.events.Word.{Word}
 use Rattle.mk_core.specs.declared.seats.Flight.{Flight}
@@ -19,7 +18,7 @@ use Rattle.mk_zeros.specs.Zeros.{MayHold, OfMapped, OfReleased, OfFreedRun, scen
 use Rattle.mk_core.specs.Cells.{pointed_cell, is_released, is_in_run, words_are_zero}
 use Rattle.mk_core.specs.Frames.{Steady}
 use Rattle.mk_core.specs.History.{World}
-use Rattle.mk_core.specs.Moments.{is_phase, others_are_held}
+use Rattle.mk_core.specs.Moments.{others_are_held}
 use Rattle.mk_core.specs.NewPlaces.{target}
 use Rattle.mk_core.specs.Ranges.{is_run_cell}
 use Rattle.mk_core.specs.TurnConditions.{gives_back, drops, empties, carves, unmaps, takes_cell, frees, takes_snapshot, is_in_gone_run, is_used_once, place_now}
@@ -31,7 +30,7 @@ use Rattle.mk_words.specs.Steps.{IsEnabledTo}
 use Rattle.mk_words.specs.TurnSteps.{world_at, Acts}
 use Rattle.mk_words.proofs.Made.{made}
 use Rattle.mk_cycle.specs.EngineLaw.{IsFreeForCycle, IsAtPhase, is_pending_free}
-use Rattle.mk_cycle.specs.Freeing.{IsUnmapped, IsUnmappedWord, IsZero, Frees, FreesNone, FreesPage, PageState, SamePage, page_state}
+use Rattle.mk_cycle.specs.Freeing.{IsUnmapped, IsUnmappedWord, IsZero, Frees, FreesNone, FreesPage, PageState, page_state}
 use Rattle.mk_cycle.specs.TurnKeeps.{InTurn}
 use Rattle.mk_cycle.proofs.Allowed.{protocol, or_true}
 use Rattle.mk_cycle.proofs.Calm.{no_target}
@@ -43,7 +42,7 @@ use Rattle.mk_cycle.proofs.MayAct.{may_act}
 state_at : World → ℕ → PageState
 state_at w r = record { page = page_of w.now.words r; freed = slice_index w.now.words.freed r; snapshot = slice_index w.now.words.snapshot r }
 
-state_there : (p q : PassState) (w : World) (s t : Steady) → s ≡ t → (r : ℕ)
+pub state_there : (p q : PassState) (w : World) (s t : Steady) → s ≡ t → (r : ℕ)
     → record { page = slice_index_or s.pages r free_page; freed = slice_index s.freed r; snapshot = slice_index s.snapshot r }
     ≡ (let x : PageState = record { page = slice_index_or t.pages r free_page; freed = slice_index t.freed r; snapshot = slice_index t.snapshot r } in x)
 state_there p q w s t e r = ap (λ (y : Steady). record { page = slice_index_or y.pages r free_page; freed = slice_index y.freed r; snapshot = slice_index y.snapshot r }) e

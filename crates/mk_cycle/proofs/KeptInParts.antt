@@ -1,17 +1,16 @@
 -- What is kept in parts is kept.
-use Rattle.std.proofs.Common.{◌≡◌, ◌≢◌, ℕ, ◌<◌, Bool, true, false, refl, sym, ap, subst, ◌∙◌, arith, inl, inr}
+use Rattle.std.proofs.Common.{◌≡◌, ◌≢◌, ℕ, ◌<◌, refl, sym, ap, subst, ◌∙◌, inl, inr}
 use Rattle.std.specs.Prelude.{slice_index, ◌==◌}
 use Rattle.std.proofs.lemmas.Bool.{cases_eq, eq-eqb, ne_eqb}
 use Rattle.mk_core.specs.declared.config.Config.{Config}
 use Rattle.mk_core.specs.declared.events.Step.{Step}
-use Rattle.mk_core.specs.Counts.{ends, fulls}
+use Rattle.mk_core.specs.Counts.{fulls}
 use Rattle.mk_core.specs.Frames.{Steady}
 use Rattle.mk_core.specs.History.{World, world_behind}
 use Rattle.mk_core.specs.Moments.{is_held}
-use Rattle.mk_core.specs.declared.seats.Flight.{Flight}
 use Rattle.mk_protocol.specs.Protocol.{has_place}
 use Rattle.mk_words.specs.Seats.{Has}
-use Rattle.mk_words.specs.States.{PassState, world_of, now_of, call_of, event_of}
+use Rattle.mk_words.specs.States.{PassState, event_of}
 use Rattle.mk_words.specs.TurnSteps.{world_at, Acts}
 use Rattle.mk_cycle.specs.EngineLaw.{IsFreeForCycle, is_pending_free}
 use Rattle.mk_cycle.specs.TurnKeeps.{Done, KeepsCall, KeepsTurn, KeepsGates}

@@ -14,3 +14,6 @@ pub mod CellBits
 pub mod PageSteps
 pub mod GiveBack
 pub mod SettledPages
+pub mod ReleasedCells
+pub mod EndSteps
+pub mod GivingAll

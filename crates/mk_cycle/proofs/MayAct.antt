@@ -1,6 +1,6 @@
 -- A turn that is free for a cycle may make every step of any holder whose conditions on words are met.
 use Rattle.std.proofs.Common.{◌≡◌, ℕ, Bool, true, false, List, refl, sym, subst, ◌∙◌, ap}
-use Rattle.std.specs.Prelude.{not, ◌&&◌, ◌+◌, ◌==◌}
+use Rattle.std.specs.Prelude.{not, ◌&&◌, ◌+◌}
 use Rattle.std.proofs.lemmas.Bool.{eq-eqb, lt-ltb}
 use Rattle.mk_never.specs.declared.operations.Op.{Op}
 use Rattle.mk_never.specs.declared.operations.Op.TheVariants as op
@@ -15,10 +15,10 @@ use Rattle.mk_core.specs.declared.seats.Marker.{Marker as MarkerState}
 use Rattle.mk_core.specs.declared.seats.Stage.{Stage}
 use Rattle.mk_core.specs.declared.seats.Stage.TheVariants as stage
 use Rattle.mk_core.specs.Calls.{is_under_turn}
-use Rattle.mk_core.specs.Enabled.{marker_may, holder_may, MeetsAll}
+use Rattle.mk_core.specs.Enabled.{marker_may, holder_may}
 use Rattle.mk_never.specs.Admitted.{AreAdmitted}
 use Rattle.mk_core.specs.Decided.{Decided, asked}
-use Rattle.mk_core.specs.History.{left, never_first, IsHistory}
+use Rattle.mk_core.specs.History.{never_first, IsHistory}
 use Rattle.mk_core.specs.Moments.{Moment, flight_of, marker_at}
 use Rattle.mk_core.specs.Order.{seat_exists, group_of, is_open_to, is_of_any_holder, is_of_turn, may_decide, comes_next, comes_next_to_host, host_has_turn, is_in_order}
 use Rattle.mk_core.specs.Ranges.{is_in_range, has_gates, has_phase}

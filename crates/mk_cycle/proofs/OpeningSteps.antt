@@ -1,6 +1,5 @@
 -- The gates are opened behind a `release`.
 use Rattle.std.proofs.Common.{◌≡◌, ℕ, Bool, true, false, List, [], ◌∷◌, ◌++◌, refl, sym, ap, subst, ◌∙◌, inl, inr, append-nil, append_assoc}
-use Rattle.std.specs.Prelude.{◌⊎◌}
 use Rattle.mk_core.specs.declared.config.Config.{Config}
 use Rattle.mk_core.specs.declared.events.Event.{Event}
 use Rattle.mk_core.specs.declared.events.Seat.{Seat}
@@ -8,7 +7,6 @@ use Rattle.mk_core.specs.declared.events.Step.{Step}
 use Rattle.mk_core.specs.declared.events.Step.TheVariants as step
 use Rattle.mk_core.specs.Growing.{AreOfOthers, is_one_of}
 use Rattle.mk_core.specs.History.{IsHistory}
-use Rattle.mk_core.specs.Readings.{Holds}
 use Rattle.mk_core.proofs.HistoryParts.{earlier_part_is_history}
 use Rattle.mk_protocol.proofs.Actors.{is_holders}
 use Rattle.mk_protocol.proofs.Frames.{others_leave}
@@ -19,15 +17,27 @@ use Rattle.mk_protocol.proofs.Views.{view_of}
 use Rattle.mk_frames.proofs.Holders.{acts_as_holder}
 use Rattle.mk_frames.proofs.LastEvents.{comes_last, stands}
 use Rattle.mk_words.specs.Opening.{is_open, OnlyOpen, Opens}
-use Rattle.mk_words.specs.States.{PassState, now_of, call_of, event_of}
+use Rattle.mk_words.specs.States.{PassState, world_of, now_of, call_of, event_of}
 use Rattle.mk_words.specs.Steps.{Makes}
 use Rattle.mk_words.specs.TurnSteps.{op_for, world_at}
 use Rattle.mk_words.proofs.Seats.{others_own}
 use Rattle.mk_words.proofs.TurnSteps.{acts, still_turn}
+use Rattle.std.specs.Prelude.{◌==◌, ◌||◌, not, nat_lt}
+use Rattle.std.proofs.lemmas.Bool.{and_from, lt-ltb}
+use Rattle.mk_core.specs.Moments.{is_held, is_number_of, others_are_held}
+use Rattle.mk_core.specs.Words.{Words}
+use Rattle.mk_core.proofs.AllBelow.{all_below-at}
+use Rattle.mk_words.specs.Opening.{OthersMayOpen}
+use Rattle.mk_cycle.proofs.Allowed.{protocol}
+use Rattle.mk_cycle.proofs.MayAct.{may_act}
 use Rattle.mk_cycle.specs.EngineLaw.{IsFreeForCycle, IsAtPhase}
-use Rattle.mk_cycle.specs.Freeing.{Frees}
+use Rattle.mk_core.specs.History.{World}
+use Rattle.mk_core.specs.Words.{page_of}
+use Rattle.std.specs.Prelude.{slice_index}
+use Rattle.mk_cycle.specs.Freeing.{FreesNone}
+use Rattle.mk_cycle.proofs.GivingSteps.{none_at_once, none_then, state_there}
 use Rattle.mk_cycle.specs.TurnKeeps.{InTurn}
-use Rattle.mk_cycle.proofs.FreeingSteps.{freed_free, freed_phase, frees_nothing, frees_step, frees_then, open_gives, others_free}
+use Rattle.mk_cycle.proofs.FreeingSteps.{freed_free, freed_phase, frees_step, open_gives, others_free}
 
 open_is_holders : (x : Step) → is_open x ≡ true → is_holders x ≡ true
 open_is_holders (step.Open j) h = refl
@@ -45,7 +55,7 @@ opens_itself p e t h is =
 
 -- one event further
 record Further (p q : PassState) : Type 0 where
-  frees : Frees p q
+  none : FreesNone p q
   turn : InTurn q
 
 behind : PassState → List Event → PassState
@@ -60,7 +70,10 @@ by_another p e t at h other =
     let before = earlier_part_is_history c p.seen (e ∷ []) h in
     let frame = others_leave c p.seen (e ∷ []) p.seat before.within_limits h.enabled (others_own p.seats p.seat (e ∷ []) t.own others) in
     record {
-      frees = others_free p (e ∷ []) t others h at;
+      none = record {
+        frees = others_free p (e ∷ []) t others h at;
+        same = λ r. state_there p (behind p (e ∷ [])) (world_of p) _ _ (frame.turn t.holds).0.steady r;
+      };
       turn = record { own = t.own; holds = (frame.own.holding t.holds).0; history = h };
     }
 
@@ -79,7 +92,12 @@ by_itself p j t free at h =
     let turn = still_turn p (step.Open j) q makes t.own h (op_for p.seat (call_of p)) refl (record { holds = t.holds; op = refl }) in
     let next : InTurn q = record { own = t.own; holds = turn.holds; history = h } in
     record {
-      frees = frees_step p (step.Open j) q a t next refl refl free at (open_gives p.table.config (world_at a.makes) p.seat j);
+      none = record {
+        frees = frees_step p (step.Open j) q a t next refl refl free at (open_gives p.table.config (world_at a.makes) p.seat j);
+        same = λ r.
+            ap (λ (w : World). record { page = page_of w.now.words r; freed = slice_index w.now.words.freed r; snapshot = slice_index w.now.words.snapshot r }) a.world
+            ∙ state_there p q (world_of p) _ _ a.turn.steady r;
+      };
       turn = next;
     }
 
@@ -96,10 +114,10 @@ opens_one p e t free at h is = by e.step refl is (opens_itself p e t h is)
     by _ at_step kind same = cc
 
 opens_all : (more : List Event) (p : PassState) → InTurn p → IsFreeForCycle p → IsAtPhase p 4 → OnlyOpen p.seats more
-    → IsHistory p.table.config (p.seen ++ more) → Frees p (behind p more)
+    → IsHistory p.table.config (p.seen ++ more) → FreesNone p (behind p more)
 unfolding behind OnlyOpen
 opens_all [] p t free at only h =
-    subst (λ (es : List Event). Frees p (record p { seen = es })) (sym (append-nil p.seen)) (frees_nothing p)
+    subst (λ (es : List Event). FreesNone p (record p { seen = es })) (sym (append-nil p.seen)) (none_at_once p)
 opens_all (e ∷ es) p t free at only h =
     let c : Config = p.table.config in
     let split : (p.seen ++ e ∷ []) ++ es ≡ p.seen ++ e ∷ es = append_assoc p.seen (e ∷ []) es in
@@ -109,11 +127,22 @@ opens_all (e ∷ es) p t free at only h =
       | inl other ↦ by_another p e t at first other
       | inr opens ↦ opens_one p e t free at first opens
     ] in
-    let rest = opens_all es (record p { seen = p.seen ++ e ∷ [] }) one.turn (freed_free p _ one.frees free) (freed_phase p _ one.frees at) only.1 whole in
-    subst (λ (xs : List Event). Frees p (record p { seen = xs })) split (frees_then p _ _ one.frees rest)
+    let rest = opens_all es (record p { seen = p.seen ++ e ∷ [] }) one.turn (freed_free p _ one.none.frees free) (freed_phase p _ one.none.frees at) only.1 whole in
+    subst (λ (xs : List Event). FreesNone p (record p { seen = xs })) split (none_then p _ _ one.none rest)
 
-pub opens_frees : (p q : PassState) → InTurn p → IsFreeForCycle p → IsAtPhase p 4 → Opens p q → IsHistory q.table.config q.seen → Frees p q
+pub opens_frees : (p q : PassState) → InTurn p → IsFreeForCycle p → IsAtPhase p 4 → Opens p q → IsHistory q.table.config q.seen → FreesNone p q
 unfolding behind
 opens_frees p q t free at o h =
-    subst (λ (x : PassState). Frees p x) (sym o.is)
+    subst (λ (x : PassState). FreesNone p x) (sym o.is)
     (opens_all o.more p t free at o.only (subst (λ (x : PassState). IsHistory x.table.config x.seen) o.is h))
+
+-- While all is stopped and the run that the call freed is gone, each gate may be opened.
+pub others_may_open : (p : PassState) → InTurn p → IsFreeForCycle p → IsAtPhase p 4
+    → others_are_held p.table.config.callers (now_of p).words p.seat ≡ true → OthersMayOpen p 0
+others_may_open p t free at held j le lt other =
+    let w : Words = (now_of p).words in
+    let all = all_below-at p.table.config.callers j (λ i. is_number_of p.seat i || is_held w i) held lt in
+    may_act p (step.Open j) (protocol p t free) t.holds free.decided refl
+    (and_from (nat_lt j p.table.config.callers) (not (is_number_of p.seat j)) (lt-ltb j p.table.config.callers lt) (ap not other))
+    (sym (ap (λ (b : Bool). b || is_held w j) other) ∙ all)
+    (ap (λ (n : ℕ). not (n == 3)) at) free.gone

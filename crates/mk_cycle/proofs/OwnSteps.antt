@@ -10,7 +10,6 @@ use Rattle.mk_core.specs.declared.events.Seat.{Seat}
 use Rattle.mk_core.specs.declared.events.Seat.TheVariants.{Caller, Marker, Host}
 use Rattle.mk_core.specs.declared.events.Step.{Step}
 use Rattle.mk_core.specs.declared.events.Event.{Event}
-use Rattle.mk_core.specs.declared.seats.Flight.{Flight}
 use Rattle.mk_core.specs.declared.seats.Holding.{Holding}
 use Rattle.mk_core.specs.declared.seats.Progress.{Progress}
 use Rattle.mk_core.specs.declared.seats.RunPages.{RunPages}
@@ -33,10 +32,9 @@ use Rattle.mk_frames.proofs.LastEvents.{stands}
 use Rattle.mk_frames.proofs.RunsStill.{holder_finds}
 use Rattle.mk_words.specs.Seats.{Has}
 use Rattle.mk_words.specs.States.{PassState, world_of, now_of, call_of, event_of}
-use Rattle.mk_words.specs.Steps.{Makes}
 use Rattle.mk_words.specs.TurnSteps.{world_at, Acts}
 use Rattle.mk_words.proofs.Made.{Made, made}
-use Rattle.mk_cycle.specs.TurnKeeps.{Done, done_of, IsGone, KeepsCall, KeepsTurn}
+use Rattle.mk_cycle.specs.TurnKeeps.{Done, done_of, IsGone, KeepsCall}
 
 -- what a holding shows of what was done
 abbrev pub done_in : Holding → Done

@@ -1,22 +1,16 @@
 -- A page's released cells are given back.
-use Rattle.std.proofs.Common.{◌≡◌, ◌≢◌, ℕ, ◌+◌, ◌*◌, ◌-◌, ◌/◌, ◌%◌, ◌^◌, ◌<◌, ◌≤◌, Bool, true, false, List, length, refl, sym, ap, subst, ◌∙◌, arith, inl, inr, bit_and}
-use Rattle.std.specs.Prelude.{slice_index, ◌==◌, ◌&&◌, ◌||◌, not}
-use Rattle.std.proofs.lemmas.Bool.{cases_Bool, eq-eqb, eqb-true, and_from, and_parts, true≢false}
-use Rattle.std.proofs.lemmas.Nat.{and_le_l}
-use Rattle.mk_geom.specs.declared.pages.Page.{Page}
+use Rattle.std.proofs.Common.{◌≡◌, ℕ, ◌+◌, ◌*◌, ◌-◌, ◌<◌, Bool, true, false, List, refl, sym, ap, subst, ◌∙◌, bit_and}
+use Rattle.std.specs.Prelude.{slice_index, ◌||◌, not}
+use Rattle.std.proofs.lemmas.Bool.{eq-eqb, and_from}
 use Rattle.mk_core.specs.Bits.{has_bit, without}
-use Rattle.mk_core.specs.Cells.{are_left_unmarked, cell_words, first_word, header_in, left_unmarked, words_are_zero, words_under}
+use Rattle.mk_core.specs.Cells.{are_left_unmarked, cell_words, header_in, left_unmarked, words_under}
 use Rattle.mk_core.specs.TurnConditions.{are_wiped, drops, gives_back}
-use Rattle.mk_core.specs.Words.{Words, header_at, used_at, quarantine_word}
-use Rattle.mk_geom.specs.Headers.{header_of}
+use Rattle.mk_core.specs.Words.{Words, header_at, used_at}
 use Rattle.mk_words.specs.States.{PassState, now_of}
-use Rattle.mk_cycle.specs.EngineLaw.{IsFreeForCycle, IsAtPhase}
-use Rattle.mk_cycle.specs.Freeing.{Frees, FreesNone, FreesPage, GivesBack, HasFreeCells, IsQuarantineWord, IsUnmappedWord, IsZero, PageState, SamePage, page_state}
-use Rattle.mk_cycle.specs.TurnKeeps.{InTurn}
+use Rattle.mk_cycle.specs.Freeing.{FreesNone, FreesPage, PageState, SamePage}
 use Rattle.mk_cycle.proofs.BeginSteps.{all_from}
-use Rattle.mk_cycle.proofs.CellBits.{has_bit_and, high_part, left_within, low_part, none_beyond, none_in_both, none_of_itself, part_within, rest_away, taken_away}
+use Rattle.mk_cycle.proofs.CellBits.{left_within, none_beyond, none_of_itself, part_within, rest_away, taken_away}
 use Rattle.mk_cycle.proofs.FreeingSteps.{frees_then}
-use Rattle.mk_cycle.proofs.GivingSteps.{still_unmapped_word}
 
 pub page_at_once : (page : ℕ) (p q : PassState) → FreesNone p q → FreesPage page p q
 page_at_once page p q a = record { frees = a.frees; others = λ r ne. a.same r }

@@ -1,13 +1,13 @@
 -- The `close` and the `release` of a cycle.
-use Rattle.std.proofs.Common.{◌≡◌, ℕ, ◌+◌, ◌*◌, ◌/◌, ◌%◌, ◌^◌, ◌<◌, ◌≤◌, Bool, true, false, List, [], length, refl, sym, ap, subst, ◌∙◌, arith}
-use Rattle.std.specs.Prelude.{◌==◌, map, count_by}
+use Rattle.std.proofs.Common.{◌≡◌, ℕ, ◌+◌, ◌/◌, ◌%◌, ◌^◌, ◌<◌, ◌≤◌, true, [], refl, ap, subst, ◌∙◌, arith}
+use Rattle.std.specs.Prelude.{map, count_by}
 use Rattle.std.proofs.lemmas.Bool.{eq-eqb}
 use Rattle.std.proofs.lemmas.List.Sums.{count_by-le-length}
 use Rattle.mk_core.specs.declared.config.Config.{Config}
 use Rattle.mk_core.specs.declared.events.Step.{Step}
 use Rattle.mk_core.specs.declared.events.Step.TheVariants as step
-use Rattle.mk_core.specs.Allocations.{PlacedAllocation, with_released}
-use Rattle.mk_core.specs.Frames.{Steady, steady_of, CountsAreLeft}
+use Rattle.mk_core.specs.Allocations.{with_released}
+use Rattle.mk_core.specs.Frames.{Steady, steady_of}
 use Rattle.mk_core.specs.History.{World}
 use Rattle.mk_core.specs.Moments.{others_are_held}
 use Rattle.mk_core.specs.Readings.{is_in}
@@ -17,7 +17,7 @@ use Rattle.mk_words.specs.Steps.{IsEnabledTo, moment_of}
 use Rattle.mk_words.specs.TurnSteps.{world_at, Acts}
 use Rattle.mk_words.proofs.Made.{made}
 use Rattle.mk_cycle.specs.EngineLaw.{IsFreeForCycle, IsAtPhase, ClosesMarks}
-use Rattle.mk_cycle.specs.Releasing.{MakesRelease, ReleasesUnmarked}
+use Rattle.mk_cycle.specs.Releasing.{ReleasesUnmarked}
 use Rattle.mk_cycle.specs.TurnKeeps.{InTurn, KeepsTurn, but_phase}
 use Rattle.mk_cycle.proofs.Allowed.{protocol}
 use Rattle.mk_cycle.proofs.BeginSteps.{counts_then}

@@ -1,19 +1,17 @@
 -- Pages are settled one after the other.
-use Rattle.std.proofs.Common.{◌≡◌, ◌≢◌, ◌⊎◌, ℕ, ◌+◌, ◌*◌, ◌-◌, ◌/◌, ◌^◌, ◌<◌, ◌≤◌, Bool, true, false, List, refl, sym, ap, subst, ◌∙◌, arith, inl, inr}
-use Rattle.std.specs.Prelude.{slice_index, ◌==◌, ◌&&◌, ◌||◌, not, Option, Some, None}
-use Rattle.std.proofs.lemmas.Bool.{cases_Bool, cases_eq, eq-eqb, eqb-true, ne_eqb, and_from, and_parts, true≢false, false_from_ne_true}
+use Rattle.std.proofs.Common.{◌≡◌, ◌≢◌, ◌⊎◌, ℕ, ◌+◌, ◌*◌, ◌/◌, ◌^◌, ◌<◌, ◌≤◌, Bool, true, false, List, refl, sym, ap, subst, ◌∙◌, arith, inl, inr}
+use Rattle.std.specs.Prelude.{slice_index, ◌==◌, ◌&&◌, ◌||◌, not, Option, Some}
+use Rattle.std.proofs.lemmas.Bool.{cases_eq, eq-eqb, eqb-true, ne_eqb, and_from, and_parts, true≢false, false_from_ne_true}
 use Rattle.mk_geom.specs.declared.headers.Header.{Header}
 use Rattle.mk_geom.specs.declared.headers.Header.TheVariants as header
 use Rattle.mk_geom.specs.declared.addresses.Cell.{Cell}
 use Rattle.mk_geom.specs.Addresses.{head_page_under}
 use Rattle.mk_geom.specs.Headers.{header_of}
-use Rattle.mk_core.specs.declared.config.Config.{Config}
 use Rattle.mk_core.specs.Bits.{has_bit, without}
 use Rattle.mk_core.specs.Cells.{cells_under, head_page, header_in, is_used, left_unmarked, words_under}
-use Rattle.mk_core.specs.Allocations.{cell_of_allocation, placed_at}
 use Rattle.mk_core.specs.Moments.{is_phase}
 use Rattle.mk_core.specs.TurnConditions.{empties}
-use Rattle.mk_core.specs.Words.{Words, header_at, used_at, phase_of, quarantine_word}
+use Rattle.mk_core.specs.Words.{Words, header_at, used_at, quarantine_word}
 use Rattle.mk_core.proofs.BitsWithout.{has_bit_without}
 use Rattle.mk_core.proofs.WordBits.{no_bit, zero_from_bits}
 use Rattle.mk_layout.specs.Quarantine.{IsFreedCell}

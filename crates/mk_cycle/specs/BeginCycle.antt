@@ -1,5 +1,5 @@
 -- What `begin_cycle` makes and leaves.
-use Rattle.std.specs.Prelude.{◌≡◌, ℕ, map, List}
+use Rattle.std.specs.Prelude.{◌≡◌, map}
 use Rattle.mk_core.specs.declared.events.Step.TheVariants as step
 use Rattle.mk_core.specs.declared.seats.OwnCycle.TheVariants.{Begun}
 use Rattle.mk_core.specs.Allocations.{no_longer_fresh}
@@ -9,7 +9,7 @@ use Rattle.mk_words.specs.States.{PassState, world_of, now_of, call_of}
 use Rattle.mk_words.specs.Steps.{Makes}
 use Rattle.mk_turns.specs.Doing.{Does}
 use Rattle.mk_cycle.specs.Kinds.{clears, begins_marking}
-use Rattle.mk_cycle.specs.TurnKeeps.{Done, done_of, IsGone, KeepsGates}
+use Rattle.mk_cycle.specs.TurnKeeps.{done_of, IsGone, KeepsGates}
 
 -- One `begin`: what is cleared before it, and what the engine does behind it.
 pub record MakesBegin (p q : PassState) : Type 0 where

@@ -1,5 +1,5 @@
 -- Behind a `release` what was released is wiped and given back, page by page.
-use Rattle.std.specs.Prelude.{◌≡◌, ◌≢◌, ℕ, ◌+◌, ◌*◌, ◌<◌, true, false, List, [], slice_index}
+use Rattle.std.specs.Prelude.{◌≡◌, ◌≢◌, ℕ, ◌+◌, ◌*◌, ◌<◌, true, false, [], slice_index}
 use Rattle.mk_geom.specs.declared.pages.Page.{Page}
 use Rattle.mk_core.specs.Bits.{has_bit}
 use Rattle.mk_core.specs.Cells.{left_unmarked, header_in, words_under}
@@ -45,7 +45,11 @@ pub record PageState : Type 0 where
 
 abbrev pub page_state : PassState → ℕ → PageState
 page_state p r =
-    record { page = page_of (now_of p).words r; freed = slice_index (now_of p).words.freed r; snapshot = slice_index (now_of p).words.snapshot r }
+    record {
+      page = page_of (now_of p).words r;
+      freed = slice_index (now_of p).words.freed r;
+      snapshot = slice_index (now_of p).words.snapshot r;
+    }
 
 abbrev pub SamePage : PassState → PassState → ℕ → Type 0
 SamePage p q r = page_state q r ≡ page_state p r
@@ -63,11 +67,13 @@ pub record FreesPage (page : ℕ) (p q : PassState) : Type 0 where
 -- The words of the page's released cells are those of no mapped allocation.
 abbrev pub HasFreeCells : PassState → ℕ → Type 0
 HasFreeCells p page =
-    (k i : ℕ) → has_bit (left_unmarked (now_of p).words page) k ≡ true → i < words_under (header_in (now_of p).words page)
+    (k i : ℕ) → has_bit (left_unmarked (now_of p).words page) k ≡ true
+    → i < words_under (header_in (now_of p).words page)
     → IsUnmappedWord p (64 * page + k * words_under (header_in (now_of p).words page) + i)
 
 abbrev pub IsQuarantineWord : PassState → ℕ → ℕ → Type 0
-IsQuarantineWord p page n = n ≡ quarantine_word (slice_index (now_of p).words.freed page) (slice_index (now_of p).words.snapshot page)
+IsQuarantineWord p page n =
+    n ≡ quarantine_word (slice_index (now_of p).words.freed page) (slice_index (now_of p).words.snapshot page)
 
 -- The released cells of the page were given back; its header is as it was.
 pub record GivesBack (page : ℕ) (p q : PassState) : Type 0 where

@@ -1,5 +1,5 @@
 -- The gates of all other callers are held, one after the other.
-use Rattle.std.specs.Prelude.{◌≡◌, ℕ, ◌<◌, ◌||◌, true}
+use Rattle.std.specs.Prelude.{◌≡◌, ℕ, ◌||◌, true}
 use Rattle.mk_core.specs.Moments.{is_held, is_number_of}
 use Rattle.mk_words.specs.States.{PassState, now_of}
 use Rattle.mk_turns.specs.Doing.{Does}

@@ -6,3 +6,4 @@ pub mod Cleaning
 pub mod Holding
 pub mod Releasing
 pub mod Freeing
+pub mod GivingAll

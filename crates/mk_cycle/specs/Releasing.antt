@@ -1,5 +1,5 @@
 -- What is made in the stop: the marks are closed, and what is unmarked is released.
-use Rattle.std.specs.Prelude.{◌≡◌, ℕ, map}
+use Rattle.std.specs.Prelude.{◌≡◌, map}
 use Rattle.mk_core.specs.declared.events.Step.TheVariants as step
 use Rattle.mk_core.specs.Allocations.{with_released}
 use Rattle.mk_core.specs.Frames.{steady_of, CountsAreLeft}
@@ -25,5 +25,8 @@ pub record ReleasesUnmarked (p q : PassState) : Type 0 where
   pub makes : MakesRelease p q
   pub call : KeepsCall p q
   pub steady : steady_of (world_of q)
-      ≡ record (steady_of (world_of p)) { phase = 4; allocations = map (with_released p.table.config (words_released makes)) (world_of p).allocations }
+      ≡ record (steady_of (world_of p)) {
+        phase = 4;
+        allocations = map (with_released p.table.config (words_released makes)) (world_of p).allocations;
+      }
   pub counts : CountsAreLeft p.table.config p.seen q.seen

@@ -1,5 +1,5 @@
 -- What the turn's holder finds unchanged over a part of its turn.
-use Rattle.std.specs.Prelude.{◌≡◌, ℕ, ◌<◌, Bool, true, List, [], Option}
+use Rattle.std.specs.Prelude.{◌≡◌, ℕ, ◌<◌, true, [], Option}
 use Rattle.mk_core.specs.declared.seats.Placing.{Placing}
 use Rattle.mk_core.specs.declared.seats.OwnCycle.{OwnCycle}
 use Rattle.mk_core.specs.declared.seats.RunPages.{RunPages}

@@ -7,6 +7,7 @@ mod bits;
 mod cleaning;
 mod engine;
 mod freeing;
+mod giving;
 mod holding;
 mod releasing;
 mod settling;

@@ -1,5 +1,6 @@
 //! The stop of a cycle: the marks are closed, and what is unmarked is released.
-ghost use Rattle.std.specs.Prelude.{◌≡◌};
+ghost use Rattle.std.specs.Prelude.{◌≡◌, ℕ};
+ghost use Rattle.mk_cycle.specs.Freeing.{HasFreeCells};
 ghost use Rattle.mk_cycle.specs.EngineLaw.{IsFreeForCycle, IsAtPhase};
 ghost use Rattle.mk_cycle.specs.Releasing.{ReleasesUnmarked};
 
@@ -22,6 +23,7 @@ pub(crate) fn release_unmarked<E: Engine, R: Threads + Wait + Sync>(
     ensures op { stop.new.op ≡ stop.old.op }
     ensures made_for { E.made_for engine.new ≡ E.made_for engine.old }
     ensures releases { ReleasesUnmarked stop.old.pass stop.new.pass }
+    ensures cells { (page : ℕ) → HasFreeCells stop.new.pass page }
 {
     stop.is_in_order();
     engine.close_marks(rt, words, stop);

@@ -12,6 +12,7 @@ ghost use Rattle.mk_words.specs.States.{now_of};
 ghost use Rattle.mk_words.specs.TurnSteps.{Acts};
 ghost use Rattle.mk_cycle.specs.EngineLaw.{IsFreeForCycle, IsAtPhase, is_register};
 ghost use Rattle.mk_cycle.specs.Cleaning.{IsClean};
+ghost use Rattle.mk_cycle.specs.Freeing.{IsSettledPage};
 ghost use Rattle.mk_cycle.specs.TurnKeeps.{InTurn};
 
 use mk_core::{Tally, Word};
@@ -89,7 +90,8 @@ pub(crate) fn take_snapshot(turn: &mut Turn, words: &Words, page: u64, value: u6
     requires free { IsFreeForCycle turn.old.pass }
     requires phase { IsAtPhase turn.old.pass 0 }
     requires within { page < words.now.config.pages }
-    requires value { value ≡ quarantine_word (slice_index (now_of turn.old.pass).words.freed page) (slice_index (now_of turn.old.pass).words.freed page) }
+    requires value { value ≡ quarantine_word (slice_index (now_of turn.old.pass).words.freed page)
+        (slice_index (now_of turn.old.pass).words.freed page) }
     ensures op { turn.new.op ≡ turn.old.op }
     ensures was { InTurn turn.old.pass }
     ensures acts { Acts turn.old.pass (step.Quar page value) turn.new.pass }
@@ -156,7 +158,8 @@ pub(crate) fn wipe(turn: &mut Turn, words: &Words, word: u64)
     requires free { IsFreeForCycle turn.old.pass }
     requires phase { IsAtPhase turn.old.pass 4 }
     requires within { word < 64 * words.now.config.pages }
-    requires released { is_some_and (is_released (now_of turn.old.pass).words) (pointed_cell turn.old.pass.table.config.pages (now_of turn.old.pass).words.pages (address_of word)) ≡ true }
+    requires released { is_some_and (is_released (now_of turn.old.pass).words)
+        (pointed_cell turn.old.pass.table.config.pages (now_of turn.old.pass).words.pages (address_of word)) ≡ true }
     ensures op { turn.new.op ≡ turn.old.op }
     ensures was { InTurn turn.old.pass }
     ensures acts { Acts turn.old.pass (step.Wipe word) turn.new.pass }
@@ -215,5 +218,21 @@ pub(crate) fn free_head(turn: &mut Turn, words: &Words, page: u64)
 {
     turn.is_in_order();
     turn.head(words, page, 0);
+    turn.is_in_order();
+}
+
+/// Ends the cycle, where all pages are settled.
+pub(crate) fn end(turn: &mut Turn, words: &Words)
+    requires one_table { turn.old.pass.table ≡ words.now }
+    requires free { IsFreeForCycle turn.old.pass }
+    requires phase { IsAtPhase turn.old.pass 4 }
+    requires settled { (page : ℕ) → page < words.now.config.pages → IsSettledPage turn.old.pass page }
+    ensures op { turn.new.op ≡ turn.old.op }
+    ensures was { InTurn turn.old.pass }
+    ensures acts { Acts turn.old.pass step.End turn.new.pass }
+    ensures is { InTurn turn.new.pass }
+{
+    turn.is_in_order();
+    turn.end(words);
     turn.is_in_order();
 }

@@ -48,10 +48,12 @@ fn wipe_chosen(turn: &mut Turn, words: &Words, page: u64, cells: u64, size: u64,
     requires within { page < words.now.config.pages }
     requires few { size < 4097 }
     requires small { k < 32 }
-    requires unmapped { (i : ℕ) → has_bit cells k ≡ true → i < size → IsUnmappedWord turn.old.pass (64 * page + k * size + i) }
+    requires unmapped { (i : ℕ) → has_bit cells k ≡ true → i < size
+        → IsUnmappedWord turn.old.pass (64 * page + k * size + i) }
     ensures op { turn.new.op ≡ turn.old.op }
     ensures frees { FreesNone turn.old.pass turn.new.pass }
-    ensures zeros { (i : ℕ) → has_bit cells k ≡ true → i < size → IsZero turn.new.pass (64 * page + k * size + i) }
+    ensures zeros { (i : ℕ) → has_bit cells k ≡ true → i < size
+        → IsZero turn.new.pass (64 * page + k * size + i) }
 {
     words.is_within_limits();
     if has_bit(cells, k) {
@@ -66,10 +68,12 @@ pub(crate) fn wipe_cells(turn: &mut Turn, words: &Words, page: u64, cells: u64, 
     requires phase { IsAtPhase turn.old.pass 4 }
     requires within { page < words.now.config.pages }
     requires few { size < 4097 }
-    requires unmapped { (k i : ℕ) → has_bit cells k ≡ true → i < size → IsUnmappedWord turn.old.pass (64 * page + k * size + i) }
+    requires unmapped { (k i : ℕ) → has_bit cells k ≡ true → i < size
+        → IsUnmappedWord turn.old.pass (64 * page + k * size + i) }
     ensures op { turn.new.op ≡ turn.old.op }
     ensures frees { FreesNone turn.old.pass turn.new.pass }
-    ensures zeros { (k : ℕ) → k < 32 → (i : ℕ) → has_bit cells k ≡ true → i < size → IsZero turn.new.pass (64 * page + k * size + i) }
+    ensures zeros { (k : ℕ) → k < 32 → (i : ℕ) → has_bit cells k ≡ true → i < size
+        → IsZero turn.new.pass (64 * page + k * size + i) }
 {
     for k in 0..32 {
         wipe_chosen(turn, words, page, cells, size, k);

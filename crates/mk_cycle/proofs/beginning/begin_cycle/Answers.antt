@@ -1,4 +1,4 @@
-use Rattle.std.proofs.Common.{◌≡◌, ℕ, ◌<◌, ap, subst, ◌∙◌}
+use Rattle.std.proofs.Common.{◌<◌, ap, subst}
 use Rattle.mk_core.specs.History.{World}
 use Rattle.mk_words.specs.States.{WordsState}
 use Rattle.mk_cycle.proofs.BeginSteps.{begins_cycle, begun_free}

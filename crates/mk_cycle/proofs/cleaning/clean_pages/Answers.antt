@@ -1,4 +1,4 @@
-use Rattle.std.proofs.Common.{◌≡◌, ℕ, ◌<◌, refl, ◌∙◌, arith, below_more}
+use Rattle.std.proofs.Common.{refl, ◌∙◌, arith, below_more}
 use Rattle.mk_cycle.proofs.CleaningSteps.{clean_stays, cleans_nothing, cleans_then}
 use Rattle.mk_cycle.proofs.cleaning.clean_pages.Goals as goal
 

@@ -1,4 +1,4 @@
-use Rattle.std.proofs.Common.{◌≡◌, ℕ, sym, ap, ◌∙◌}
+use Rattle.std.proofs.Common.{ℕ, sym, ap, ◌∙◌}
 use Rattle.mk_core.specs.Words.{quarantine_word}
 use Rattle.mk_cycle.proofs.CleaningSteps.{cleaned_free, cleaned_phase, cleaned_table, looked, then_cleans, snapshot_taken, has_snapshot, halves}
 use Rattle.mk_cycle.proofs.Allowed.{on_table}

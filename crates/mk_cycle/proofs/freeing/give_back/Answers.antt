@@ -1,13 +1,11 @@
-use Rattle.std.proofs.Common.{◌≡◌, ℕ, ◌+◌, ◌*◌, ◌-◌, ◌/◌, ◌%◌, ◌^◌, refl, sym, ap, subst, ◌∙◌, true}
+use Rattle.std.proofs.Common.{ℕ, ◌-◌, ◌/◌, ◌%◌, ◌^◌, ap, subst, ◌∙◌}
 use Rattle.mk_core.specs.declared.events.Step.TheVariants as step
-use Rattle.mk_core.specs.Bits.{without}
-use Rattle.mk_core.specs.Cells.{header_in, left_unmarked, words_under}
 use Rattle.mk_core.specs.TurnConditions.{drops, gives_back}
 use Rattle.mk_core.specs.Words.{quarantine_word}
 use Rattle.mk_words.specs.States.{now_of}
 use Rattle.mk_words.specs.TurnSteps.{Acts}
 use Rattle.mk_cycle.proofs.Allowed.{on_table}
-use Rattle.mk_cycle.proofs.FreeingSteps.{freed_free, freed_phase}
+use Rattle.mk_cycle.proofs.FreeingSteps.{freed_free}
 use Rattle.mk_cycle.proofs.GiveBack.{cells_sized, drops_here, free_d, gives_all, gives_here}
 use Rattle.mk_cycle.proofs.GivingSteps.{look_frees, none_then, still_unmapped_word}
 use Rattle.mk_cycle.proofs.PageSteps.{same_used}

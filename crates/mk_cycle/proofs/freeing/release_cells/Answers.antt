@@ -1,6 +1,4 @@
-use Rattle.std.proofs.Common.{◌≡◌, ℕ, ◌/◌, ◌^◌, sym, ap, ◌∙◌}
-use Rattle.mk_core.specs.Bits.{without}
-use Rattle.mk_cycle.proofs.CleaningSteps.{halves}
+use Rattle.std.proofs.Common.{sym, ◌∙◌}
 use Rattle.mk_cycle.proofs.FreeingSteps.{freed_free, freed_phase}
 use Rattle.mk_cycle.proofs.GivingSteps.{look_frees, none_then}
 use Rattle.mk_cycle.proofs.SettledPages.{free_cells_stay, gives_none, gives_then, marked_gone}

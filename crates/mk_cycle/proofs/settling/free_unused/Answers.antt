@@ -1,4 +1,4 @@
-use Rattle.std.proofs.Common.{◌≡◌, sym, ◌∙◌}
+use Rattle.std.proofs.Common.{sym, ◌∙◌}
 use Rattle.mk_cycle.proofs.Allowed.{on_table}
 use Rattle.mk_cycle.proofs.FreeingSteps.{freed_free, freed_phase, freed_table}
 use Rattle.mk_cycle.proofs.GivingSteps.{head_frees, head_state, look_frees}

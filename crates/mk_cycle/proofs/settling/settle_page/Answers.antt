@@ -1,8 +1,5 @@
-use Rattle.std.proofs.Common.{◌≡◌, ℕ, ◌≤◌, sym, subst, ap, ◌∙◌}
-use Rattle.mk_geom.specs.Addresses.{head_page_under}
+use Rattle.std.proofs.Common.{ℕ, ◌≤◌, sym, subst, ◌∙◌}
 use Rattle.mk_geom.specs.Headers.{header_of}
-use Rattle.mk_core.specs.Cells.{left_unmarked}
-use Rattle.mk_words.specs.States.{now_of}
 use Rattle.mk_cycle.proofs.FreeingSteps.{freed_free}
 use Rattle.mk_cycle.proofs.GivingSteps.{look_frees}
 use Rattle.mk_cycle.proofs.PageSteps.{page_at_once, page_then}

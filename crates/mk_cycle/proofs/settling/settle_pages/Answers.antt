@@ -1,4 +1,4 @@
-use Rattle.std.proofs.Common.{◌≡◌, ℕ, ◌<◌, ◌≤◌, refl, ◌∙◌, arith, below_more}
+use Rattle.std.proofs.Common.{refl, ◌∙◌, arith, below_more}
 use Rattle.mk_cycle.proofs.FreeingSteps.{frees_nothing, frees_then}
 use Rattle.mk_cycle.proofs.SettledPages.{free_cells_stay, still_settled}
 use Rattle.mk_cycle.proofs.settling.settle_pages.Goals as goal

@@ -1,5 +1,5 @@
-use Rattle.mk_cycle.proofs.Allowed.{in_turn, on_table}
-use Rattle.std.proofs.Common.{◌≡◌, ℕ, ◌<◌, subst}
+use Rattle.mk_cycle.proofs.Allowed.{in_turn}
+use Rattle.std.proofs.Common.{◌<◌, subst}
 use Rattle.mk_words.specs.States.{WordsState}
 use Rattle.mk_cycle.proofs.BeginSteps.{begin_allowed}
 use Rattle.mk_cycle.proofs.turn_steps.begin.Goals as goal

@@ -1,7 +1,5 @@
-use Rattle.std.proofs.Common.{refl}
 use Rattle.mk_cycle.proofs.Allowed.{in_turn, on_table}
 use Rattle.mk_cycle.proofs.GivingSteps.{head_allowed}
-use Rattle.mk_cycle.proofs.MayAct.{calm_admitted}
 use Rattle.mk_cycle.proofs.turn_steps.free_head.Goals as goal
 
 pub head-requires-clause-enabled : goal.head-requires-clause-enabled

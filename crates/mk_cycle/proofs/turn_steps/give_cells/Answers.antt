@@ -1,7 +1,5 @@
-use Rattle.std.proofs.Common.{refl}
 use Rattle.mk_cycle.proofs.Allowed.{in_turn, on_table}
 use Rattle.mk_cycle.proofs.GivingSteps.{used_allowed}
-use Rattle.mk_cycle.proofs.MayAct.{calm_admitted}
 use Rattle.mk_cycle.proofs.turn_steps.give_cells.Goals as goal
 
 pub used-requires-clause-enabled : goal.used-requires-clause-enabled

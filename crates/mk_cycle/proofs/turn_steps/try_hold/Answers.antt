@@ -1,4 +1,4 @@
-use Rattle.std.proofs.Common.{◌≡◌, ℕ, ◌<◌, sym, subst}
+use Rattle.std.proofs.Common.{◌<◌, sym, subst}
 use Rattle.mk_words.specs.States.{WordsState}
 use Rattle.mk_cycle.proofs.Allowed.{in_turn}
 use Rattle.mk_cycle.proofs.HoldingSteps.{hold_allowed}

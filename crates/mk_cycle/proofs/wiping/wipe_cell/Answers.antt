@@ -1,4 +1,4 @@
-use Rattle.std.proofs.Common.{◌≡◌, ℕ, ◌+◌, ◌<◌, refl, ◌∙◌, arith, below_more}
+use Rattle.std.proofs.Common.{◌+◌, refl, ◌∙◌, arith, below_more}
 use Rattle.mk_cycle.proofs.GivingSteps.{none_at_once, none_then, still_unmapped_word}
 use Rattle.mk_cycle.proofs.wiping.wipe_cell.Goals as goal
 

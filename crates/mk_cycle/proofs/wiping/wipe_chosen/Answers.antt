@@ -1,4 +1,4 @@
-use Rattle.std.proofs.Common.{◌≡◌, sym, ◌∙◌}
+use Rattle.std.proofs.Common.{sym, ◌∙◌}
 use Rattle.mk_cycle.proofs.GivingSteps.{none_at_once}
 use Rattle.mk_cycle.proofs.wiping.wipe_chosen.Goals as goal
 

@@ -1,0 +1,52 @@
+-- The stop and the giving back, joined.
+use Rattle.std.proofs.Common.{◌≡◌, ℕ, ◌<◌, true, ap, subst, ◌∙◌}
+use Rattle.std.specs.Prelude.{not}
+use Rattle.std.proofs.lemmas.Bool.{not-true}
+use Rattle.mk_core.specs.declared.config.Config.{Config}
+use Rattle.mk_core.specs.Frames.{Steady}
+use Rattle.mk_core.specs.Moments.{is_held, none_is_held}
+use Rattle.mk_core.proofs.AllBelow.{all_below-at}
+use Rattle.mk_words.specs.States.{WordsState, PassState, now_of}
+use Rattle.mk_cycle.specs.EngineLaw.{IsFreeForCycle, IsAtPhase}
+use Rattle.mk_cycle.specs.Freeing.{Frees, FreesNone, IsSettledPage}
+use Rattle.mk_cycle.specs.GivingAll.{GivesAllBack}
+use Rattle.mk_cycle.specs.Holding.{HoldsGates}
+use Rattle.mk_cycle.specs.Releasing.{ReleasesUnmarked}
+use Rattle.mk_cycle.proofs.BeginSteps.{all_from}
+use Rattle.mk_cycle.proofs.FreeingSteps.{freed_phase, frees_then}
+use Rattle.mk_cycle.proofs.KeptInParts.{free_then}
+
+pub held_phase : (p q : PassState) (n : ℕ) → HoldsGates p q → IsAtPhase p n → IsAtPhase q n
+held_phase p q n k at = ap (λ (s : Steady). s.phase) k.keeps.steady ∙ at
+
+pub released_phase : (p q : PassState) → ReleasesUnmarked p q → IsAtPhase q 4
+released_phase p q r = ap (λ (s : Steady). s.phase) r.steady
+
+pub released_free : (p q : PassState) → ReleasesUnmarked p q → IsFreeForCycle p → IsFreeForCycle q
+released_free p q r free = free_then p q r.call free
+
+pub released_table : (p q : PassState) (w : WordsState) → ReleasesUnmarked p q → p.table ≡ w → q.table ≡ w
+released_table p q w r is = ap (λ (x : PassState). x.table) r.call.pass ∙ is
+
+none_held_then : (callers : ℕ) (p q : PassState) → Frees p q → none_is_held callers (now_of p).words ≡ true → none_is_held callers (now_of q).words ≡ true
+none_held_then callers p q k h =
+    all_from callers (λ j. not (is_held (now_of q).words j))
+    (λ j lt. ap not (k.gates j (not-true (is_held (now_of p).words j) (all_below-at callers j (λ i. not (is_held (now_of p).words i)) h lt))))
+
+pub gives_all_back : (p h r o q : PassState) → HoldsGates p h → ReleasesUnmarked h r → FreesNone r o → Frees o q
+    → none_is_held r.table.config.callers (now_of o).words ≡ true
+    → ((page : ℕ) → page < p.table.config.pages → IsSettledPage q page) → GivesAllBack p q
+gives_all_back p h r o q holds releases opens frees none settled =
+    let same : r.table.config ≡ p.table.config =
+    ap (λ (x : PassState). x.table.config) releases.call.pass ∙ ap (λ (x : PassState). x.table.config) holds.keeps.call.pass in
+    let all : Frees r q = frees_then r o q opens.frees frees in
+    record {
+      held = h;
+      released = r;
+      holds = holds;
+      releases = releases;
+      frees = all;
+      phase = freed_phase r q all (released_phase h r releases);
+      gates = none_held_then p.table.config.callers o q frees (subst (λ (c : Config). none_is_held c.callers (now_of o).words ≡ true) same none);
+      settled = settled;
+    }

@@ -1,0 +1,18 @@
+-- From a turn at phase 1 to one at phase 4 with nothing left to give back: all but the tallies and the `end`.
+use Rattle.std.specs.Prelude.{◌≡◌, ℕ, ◌<◌, true}
+use Rattle.mk_core.specs.Moments.{none_is_held}
+use Rattle.mk_words.specs.States.{PassState, now_of}
+use Rattle.mk_cycle.specs.EngineLaw.{IsAtPhase}
+use Rattle.mk_cycle.specs.Freeing.{Frees, IsSettledPage}
+use Rattle.mk_cycle.specs.Holding.{HoldsGates}
+use Rattle.mk_cycle.specs.Releasing.{ReleasesUnmarked}
+
+pub record GivesAllBack (p q : PassState) : Type 0 where
+  pub held : PassState
+  pub released : PassState
+  pub holds : HoldsGates p held
+  pub releases : ReleasesUnmarked held released
+  pub frees : Frees released q
+  pub phase : IsAtPhase q 4
+  pub gates : none_is_held p.table.config.callers (now_of q).words ≡ true
+  pub settled : (page : ℕ) → page < p.table.config.pages → IsSettledPage q page
