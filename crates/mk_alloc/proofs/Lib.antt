@@ -15,3 +15,4 @@ pub mod Takes
 pub mod CarvedPages
 pub mod PlacedNews
 pub mod FreedCells
+pub mod LoadedFrees

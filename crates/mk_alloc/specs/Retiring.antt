@@ -1,0 +1,55 @@
+-- Freeing an object: what is asked, and how far the call is.
+use Rattle.std.specs.Prelude.{◌≡◌, ℕ, ◌==◌, ◌<◌, Bool, true, false, List, [], Option, Some, if◌then◌else◌}
+use Rattle.mk_never.specs.declared.operations.Op.{Op}
+use Rattle.mk_never.specs.declared.operations.Op.TheVariants as op
+use Rattle.mk_never.specs.Admitted.{IsAdmitted}
+use Rattle.mk_core.specs.declared.events.Answer.TheVariants as answer
+use Rattle.mk_core.specs.declared.events.Seat.{Seat}
+use Rattle.mk_core.specs.declared.events.Seat.TheVariants.{Caller}
+use Rattle.mk_core.specs.declared.events.Step.{Step}
+use Rattle.mk_core.specs.declared.events.Step.TheVariants as step
+use Rattle.mk_core.specs.declared.seats.Flight.{Flight}
+use Rattle.mk_core.specs.declared.seats.Stage.TheVariants as stage
+use Rattle.mk_core.specs.Accesses.{caller_number}
+use Rattle.mk_core.specs.Calls.{begun}
+use Rattle.mk_core.specs.Decided.{Decided}
+use Rattle.mk_core.specs.Frames.{steady_of}
+use Rattle.mk_core.specs.History.{World, never_behind}
+use Rattle.mk_core.specs.Moments.{flight_of}
+use Rattle.mk_core.specs.Words.{register_word}
+use Rattle.mk_words.specs.States.{PassState, call_of, now_of, world_of}
+use Rattle.mk_alloc.specs.Placing.{Reaches, entry_for}
+
+-- The turn is for a Free of this register, which isn't loaded yet, and which is admitted.
+pub record IsUnloaded (p : PassState) (r : ℕ) : Type 0 where
+  pub call : call_of p ≡ begun (op.Free r)
+  pub admitted : IsAdmitted p.table.config.globals (never_behind p.table.config p.seen) (caller_number p.seat) (op.Free r)
+
+-- The call is at this point, and all else that is the holder's is as it was.
+pub record CallIsAt (s : Seat) (f : Flight) (w v : World) : Type 0 where
+  pub call : flight_of v.now s ≡ f
+  pub holding : v.now.seats.holding ≡ w.now.seats.holding
+  pub steady : steady_of v ≡ steady_of w
+  pub registers : (k r : ℕ) → s ≡ Caller k → r < 8 → register_word v.now.words k r ≡ register_word w.now.words k r
+
+-- A Free whose register held this value: null decides it.
+abbrev pub loaded_free : ℕ → ℕ → Flight
+loaded_free r u = record (begun (op.Free r)) { stage = if u == 0 then stage.Give else stage.Turn; p = u }
+
+abbrev pub entry_loaded : PassState → ℕ → List Decided
+entry_loaded p u = if u == 0 then entry_for p answer.Done else []
+
+-- the kinds of step by which an object is freed
+abbrev pub is_freeing : Step → Bool
+is_freeing (step.Look x) = true
+is_freeing step.Reg = true
+is_freeing (step.Hold j) = true
+is_freeing (step.Open j) = true
+is_freeing (step.Quar p v) = true
+is_freeing (step.Head p v) = true
+is_freeing (step.Wipe n) = true
+is_freeing (step.Tally n v) = true
+is_freeing _ = false
+
+abbrev pub HasLoaded : PassState → ℕ → ℕ → PassState → Type 0
+HasLoaded p r u q = Reaches is_freeing p (CallIsAt p.seat (loaded_free r u) (world_of p)) (entry_loaded p u) q
