@@ -15,4 +15,5 @@ pub mod Takes
 pub mod CarvedPages
 pub mod PlacedNews
 pub mod FreedCells
+pub mod AdmittedFrees
 pub mod LoadedFrees
