@@ -17,3 +17,5 @@ pub mod PlacedNews
 pub mod FreedCells
 pub mod AdmittedFrees
 pub mod LoadedFrees
+pub mod FoundCells
+pub mod SeenDoubles

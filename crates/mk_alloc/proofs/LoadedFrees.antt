@@ -5,9 +5,6 @@ use Rattle.std.proofs.lemmas.Bool.{cases_Bool, lt-ltb, ltb-true}
 use Rattle.std.proofs.lemmas.List.{map-append}
 use Rattle.mk_never.specs.declared.operations.Op.{Op}
 use Rattle.mk_never.specs.declared.operations.Op.TheVariants as op
-use Rattle.mk_never.specs.Admitted.{AreAdmitted, IsAdmitted}
-use Rattle.mk_never.specs.NeverHeap.{Call}
-use Rattle.mk_never.proofs.Parts.{admitted_join}
 use Rattle.mk_core.specs.declared.accesses.Access.TheVariants.{Load}
 use Rattle.mk_core.specs.declared.config.Config.{Config}
 use Rattle.mk_core.specs.declared.events.Answer.{Answer}
@@ -43,10 +40,53 @@ use Rattle.mk_words.specs.States.{PassState, call_of, event_of, now_of, world_of
 use Rattle.mk_words.specs.Steps.{IsAdmittedTo, IsEnabledTo}
 use Rattle.mk_words.specs.TurnSteps.{Acts, IsTurn}
 use Rattle.mk_alloc.specs.Placing.{Reaches, entry_for}
-use Rattle.mk_alloc.specs.Retiring.{CallIsAt, HasLoaded, IsUnloaded, entry_loaded, is_freeing, loaded_free}
+use Rattle.mk_core.specs.Growing.{AreOfOthers}
+use Rattle.mk_core.specs.declared.events.Step.{Step}
+use Rattle.mk_never.specs.Admitted.{IsBase}
+use Rattle.mk_never.specs.NeverHeap.{register_at}
+use Rattle.mk_alloc.specs.Retiring.{CallIsAt, HasLoaded, IsFreeAt, IsUnloaded, value_of, entry_loaded, is_freeing, loaded_free}
 use Rattle.mk_alloc.specs.Unchanged.{IsAsLeft}
-use Rattle.mk_alloc.proofs.Reaching.{GoesOn, IsCallers, StepsTo, reaches_nothing, reaches_on}
+use Rattle.mk_alloc.proofs.AdmittedFrees.{free_admits, registers_kept}
+use Rattle.mk_alloc.proofs.Reaching.{GoesOn, IsCallers, StepsTo, made_in, reaches_nothing, reaches_on}
 use Rattle.mk_alloc.proofs.Unchanged.{call_behind}
+
+-- Any step of a Free is admitted.
+pub free_step_admits : (p : PassState) (r : ℕ) (x : Step) (f : Flight) → IsCallers p → Holds p.table.config (now_of p) p.seat
+    → IsHistory p.table.config p.seen → IsFreeAt p r f → f.op ≡ op.Free r → IsAdmittedTo p x
+free_step_admits p r x f caller holds h u is = by p.seat caller.is holds u.call u.base
+  where
+    by : (s : Seat) → s ≡ Caller caller.number → Holds p.table.config (now_of p) s → flight_of (now_of p) s ≡ f
+        → IsBase (register_at (never_behind p.table.config p.seen) (caller_number s) r)
+        → IsAdmittedBehind p.table.config p.seen (record { seat = s; step = x })
+    by s e there call base =
+        subst (λ (y : Seat). IsAdmittedBehind p.table.config p.seen (record { seat = y; step = x })) (sym e)
+        (free_admits p.table.config p.seen caller.number r x h (subst (λ (y : Seat). Holds p.table.config (now_of p) y) e there).0 u.small
+        (ap (λ (y : Seat). (flight_of (now_of p) y).op) (sym e) ∙ ap (λ (g : Flight). g.op) call ∙ is)
+        (subst (λ (y : Seat). IsBase (register_at (never_behind p.table.config p.seen) (caller_number y) r)) e base))
+
+-- Its register keeps its value over a step that decides nothing.
+pub value_kept : (p q : PassState) (r : ℕ) (x : Step) → IsCallers p → r < 8 → Acts p x q → Has p.seats p.seat → IsHistory q.table.config q.seen
+    → ((v : World) → IsAsLeft p.seat (world_of p) v → Known p.table.config v.now → answer_decided p.table.config v.now (event_of p x) ≡ None)
+    → value_of q r ≡ value_of p r
+value_kept p q r x caller small a own history none =
+    let m = made_in p p.seen x q a own history in
+    ap (λ (y : PassState). value_of y r) m.same
+    ∙ by m.others p.seat caller.is m.of_others (none (left p.table.config (p.seen ++ m.others)) m.kept m.known)
+    (subst (λ (y : PassState). IsHistory y.table.config y.seen) m.same history)
+  where
+    by : (others : List Event) (s : Seat) → s ≡ Caller caller.number → AreOfOthers (s ∷ []) others
+        → answer_decided p.table.config (left p.table.config (p.seen ++ others)).now (record { seat = s; step = x }) ≡ None
+        → IsHistory p.table.config (p.seen ++ others ++ record { seat = s; step = x } ∷ [])
+        → register_at (never_behind p.table.config (p.seen ++ others ++ record { seat = s; step = x } ∷ [])) (caller_number s) r
+        ≡ register_at (never_behind p.table.config p.seen) (caller_number s) r
+    by others s e of_others answer whole =
+        subst
+        (λ (y : Seat). AreOfOthers (y ∷ []) others
+        → answer_decided p.table.config (left p.table.config (p.seen ++ others)).now (record { seat = y; step = x }) ≡ None
+        → IsHistory p.table.config (p.seen ++ others ++ record { seat = y; step = x } ∷ [])
+        → register_at (never_behind p.table.config (p.seen ++ others ++ record { seat = y; step = x } ∷ [])) (caller_number y) r
+        ≡ register_at (never_behind p.table.config p.seen) (caller_number y) r)
+        (sym e) (λ o n w. registers_kept p.table.config p.seen others caller.number x w o n r small) of_others answer whole
 
 -- It is a caller's.
 pub unloaded_caller : (p : PassState) (r : ℕ) → call_of p ≡ begun (op.Free r) → IsCallers p
@@ -96,30 +136,7 @@ module _ (p : PassState) (r : ℕ) (o : Option Op) (turn : IsTurn p o) (h : IsHi
 
   -- whether it decides the Free or not
   pub load_admits : IsAdmittedTo p step.Reg
-  load_admits = by p.seat caller.is u.call (subst (λ n. IsAdmitted c.globals (never_behind c p.seen) n (op.Free r)) (ap caller_number caller.is) u.admitted)
-    where
-      c : Config
-      c = p.table.config
-
-      entry : (s : Seat) (a : Option Answer) → IsAdmitted p.table.config.globals (never_behind p.table.config p.seen) number (op.Free r)
-          → AreAdmitted p.table.config.globals (never_behind p.table.config p.seen) (asked (entry_of number (op.Free r) a))
-      entry s None is = tt
-      entry s (Some a) is = (is, tt)
-
-      by : (s : Seat) → s ≡ Caller number → flight_of (now_of p) s ≡ begun (op.Free r)
-          → IsAdmitted p.table.config.globals (never_behind p.table.config p.seen) number (op.Free r)
-          → IsAdmittedBehind p.table.config p.seen (record { seat = s; step = step.Reg })
-      by s is call ok =
-          subst (λ (x : Seat). IsAdmittedBehind p.table.config p.seen (record { seat = x; step = step.Reg })) (sym is)
-          (let e : Event = record { seat = Caller number; step = step.Reg } in
-          let a : Option Answer = answer_decided p.table.config (now_of p) e in
-          let more : asked (calls p.table.config (p.seen ++ e ∷ [])) ≡ asked (calls p.table.config p.seen) ++ asked (entry_of number (op.Free r) a) =
-          ap (λ (ds : List Decided). asked ds) (calls_more p.table.config (first_world p.table.config) p.seen e)
-          ∙ map-append (λ (x : Decided). record { caller = x.caller; op = x.op }) (calls p.table.config p.seen) (call_decided p.table.config (now_of p) e)
-          ∙ ap (λ (f : Flight). asked (calls p.table.config p.seen) ++ asked (entry_of number f.op a)) (ap (λ (x : Seat). flight_of (now_of p) x) (sym is) ∙ call) in
-          subst (λ (xs : List Call). AreAdmitted p.table.config.globals (never_first p.table.config) xs) (sym more)
-          (admitted_join p.table.config.globals (never_first p.table.config) (asked (calls p.table.config p.seen)) (asked (entry_of number (op.Free r) a))
-          (h.admitted, entry s a ok)))
+  load_admits = free_step_admits p r step.Reg (begun (op.Free r)) caller turn.holds h u refl
 
   pub load_meets : r ≡ register_met (call_of p) (call_of p).stage
   load_meets = sym (ap (λ (f : Flight). register_met f f.stage) u.call)
@@ -221,3 +238,13 @@ load_reaches p q r n o small turn u a own history is =
           ∙ loaded_entry k (call_of p).op (n == 0)
           ∙ ap (λ i. if n == 0 then entry_of i (call_of p).op (Some answer.Done) else []) (sym (ap caller_number is));
     })
+
+-- A load that finds a pointer decides nothing.
+pub load_keeps : (p q : PassState) (r n : ℕ) (o : Option Op) → r < 8 → IsTurn p o → IsUnloaded p r → Acts p step.Reg q → Has p.seats p.seat
+    → IsHistory q.table.config q.seen → n ≡ register_of p r → (n == 0) ≡ false → value_of q r ≡ value_of p r
+load_keeps p q r n o small turn u a own history is some =
+    let caller = unloaded_caller p r u.call in
+    let here : n ≡ register_word (now_of p).words caller.number r = is ∙ ap (λ (x : Seat). register_word (now_of p).words (caller_number x) r) caller.is in
+    value_kept p q r step.Reg caller small a own history
+    (λ v kept known.
+    (lands p r n v small known p.seat caller.number caller.is kept turn.holds u.call here).1 ∙ ap (λ (b : Bool). if b then Some answer.Done else None) some)

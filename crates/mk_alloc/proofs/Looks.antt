@@ -58,19 +58,20 @@ looks_on p x at plain w v before kept known pages =
     let call = acting_has_call p.table.config v.now p.seat known.orderly.flights (still_acting p.table.config p.seat (world_of p) v at here) in
     left_joined p.seat (world_of p) v _ here (look_leaves p.table.config v p.seat x call plain)
 
+-- Such a look decides nothing.
+pub plain_is_idle : (x : Word) → IsPlain x → may_decide (step.Look x) ≡ false
+plain_is_idle x (OfHead p) = refl
+plain_is_idle x (OfUsed p) = refl
+plain_is_idle x OfHeld = refl
+plain_is_idle x OfFresh = refl
+plain_is_idle x OfPhase = refl
+
 pub look_reaches : (p q : PassState) (o : Option Op) (x : Word) → IsTurn p o → is_acting (call_of p).stage ≡ true → IsPlain x → Acts p (step.Look x) q
     → Has p.seats p.seat → IsHistory q.table.config q.seen → OnlyLooks p q
 look_reaches p q o x turn acts plain a own history =
     reaches_still is_look p p q (IsAsLeft p.seat (world_of p)) (IsAsLeft p.seat (world_of p)) [] (step.Look x)
     (reaches_nothing is_look p (IsAsLeft p.seat (world_of p)) (left_same p.seat (world_of p))) a own history refl
-    (acting_caller p acts) (looks_idle x plain) (looks_on p x (acting_now p o turn acts) plain)
-  where
-    looks_idle : (x : Word) → IsPlain x → may_decide (step.Look x) ≡ false
-    looks_idle x (OfHead p) = refl
-    looks_idle x (OfUsed p) = refl
-    looks_idle x OfHeld = refl
-    looks_idle x OfFresh = refl
-    looks_idle x OfPhase = refl
+    (acting_caller p acts) (plain_is_idle x plain) (looks_on p x (acting_now p o turn acts) plain)
 
 -- What it finds is what the word is for the holder.
 module _ (p q : PassState) (o : Option Op) (x : Word) (n : ℕ) (turn : IsTurn p o) (f : Finds p (step.Look x) n q) (own : Has p.seats p.seat)

@@ -19,7 +19,7 @@ use Rattle.mk_core.specs.Words.{phase_of}
 use Rattle.mk_core.specs.Cells.{is_unmapped_header}
 use Rattle.mk_core.specs.Enabled.{IsEnabled, marker_may, holder_may}
 use Rattle.mk_core.specs.Moments.{Moment, flight_of, marker_at, is_phase, others_are_held}
-use Rattle.mk_core.specs.NewPlaces.{is_new_at, is_undecided_new, object_made}
+use Rattle.mk_core.specs.NewPlaces.{is_new_at, is_undecided_free, is_undecided_new, object_made}
 use Rattle.mk_core.specs.Order.{comes_next, group_of, is_in_order, is_of_any_holder, is_open_to, may_decide, seat_exists}
 use Rattle.mk_core.specs.Ranges.{is_in_range, is_word, has_gates, has_phase}
 use Rattle.mk_core.specs.StopConditions.{marks_by_hand, marks_place}
@@ -27,7 +27,7 @@ use Rattle.mk_core.specs.TurnConditions.{carves, is_used_once, place_now, takes_
 use Rattle.mk_core.specs.declared.events.Word.{Word}
 use Rattle.mk_core.specs.declared.seats.Flight.{Flight}
 use Rattle.mk_core.proofs.Conditions.{meets_enabled}
-use Rattle.mk_core.proofs.PlacesNow.{undecided_new}
+use Rattle.mk_core.proofs.PlacesNow.{undecided_free, undecided_new}
 use Rattle.mk_alloc.specs.Looking.{is_acting, is_steady_word}
 use Rattle.mk_alloc.specs.Placing.{IsOutOfStop}
 
@@ -62,6 +62,9 @@ order_of_acting c m Host x acts any = cc
 
 pub new_is_acting : (f : Flight) → is_undecided_new f ≡ true → is_acting f.stage ≡ true
 new_is_acting f new = ap is_acting (undecided_new f new).stage
+
+pub free_is_acting : (f : Flight) → is_undecided_free f ≡ true → is_acting f.stage ≡ true
+free_is_acting f free = ap is_acting (undecided_free f free).stage
 
 grant_comes_next : (s : Stage) (o : Op) → is_new_at s o ≡ true → comes_next s o step.Grant ≡ true
 grant_comes_next stage.Turn (op.New d ty full) h = refl

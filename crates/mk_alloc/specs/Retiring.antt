@@ -2,7 +2,9 @@
 use Rattle.std.specs.Prelude.{◌≡◌, ℕ, ◌==◌, ◌<◌, Bool, true, false, List, [], Option, Some, if◌then◌else◌}
 use Rattle.mk_never.specs.declared.operations.Op.{Op}
 use Rattle.mk_never.specs.declared.operations.Op.TheVariants as op
-use Rattle.mk_never.specs.Admitted.{IsAdmitted}
+use Rattle.mk_never.specs.declared.values.Value.{Value}
+use Rattle.mk_never.specs.Admitted.{IsBase}
+use Rattle.mk_never.specs.NeverHeap.{register_at}
 use Rattle.mk_core.specs.declared.events.Answer.TheVariants as answer
 use Rattle.mk_core.specs.declared.events.Seat.{Seat}
 use Rattle.mk_core.specs.declared.events.Seat.TheVariants.{Caller}
@@ -20,10 +22,20 @@ use Rattle.mk_core.specs.Words.{register_word}
 use Rattle.mk_words.specs.States.{PassState, call_of, now_of, world_of}
 use Rattle.mk_alloc.specs.Placing.{Reaches, entry_for}
 
--- The turn is for a Free of this register, which isn't loaded yet, and which is admitted.
-pub record IsUnloaded (p : PassState) (r : ℕ) : Type 0 where
-  pub call : call_of p ≡ begun (op.Free r)
-  pub admitted : IsAdmitted p.table.config.globals (never_behind p.table.config p.seen) (caller_number p.seat) (op.Free r)
+-- the value of a register of its caller in the heap that never reuses storage
+abbrev pub value_of : PassState → ℕ → Value
+value_of p r = register_at (never_behind p.table.config p.seen) (caller_number p.seat) r
+
+-- The turn is for a Free of this register, at this point of the call, and the register is null or points to the first word
+-- of its allocation.
+pub record IsFreeAt (p : PassState) (r : ℕ) (f : Flight) : Type 0 where
+  pub call : call_of p ≡ f
+  pub small : r < 8
+  pub base : IsBase (value_of p r)
+
+-- Its register isn't loaded yet.
+abbrev pub IsUnloaded : PassState → ℕ → Type 0
+IsUnloaded p r = IsFreeAt p r (begun (op.Free r))
 
 -- The call is at this point, and all else that is the holder's is as it was.
 pub record CallIsAt (s : Seat) (f : Flight) (w v : World) : Type 0 where

@@ -1,8 +1,18 @@
 //! Freeing the object of a Free.
-ghost use Rattle.std.specs.Prelude.{◌≡◌};
-ghost use Rattle.mk_alloc.specs.Retiring.{HasLoaded, IsUnloaded};
+ghost use Rattle.std.specs.Prelude.{◌≡◌, ℕ, ◌<◌, ◌==◌, true, false, Some};
+ghost use Rattle.mk_core.specs.NewPlaces.{is_undecided_free, target};
+ghost use Rattle.mk_words.specs.States.{call_of, now_of};
+ghost use Rattle.mk_alloc.specs.Placing.{OnlyLooks};
+ghost use Rattle.mk_alloc.specs.Retiring.{HasLoaded, IsUnloaded, value_of};
 
+use crate::looking::look_at;
+use mk_core::Word;
+use mk_geom::{Cell, lookup};
 use mk_words::{Turn, Words};
+
+/// The address of the heap's first word, and how many a page takes.
+const HEAP_START: u64 = 65536;
+const PAGE_BYTES: u64 = 512;
 
 /// Loads the register of a Free. Null decides it.
 fn load_freed(words: &Words, turn: &mut Turn, register: u8) -> u64
@@ -10,9 +20,26 @@ fn load_freed(words: &Words, turn: &mut Turn, register: u8) -> u64
     requires unloaded { IsUnloaded turn.old.pass register }
     ensures op { turn.new.op ≡ turn.old.op }
     ensures loaded { HasLoaded turn.old.pass register result turn.new.pass }
+    ensures keeps { (result == 0) ≡ false → value_of turn.new.pass register ≡ value_of turn.old.pass register }
 {
     turn.is_in_order();
     let value = turn.reg_load(words, register);
     turn.is_in_order();
     value
+}
+
+/// The cell that the loaded register of a Free points into.
+fn find_cell(words: &Words, turn: &mut Turn, value: u64) -> Cell
+    requires one_table { turn.old.pass.table ≡ words.now }
+    requires undecided { is_undecided_free (call_of turn.old.pass) ≡ true }
+    requires value { (call_of turn.old.pass).p ≡ value }
+    ensures op { turn.new.op ≡ turn.old.op }
+    ensures looks { OnlyLooks turn.old.pass turn.new.pass }
+    ensures cell { target turn.old.pass.table.config.pages (now_of turn.old.pass).words (call_of turn.old.pass) ≡ Some result }
+    ensures keeps { (r : ℕ) → r < 8 → value_of turn.new.pass r ≡ value_of turn.old.pass r }
+{
+    turn.is_in_order();
+    let page = (value - HEAP_START) / PAGE_BYTES;
+    let header = look_at(words, turn, Word::Head(page));
+    lookup(words.pages(), header, value).unwrap_or(Cell { page: 0, index: 0 })
 }

@@ -1,0 +1,92 @@
+-- The look at the quarantine word of a Free's target: where its freed bit is set, the Free is a double one.
+use Rattle.std.proofs.Common.{◌≡◌, ◌≢◌, ℕ, ◌+◌, ◌*◌, ◌<◌, ◌^◌, Bool, true, false, List, [], ◌∷◌, ◌++◌, length, refl, sym, ap, subst, ◌∙◌}
+use Rattle.std.specs.Prelude.{◌&&◌, ◌==◌, nat_lt, Option, Some, None, if◌then◌else◌, slice_index}
+use Rattle.std.proofs.lemmas.Bool.{eq-eqb, lt-ltb, ltb-true}
+use Rattle.mk_never.specs.declared.operations.Op.{Op}
+use Rattle.mk_never.specs.declared.operations.Op.TheVariants as op
+use Rattle.mk_geom.specs.declared.addresses.Cell.{Cell}
+use Rattle.mk_core.specs.declared.config.Config.{Config}
+use Rattle.mk_core.specs.declared.events.Answer.{Answer}
+use Rattle.mk_core.specs.declared.events.Answer.TheVariants as answer
+use Rattle.mk_core.specs.declared.events.Event.{Event}
+use Rattle.mk_core.specs.declared.events.Seat.{Seat}
+use Rattle.mk_core.specs.declared.events.Seat.TheVariants.{Caller}
+use Rattle.mk_core.specs.declared.events.Step.{Step}
+use Rattle.mk_core.specs.declared.events.Step.TheVariants as step
+use Rattle.mk_core.specs.declared.events.Word.TheVariants as word
+use Rattle.mk_core.specs.declared.seats.Flight.{Flight}
+use Rattle.mk_core.specs.declared.seats.Progress.{Progress}
+use Rattle.mk_core.specs.declared.seats.Stage.TheVariants as stage
+use Rattle.mk_core.specs.Accesses.{caller_number, found}
+use Rattle.mk_core.specs.Bits.{has_bit}
+use Rattle.mk_core.specs.Cells.{is_freed, pointed_cell}
+use Rattle.mk_core.specs.Decided.{Decided, entry_of}
+use Rattle.mk_core.specs.Effects.{answer_decided, progress, progress_look, sees_double}
+use Rattle.mk_core.specs.Frames.{Steady, steady_of}
+use Rattle.mk_core.specs.History.{IsHistory, World, left, world_behind}
+use Rattle.mk_core.specs.Moments.{Moment, flight_of}
+use Rattle.mk_core.specs.NewPlaces.{is_undecided_free, target}
+use Rattle.mk_core.specs.Words.{Words, quarantine_word}
+use Rattle.mk_geom.specs.declared.pages.Page.{Page}
+use Rattle.mk_alloc.specs.Unchanged.{IsAsLeft}
+use Rattle.mk_alloc.specs.Retiring.{CallIsAt}
+use Rattle.mk_alloc.proofs.Unchanged.{call_behind}
+
+-- the call behind such a look
+abbrev pub seen_free : Flight → Bool → Flight
+seen_free f double = if double then record f { stage = stage.Give } else f
+
+abbrev pub answer_seen : Bool → Option Answer
+answer_seen double = if double then Some answer.Double else None
+
+target_same : (pages : ℕ) (w v : Words) (f : Flight) → v.pages ≡ w.pages → target pages v f ≡ target pages w f
+target_same pages w v f same = ap (λ (ps : List Page). if is_undecided_free f then pointed_cell pages ps f.p else None) same
+
+seen_at : (w : Words) (cell : Cell) → sees_double w (Some cell) (word.Quar cell.page) ≡ is_freed w cell
+seen_at w cell = ap (λ b. b && is_freed w cell) (eq-eqb cell.page cell.page refl)
+
+freed_same : (w v : Words) (cell : Cell) → v.freed ≡ w.freed → is_freed v cell ≡ is_freed w cell
+freed_same w v cell same = ap (λ (xs : List ℕ). has_bit (slice_index xs cell.page) cell.index) same
+
+-- what is seen of the target in a world that is as it was left
+seen_now : (c : Config) (k : ℕ) (cell : Cell) (w v : World) → IsAsLeft (Caller k) w v → target c.pages w.now.words (flight_of w.now (Caller k)) ≡ Some cell
+    → sees_double v.now.words (target c.pages v.now.words (flight_of v.now (Caller k))) (word.Quar cell.page) ≡ is_freed w.now.words cell
+seen_now c k cell w v kept at =
+    let there : target c.pages v.now.words (flight_of v.now (Caller k)) ≡ Some cell =
+    ap (λ (f : Flight). target c.pages v.now.words f) kept.call
+    ∙ target_same c.pages w.now.words v.now.words (flight_of w.now (Caller k)) (ap (λ (x : Steady). x.pages) kept.steady) ∙ at in
+    ap (λ (x : Option Cell). sees_double v.now.words x (word.Quar cell.page)) there ∙ seen_at v.now.words cell
+    ∙ freed_same w.now.words v.now.words cell (ap (λ (x : Steady). x.freed) kept.steady)
+
+abbrev progress_seen : Flight → Bool → Progress
+progress_seen f b = if b then record { flight = record f { stage = stage.Give }; answer = Some answer.Double } else record { flight = f; answer = None }
+
+seen_flight : (f : Flight) (b : Bool) → (progress_seen f b).flight ≡ seen_free f b
+seen_flight f true = refl
+seen_flight f false = refl
+
+seen_answer : (f : Flight) (b : Bool) → (progress_seen f b).answer ≡ answer_seen b
+seen_answer f true = refl
+seen_answer f false = refl
+
+pub record SeesBy (c : Config) (k : ℕ) (cell : Cell) (w v : World) : Type 0 where
+  pub at : CallIsAt (Caller k) (seen_free (flight_of w.now (Caller k)) (is_freed w.now.words cell)) w
+      (world_behind c v (record { seat = Caller k; step = step.Look (word.Quar cell.page) }))
+  pub answer : answer_decided c v.now (record { seat = Caller k; step = step.Look (word.Quar cell.page) }) ≡ answer_seen (is_freed w.now.words cell)
+
+pub sees_by : (c : Config) (k : ℕ) (cell : Cell) (w v : World) → k < length v.now.seats.flights → IsAsLeft (Caller k) w v
+    → target c.pages w.now.words (flight_of w.now (Caller k)) ≡ Some cell → SeesBy c k cell w v
+sees_by c k cell w v lt kept at =
+    let seen = seen_now c k cell w v kept at in
+    record {
+      at = record {
+        call = call_behind c v.now k (step.Look (word.Quar cell.page)) lt
+            ∙ ap (λ b. (progress_seen (flight_of v.now (Caller k)) b).flight) seen
+            ∙ ap (λ (f : Flight). (progress_seen f (is_freed w.now.words cell)).flight) kept.call
+            ∙ seen_flight (flight_of w.now (Caller k)) (is_freed w.now.words cell);
+        holding = kept.holding;
+        steady = kept.steady;
+        registers = kept.registers;
+      };
+      answer = ap (λ b. (progress_seen (flight_of v.now (Caller k)) b).answer) seen ∙ seen_answer (flight_of v.now (Caller k)) (is_freed w.now.words cell);
+    }
