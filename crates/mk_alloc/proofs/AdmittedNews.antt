@@ -25,7 +25,8 @@ use Rattle.mk_core.proofs.PlacesNow.{undecided_new}
 use Rattle.mk_never.proofs.Parts.{admitted_join}
 use Rattle.std.proofs.lemmas.List.{length-replicate, map-append}
 
-new_in_range : (c : Config) (o : Op) (d ty : ℕ) (full : Bool) → o ≡ op.New d ty full → has_operands c o ≡ true → (d < 8) × (ty < length c.types)
+new_in_range : (c : Config) (o : Op) (d ty : ℕ) (full : Bool) → o ≡ op.New d ty full → has_operands c o ≡ true
+    → (d < 8) × (ty < length c.types)
 new_in_range c o d ty full is h =
     let at : has_operands c (op.New d ty full) ≡ true = ap (λ (x : Op). has_operands c x) (sym is) ∙ h in
     let a = and_parts (nat_lt 0 8 && nat_lt 0 8 && nat_lt 0 8 && nat_lt d 8 && nat_lt 0 64) (nat_lt ty (length c.types)) at in
@@ -50,14 +51,16 @@ new_admitted c k d ty xs lt small typed =
     }
 
 -- So its `grant` is.
-pub grant_admitted : (c : Config) (es : List Event) (k : ℕ) → IsHistory c es → k < c.callers → is_undecided_new (flight_of (left c es).now (Caller k)) ≡ true
+pub grant_admitted : (c : Config) (es : List Event) (k : ℕ) → IsHistory c es → k < c.callers
+    → is_undecided_new (flight_of (left c es).now (Caller k)) ≡ true
     → has_operands c (flight_of (left c es).now (Caller k)).op ≡ true
     → IsAdmittedBehind c es (record { seat = Caller k; step = step.Grant })
 grant_admitted c es k h lt new operands =
     let f = flight_of (left c es).now (Caller k) in
     let n = undecided_new f new in
     let ranges = new_in_range c f.op n.d n.ty n.full n.op operands in
-    let more : asked (calls c (es ++ record { seat = Caller k; step = step.Grant } ∷ [])) ≡ asked (calls c es) ++ record { caller = k; op = op.New n.d n.ty false } ∷ [] =
+    let more : asked (calls c (es ++ record { seat = Caller k; step = step.Grant } ∷ [])) ≡ asked
+    (calls c es) ++ record { caller = k; op = op.New n.d n.ty false } ∷ [] =
     ap (λ (ds : List Decided). asked ds) (calls_more c (first_world c) es (record { seat = Caller k; step = step.Grant }))
     ∙ map-append (λ (x : Decided). record { caller = x.caller; op = x.op }) (calls c es) (entry_of k f.op (Some answer.Done))
     ∙ ap (λ (x : Op). asked (calls c es) ++ asked (entry_of k x (Some answer.Done))) n.op in

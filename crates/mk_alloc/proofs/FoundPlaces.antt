@@ -31,10 +31,12 @@ bit_told : (count used k : ℕ) → slice_get (bits_of count used) k ≡ Some fa
 bit_told count used k is =
     let within : k < length (bits_of count used) = slice_get_within (bits_of count used) k false is in
     let here : k < count = subst (λ n. k < n) (length-bits_of count used) within in
-    sym (get_or-map-range_with_len (λ i. bit_at used i == 1) 0 count k k false here (omega arith)) ∙ get_or_from_slice_get (bits_of count used) k false false is
+    sym (get_or-map-range_with_len (λ i. bit_at used i == 1) 0 count k k false here (omega arith))
+    ∙ get_or_from_slice_get (bits_of count used) k false false is
 
 -- A cell that may be taken on a page with a header isn't used.
-clear_cell : (h u class index : ℕ) (leaf : Bool) (x : Option Header) → header_of h ≡ x → h ≢ 0 → MayTakeCell class leaf index (use_under x u)
+clear_cell : (h u class index : ℕ) (leaf : Bool) (x : Option Header) → header_of h ≡ x → h ≢ 0
+    → MayTakeCell class leaf index (use_under x u)
     → has_bit u index ≡ false
 clear_cell h u class index leaf (Some Free) is some may = absurd (some (sym (word_of-header_of h Free is).1))
 clear_cell h u class index leaf None is some may = absurd may
@@ -58,7 +60,8 @@ pub found_clear : (limit : ℕ) (pages : List Page) (o : Object) (place : Place)
     → header_on pages place.page ≢ 0 → has_bit (used_on pages place.page) place.index ≡ false
 found_clear limit pages o place sized at some = elim (cases_Bool (is_small_object o)) [
   | inl s ↦
-      let is = cell_place_is limit o.words (class_made o) o.leaf pages place (class_for_small o.words sized.0 (leb-true o.words 32 s)) at in
+      let is = cell_place_is limit o.words (class_made o) o.leaf pages place
+      (class_for_small o.words sized.0 (leb-true o.words 32 s)) at in
       let page : slice_index_or pages place.page free_page ≡ is.page = get_or_from_slice_get pages place.page is.page free_page is.at in
       ap (λ (x : Page). has_bit x.used place.index) page
       ∙ clear_cell is.page.header is.page.used (class_made o) place.index o.leaf (header_of is.page.header) refl
@@ -75,7 +78,8 @@ found_clear limit pages o place sized at some = elim (cases_Bool (is_small_objec
 cells_hold : (class u : ℕ) (leaf : Bool) → words_held_by (PageUse.Cells class leaf (bits_of (cells_of class) u)) ≤ 64
 cells_hold class u leaf =
     let few : count_by (λ cell. cell) (bits_of (cells_of class) u) ≤ cells_of class =
-    subst (λ n. count_by (λ cell. cell) (bits_of (cells_of class) u) ≤ n) (length-bits_of (cells_of class) u) (count_by-le-length (λ cell. cell) (bits_of (cells_of class) u)) in
+    subst (λ n. count_by (λ cell. cell) (bits_of (cells_of class) u) ≤ n) (length-bits_of (cells_of class) u)
+    (count_by-le-length (λ cell. cell) (bits_of (cells_of class) u)) in
     omega (arith, mul-le-mul_left (class_words_of class) few, mul-div-le 64 (class_words_of class))
 
 page_holds : (x : Option Header) (u : ℕ) → words_held_by (use_under x u) ≤ 64
@@ -91,4 +95,11 @@ page_holds (Some (Later d false)) u = omega arith
 
 pub pages_hold_few : (pages : List Page) → words_held_among (uses_of_pages pages) ≤ 64 * length pages
 pages_hold_few [] = omega arith
-pages_hold_few (page ∷ pages) = omega (arith, page_holds (header_of page.header) page.used, pages_hold_few pages, sum_by-cons words_held_by (use_of_page page) (uses_of_pages pages))
+pages_hold_few (page ∷ pages) = omega (
+  arith,
+  page_holds
+      (header_of page.header) page.used,
+  pages_hold_few pages,
+  sum_by-cons words_held_by (use_of_page page)
+      (uses_of_pages pages),
+)

@@ -1,6 +1,6 @@
 -- What the register of an undecided Free points into: the cell of an unreleased allocation.
-use Rattle.std.proofs.Common.{◌≡◌, ◌≢◌, ℕ, ◌+◌, ◌*◌, List, Bool, true, false, refl, sym, ap, subst, ◌∙◌}
-use Rattle.std.specs.Prelude.{Option, Some}
+use Rattle.std.proofs.Common.{◌≡◌, ◌≢◌, ℕ, ◌+◌, ◌*◌, List, true, false, refl}
+use Rattle.std.specs.Prelude.{Some}
 use Rattle.std.proofs.lemmas.Bool.{false≢true}
 use Rattle.mk_never.specs.declared.operations.Op.{Op}
 use Rattle.mk_never.specs.declared.operations.Op.TheVariants as op
@@ -8,7 +8,6 @@ use Rattle.mk_never.specs.declared.values.Value.{Value}
 use Rattle.mk_never.specs.declared.values.Value.TheVariants.{Null, Num, Ptr}
 use Rattle.mk_never.specs.NeverHeap.{NeverState, register_at}
 use Rattle.mk_never.specs.Typed.{IsSound}
-use Rattle.mk_geom.specs.declared.addresses.Cell.{Cell}
 use Rattle.mk_core.specs.declared.config.Config.{Config}
 use Rattle.mk_core.specs.declared.events.Event.{Event}
 use Rattle.mk_core.specs.declared.events.Seat.TheVariants.{Caller}
@@ -77,7 +76,8 @@ module _ (c : Config) (w : World) (n : NeverState) (known : KnownWorld c w) (oth
       let f = flight_of w.now (Caller k) in
       points_by k f.stage f.op f.q f.p f.r f.loaded undecided (ready.images.carried k)
 
-pub free_points_at : (c : Config) (es : List Event) (k : ℕ) → IsHistory c es → is_undecided_free (flight_of (left c es).now (Caller k)) ≡ true
+pub free_points_at : (c : Config) (es : List Event) (k : ℕ) → IsHistory c es
+    → is_undecided_free (flight_of (left c es).now (Caller k)) ≡ true
     → PointsAt c (left c es) (never_behind c es) k (flight_of (left c es).now (Caller k))
 free_points_at c es k h undecided =
     let known = known_world c es h.within_limits h.enabled in

@@ -42,18 +42,22 @@ use Rattle.mk_alloc.proofs.Serving.{IsTakenAt, chosen_now, new_placed}
 marks_first : (w : Words) (o : Object) (place : Place) → phase_of w ≡ 1 → header_at w place.page ≡ 0
     → marks_place w o (Some place) place.page (bits_made o) ≡ true
 marks_first w o place one free =
-    and_from _ _ (and_from _ _ (and_from _ _ (eq-eqb (phase_of w) 1 one) (eq-eqb place.page place.page refl)) (eq-eqb (header_at w place.page) 0 free))
+    and_from _ _ (and_from _ _ (and_from _ _ (eq-eqb (phase_of w) 1 one) (eq-eqb place.page place.page refl))
+    (eq-eqb (header_at w place.page) 0 free))
     (eq-eqb (bits_made o) (bits_made o) refl)
 
-pub serving_marks : (c : Config) (s : Seat) (o : Object) (place : Place) (w v : World) → Serving c s o place w v → phase_of v.now.words ≡ 1
+pub serving_marks : (c : Config) (s : Seat) (o : Object) (place : Place) (w v : World) → Serving c s o place w v
+    → phase_of v.now.words ≡ 1
     → header_at v.now.words place.page ≡ 0
-    → marks_place v.now.words (object_made c (flight_of v.now s).op) (place_now c v.now (flight_of v.now s)) place.page (bits_made o) ≡ true
+    → marks_place v.now.words (object_made c (flight_of v.now s).op)
+    (place_now c v.now (flight_of v.now s)) place.page (bits_made o) ≡ true
 serving_marks c s o place w v at one free =
     ap (λ (x : Object). marks_place v.now.words x (place_now c v.now (flight_of v.now s)) place.page (bits_made o)) at.object
     ∙ ap (λ (x : Option Place). marks_place v.now.words o x place.page (bits_made o)) at.placed
     ∙ marks_first v.now.words o place one free
 
-all_marked : (bits : ℕ) (xs : List ℕ) (p : ℕ) → p < length xs → (without bits (slice_index (slice_set xs p (bit_or (slice_index xs p) bits)) p) == 0) ≡ true
+all_marked : (bits : ℕ) (xs : List ℕ) (p : ℕ) → p < length xs
+    → (without bits (slice_index (slice_set xs p (bit_or (slice_index xs p) bits)) p) == 0) ≡ true
 all_marked bits xs p lt =
     without_on bits bits (slice_index (slice_set xs p (bit_or (slice_index xs p) bits)) p)
     (λ k h. bits_added xs p bits k lt h) (without_itself bits)
@@ -62,7 +66,8 @@ all_marked bits xs p lt =
     without_itself n = eq-eqb (without n n) 0 (omega (arith, and_self n))
 
 pub carving_marked : (c : Config) (s : Seat) (o : Object) (place : Place) (w v : World) → Serving c s o place w v → HasCall c v.now s
-    → is_undecided_new (flight_of v.now s) ≡ true → phase_of v.now.words ≡ 1 → ((d : ℕ) → d < pages_made o → header_at v.now.words (place.page + d) ≡ 0)
+    → is_undecided_new (flight_of v.now s) ≡ true → phase_of v.now.words ≡ 1
+    → ((d : ℕ) → d < pages_made o → header_at v.now.words (place.page + d) ≡ 0)
     → 1 ≤ pages_made o → place.page < length v.now.words.marks
     → Carving c s o place w (world_behind c v (record { seat = s; step = step.Mark place.page (bits_made o) })) 0
 carving_marked c s o place w v at (OfCaller k lt) new one free some room =
@@ -71,7 +76,8 @@ carving_marked c s o place w v at (OfCaller k lt) new one free some room =
     let u : World = world_behind c v (record { seat = s; step = x }) in
     let zero : place.page + 0 ≡ place.page = omega arith in
     let marks = serving_marks c (Caller k) o place w v at one (sym (ap (λ p. header_at v.now.words p) zero) ∙ free 0 (omega arith)) in
-    let fixed : u.now.seats.holding.placing ≡ Chosen place = rw marks (new_placed c v.now (flight_of v.now (Caller k)) place new at.placed at.once) in
+    let fixed : u.now.seats.holding.placing ≡ Chosen place = rw marks
+    (new_placed c v.now (flight_of v.now (Caller k)) place new at.placed at.once) in
     record {
       serving = record {
         call = call ∙ at.call;
@@ -88,7 +94,8 @@ carving_marked c s o place w v at (OfCaller k lt) new one free some room =
     }
 
 -- Outside of marking no mark is asked for.
-pub carving_unmarked : (c : Config) (s : Seat) (o : Object) (place : Place) (w v : World) → Serving c s o place w v → phase_of v.now.words ≡ 0
+pub carving_unmarked : (c : Config) (s : Seat) (o : Object) (place : Place) (w v : World) → Serving c s o place w v
+    → phase_of v.now.words ≡ 0
     → ((d : ℕ) → d < pages_made o → header_at v.now.words (place.page + d) ≡ 0) → Carving c s o place w v 0
 carving_unmarked c s o place w v at none free =
     record {
@@ -122,27 +129,61 @@ granted_behind c s o place w v at (OfCaller k lt) room =
     let call = call_behind c v.now k step.Grant lt in
     let f : Flight = flight_of w.now (Caller k) in
     let base : granted_base c (flight_of v.now (Caller k)) v.now.seats.holding.placing ≡ base_made (object_made c f.op) place =
-    ap (λ (x : Placing). granted_base c (flight_of v.now (Caller k)) x) at.placing ∙ ap (λ (g : Flight). base_made (object_made c g.op) place) at.call in
+    ap (λ (x : Placing). granted_base c (flight_of v.now (Caller k)) x) at.placing
+    ∙ ap (λ (g : Flight). base_made (object_made c g.op) place) at.call in
     let u : World = world_behind c v (record { seat = Caller k; step = step.Grant }) in
     record {
       call = call ∙ ap (λ (g : Flight). record g { stage = stage.Give }) at.call;
       placing = refl;
       steady =
           ap (λ (x : Steady). record x { allocations = u.allocations }) at.steady
-          ∙ ap (λ n. record (steady_of w) { pages = v.now.words.pages; allocations = v.allocations ++ record { base = n; ty = type_made (flight_of v.now (Caller k)).op; freed = false; fresh = false; released = false } ∷ [] }) base
-          ∙ ap (λ (g : Flight). record (steady_of w) { pages = v.now.words.pages; allocations = v.allocations ++ record { base = base_made (object_made c f.op) place; ty = type_made g.op; freed = false; fresh = false; released = false } ∷ [] }) at.call
-          ∙ ap (λ (xs : List PlacedAllocation). record (steady_of w) { pages = v.now.words.pages; allocations = xs ++ object_at_place c f place ∷ [] }) (ap (λ (x : Steady). x.allocations) at.steady)
-          ∙ ap (λ n. record (steady_of w) { pages = v.now.words.pages; held = n; allocations = w.allocations ++ object_at_place c f place ∷ [] }) (sym (ap (λ (x : Steady). x.held) at.steady));
+          ∙ ap (λ n. record
+          (steady_of w) {
+            pages = v.now.words.pages;
+            allocations = v.allocations ++
+                record {
+                  base = n;
+                  ty = type_made (flight_of v.now (Caller k)).op;
+                  freed = false;
+                  fresh = false;
+                  released = false;
+                } ∷ [];
+          }) base
+          ∙ ap (λ (g : Flight). record
+          (steady_of w) {
+            pages = v.now.words.pages;
+            allocations = v.allocations ++ record {
+              base = base_made
+                  (object_made c f.op) place;
+              ty = type_made g.op;
+              freed = false;
+              fresh = false;
+              released = false;
+            } ∷ [];
+          }) at.call
+          ∙ ap (λ (xs : List PlacedAllocation). record
+          (steady_of w) { pages = v.now.words.pages; allocations = xs ++ object_at_place c f place ∷ [] })
+          (ap (λ (x : Steady). x.allocations) at.steady)
+          ∙ ap (λ n. record
+          (steady_of w) {
+            pages = v.now.words.pages;
+            held = n;
+            allocations = w.allocations ++ object_at_place c f
+                place ∷ [];
+          }) (sym (ap (λ (x : Steady). x.held) at.steady));
       register = λ j is. granted_register j is;
     }
   where
-    granted_register : (j : ℕ) → Caller k ≡ Caller j → register_word (world_behind c v (record { seat = Caller k; step = step.Grant })).now.words j (d_of (flight_of w.now (Caller k)).op)
+    granted_register : (j : ℕ) → Caller k ≡ Caller j
+        → register_word (world_behind c v (record { seat = Caller k; step = step.Grant })).now.words j
+        (d_of (flight_of w.now (Caller k)).op)
         ≡ address_of (base_made (object_made c (flight_of w.now (Caller k)).op) place) % 2 ^ 64
     granted_register j is =
         let same : k ≡ j = cc in
         let d : d_of (flight_of v.now (Caller k)).op ≡ d_of (flight_of w.now (Caller k)).op = ap (λ (g : Flight). d_of g.op) at.call in
         let value = address_of (granted_base c (flight_of v.now (Caller k)) v.now.seats.holding.placing) % 2 ^ 64 in
-        ap (λ i. slice_index (slice_set v.now.words.registers (8 * k + d_of (flight_of v.now (Caller k)).op) value) (8 * i + d_of (flight_of w.now (Caller k)).op)) (sym same)
+        ap (λ i. slice_index (slice_set v.now.words.registers (8 * k + d_of (flight_of v.now (Caller k)).op) value)
+        (8 * i + d_of (flight_of w.now (Caller k)).op)) (sym same)
         ∙ ap (λ i. slice_index (slice_set v.now.words.registers (8 * k + i) value) (8 * k + d_of (flight_of w.now (Caller k)).op)) d
         ∙ get_or-set_same v.now.words.registers (8 * k + d_of (flight_of w.now (Caller k)).op) value 0 (room k refl)
         ∙ ap (λ n. address_of n % 2 ^ 64) (ap (λ (x : Placing). granted_base c (flight_of v.now (Caller k)) x) at.placing

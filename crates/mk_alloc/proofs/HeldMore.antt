@@ -33,7 +33,8 @@ held_one_more c xs a unreleased live =
 pub held_is_little : (c : Config) (es : List Event) → IsHistory c es → IsSettled (left c es)
     → held_words c (left c es).allocations ≤ 64 * c.pages
 held_is_little c es h settled =
-    let shown = pages_hold_mapped_words (left c es).now.words.pages (unreleased_storage c (left c es).allocations) (pages_show_the_storage c es h settled) in
+    let shown = pages_hold_mapped_words (left c es).now.words.pages (unreleased_storage c (left c es).allocations)
+    (pages_show_the_storage c es h settled) in
     let few = pages_hold_few (left c es).now.words.pages in
     let lengths = (histories_keep_lengths c es).pages in
     omega arith

@@ -39,9 +39,16 @@ are_wider narrow wide widens (x ∷ xs) all =
     let both = and_parts (narrow x.event.step) (are_of narrow xs) all in
     and_from (wide x.event.step) (are_of wide xs) (widens x.event.step both.0) (are_wider narrow wide widens xs both.1)
 
-pub does_wider : (narrow wide : Step → Bool) → ((s : Step) → narrow s ≡ true → wide s ≡ true) → (p q : PassState) → Does narrow p q → Does wide p q
+pub does_wider : (narrow wide : Step → Bool) → ((s : Step) → narrow s ≡ true → wide s ≡ true) → (p q : PassState)
+    → Does narrow p q → Does wide p q
 does_wider narrow wide widens p q d =
-    record { more = d.more; is = d.is; own_or_others = d.own_or_others; of_kinds = are_wider narrow wide widens (done_in p d.more) d.of_kinds }
+    record {
+      more = d.more;
+      is = d.is;
+      own_or_others = d.own_or_others;
+      of_kinds = are_wider narrow wide widens
+          (done_in p d.more) d.of_kinds;
+    }
 
 looks_place : (s : Step) → is_look s ≡ true → is_placing s ≡ true
 looks_place (step.Look x) h = refl
@@ -73,14 +80,21 @@ looks_joined p q r a b = by (subst (λ (x : PassState). OnlyLooks x r) a.same b)
         }
 
 -- What is granted behind looks is granted.
-granted_over : (c : Config) (s : Seat) (place : Place) (w u v : World) → IsAsLeft s w u → IsGrantedAt c s place u v → IsGrantedAt c s place w v
+granted_over : (c : Config) (s : Seat) (place : Place) (w u v : World) → IsAsLeft s w u → IsGrantedAt c s place u v
+    → IsGrantedAt c s place w v
 granted_over c s place w u v a b =
     record {
       call = b.call ∙ ap (λ (f : Flight). record f { stage = stage.Give }) a.call;
       placing = b.placing;
       steady = b.steady
           ∙ ap (λ (x : Steady). record x { pages = v.now.words.pages; held = v.now.words.held; allocations = x.allocations ++ object_at_place c (flight_of u.now s) place ∷ [] }) a.steady
-          ∙ ap (λ (f : Flight). record (steady_of w) { pages = v.now.words.pages; held = v.now.words.held; allocations = w.allocations ++ object_at_place c f place ∷ [] }) a.call;
+          ∙ ap (λ (f : Flight). record
+          (steady_of w) {
+            pages = v.now.words.pages;
+            held = v.now.words.held;
+            allocations = w.allocations ++
+                object_at_place c f place ∷ [];
+          }) a.call;
       register = λ k is.
           ap (λ (f : Flight). register_word v.now.words k (d_of f.op)) (sym a.call) ∙ b.register k is
           ∙ ap (λ (f : Flight). address_of (base_made (object_made c f.op) place) % 2 ^ 64) a.call;
@@ -93,8 +107,10 @@ granted_behind_looks p q r place a b = by (subst (λ (x : PassState). IsGranted 
     by b =
         record {
           same = b.same;
-          does = does_then is_placing p q r (does_wider is_look is_placing looks_place p q a.does) (subst (λ (x : PassState). Does is_placing x r) (sym a.same) b.does);
-          calls = b.calls ∙ ap (λ (l : List Decided). l ++ entry_for (seeing p q.seen) answer.Done) (a.calls ∙ append-nil (own_calls p p.seen))
+          does = does_then is_placing p q r (does_wider is_look is_placing looks_place p q a.does)
+              (subst (λ (x : PassState). Does is_placing x r) (sym a.same) b.does);
+          calls = b.calls ∙ ap (λ (l : List Decided). l ++ entry_for (seeing p q.seen) answer.Done) (a.calls
+              ∙ append-nil (own_calls p p.seen))
               ∙ ap (λ (f : Flight). own_calls p p.seen ++ entry_of (caller_number p.seat) f.op (Some answer.Done)) a.world.call;
           world = granted_over p.table.config p.seat place (world_of p) _ _ a.world b.world;
         }
@@ -121,13 +137,15 @@ looks_exact p q a exact =
 
 pub looks_object : (p q : PassState) → OnlyLooks p q → object_for q ≡ object_for p
 looks_object p q a =
-    ap (λ (t : WordsState). object_made t.config (call_of q).op) (looks_table p q a) ∙ ap (λ (f : Flight). object_made p.table.config f.op) (looks_call p q a)
+    ap (λ (t : WordsState). object_made t.config (call_of q).op) (looks_table p q a)
+    ∙ ap (λ (f : Flight). object_made p.table.config f.op) (looks_call p q a)
 
 pub looks_pages : (p q : PassState) → OnlyLooks p q → (now_of q).words.pages ≡ (now_of p).words.pages
 looks_pages p q a = ap (λ (x : Steady). x.pages) (looks_left p q a).steady
 
 -- the first fit on the pages is where an unplaced New goes
-pub goes_to : (p : PassState) (place : Place) → IsUnplaced p → place_on_pages p.table.config.resident (now_of p).words.pages (object_for p) ≡ Some place
+pub goes_to : (p : PassState) (place : Place) → IsUnplaced p
+    → place_on_pages p.table.config.resident (now_of p).words.pages (object_for p) ≡ Some place
     → GoesTo p place
 goes_to p place u fit =
     record {

@@ -36,7 +36,8 @@ holder_exists c m (Caller k) h = lt-ltb k c.callers h.0
 holder_exists c m (Marker k) h = absurd h
 holder_exists c m Host h = refl
 
-pub acting_now : (p : PassState) (o : Option Op) → IsTurn p o → is_acting (call_of p).stage ≡ true → IsActing p.table.config (now_of p) p.seat
+pub acting_now : (p : PassState) (o : Option Op) → IsTurn p o → is_acting (call_of p).stage ≡ true
+    → IsActing p.table.config (now_of p) p.seat
 acting_now p o turn acts = record { there = holder_exists p.table.config (now_of p) p.seat turn.holds; acts = acts }
 
 pub acting_caller : (p : PassState) → is_acting (call_of p).stage ≡ true → IsCallers p
@@ -52,10 +53,12 @@ pub still_acting : (c : Config) (s : Seat) (w v : World) → IsActing c w.now s 
 still_acting c s w v at kept = record { there = at.there; acts = ap (λ (f : Flight). is_acting f.stage) kept.call ∙ at.acts }
 
 pub looks_on : (p : PassState) (x : Word) → IsActing p.table.config (now_of p) p.seat → IsPlain x
-    → GoesOn p (IsAsLeft p.seat (world_of p)) (λ v. IsAsLeft p.seat (world_of p) (world_behind p.table.config v (record { seat = p.seat; step = step.Look x })))
+    → GoesOn p (IsAsLeft p.seat (world_of p)) (λ v. IsAsLeft p.seat (world_of p)
+    (world_behind p.table.config v (record { seat = p.seat; step = step.Look x })))
 looks_on p x at plain w v before kept known pages =
     let here = left_joined p.seat (world_of p) w v before kept in
-    let call = acting_has_call p.table.config v.now p.seat known.orderly.flights (still_acting p.table.config p.seat (world_of p) v at here) in
+    let call = acting_has_call p.table.config v.now p.seat known.orderly.flights
+    (still_acting p.table.config p.seat (world_of p) v at here) in
     left_joined p.seat (world_of p) v _ here (look_leaves p.table.config v p.seat x call plain)
 
 -- Such a look decides nothing.
@@ -66,7 +69,8 @@ plain_is_idle x OfHeld = refl
 plain_is_idle x OfFresh = refl
 plain_is_idle x OfPhase = refl
 
-pub look_reaches : (p q : PassState) (o : Option Op) (x : Word) → IsTurn p o → is_acting (call_of p).stage ≡ true → IsPlain x → Acts p (step.Look x) q
+pub look_reaches : (p q : PassState) (o : Option Op) (x : Word) → IsTurn p o → is_acting (call_of p).stage ≡ true
+    → IsPlain x → Acts p (step.Look x) q
     → Has p.seats p.seat → IsHistory q.table.config q.seen → OnlyLooks p q
 look_reaches p q o x turn acts plain a own history =
     reaches_still is_look p p q (IsAsLeft p.seat (world_of p)) (IsAsLeft p.seat (world_of p)) [] (step.Look x)
@@ -74,7 +78,8 @@ look_reaches p q o x turn acts plain a own history =
     (acting_caller p acts) (plain_is_idle x plain) (looks_on p x (acting_now p o turn acts) plain)
 
 -- What it finds is what the word is for the holder.
-module _ (p q : PassState) (o : Option Op) (x : Word) (n : ℕ) (turn : IsTurn p o) (f : Finds p (step.Look x) n q) (own : Has p.seats p.seat)
+module _ (p q : PassState) (o : Option Op) (x : Word) (n : ℕ) (turn : IsTurn p o) (f : Finds p (step.Look x) n q)
+    (own : Has p.seats p.seat)
     (history : IsHistory q.table.config q.seen) where
   same : steady_of (left p.table.config (p.seen ++ f.makes.others)) ≡ steady_of (world_of p)
   same = (((made p (step.Look x) q f.makes own history).frame.turn turn.holds).0).steady
@@ -92,4 +97,11 @@ module _ (p q : PassState) (o : Option Op) (x : Word) (n : ℕ) (turn : IsTurn p
 pub found_phase : (p q : PassState) (o : Option Op) (n : ℕ) → IsTurn p o → Finds p (step.Look word.Phase) n q → Has p.seats p.seat
     → IsHistory q.table.config q.seen → n % 8 ≡ phase_of (now_of p).words
 found_phase p q o n turn f own history =
-    ap (λ i. i % 8) f.finds ∙ ap (λ (t : Steady). t.phase) (((made p (step.Look word.Phase) q f.makes own history).frame.turn turn.holds).0).steady
+    ap (λ i. i % 8) f.finds ∙ ap (λ (t : Steady). t.phase)
+    (((made p (step.Look word.Phase) q f.makes own history).frame.turn turn.holds).0).steady
+
+pub found_quarantine : (p q : PassState) (o : Option Op) (page n : ℕ) → IsTurn p o → Finds p (step.Look (word.Quar page)) n q → Has p.seats p.seat
+    → IsHistory q.table.config q.seen → n ≡ named_word (now_of p).words (word.Quar page)
+found_quarantine p q o page n turn f own history =
+    let same = (((made p (step.Look (word.Quar page)) q f.makes own history).frame.turn turn.holds).0).steady in
+    f.finds ∙ ap (λ (t : Steady). quarantine_word (slice_index t.freed page) (slice_index t.snapshot page)) same

@@ -103,7 +103,8 @@ module _ (c : Config) (m : Moment) (s : Seat) (at : IsActing c m s) where
       })
 
   pub may_look : (x : Word) → is_steady_word x ≡ true → is_word c x ≡ true → IsEnabled c m (record { seat = s; step = step.Look x })
-  may_look x steady within = may_by (step.Look x) refl (order_of_acting c m s (step.Look x) at.acts refl) within (gates x steady) refl refl refl
+  may_look x steady within = may_by (step.Look x) refl (order_of_acting c m s (step.Look x) at.acts refl) within
+      (gates x steady) refl refl refl
     where
       gates : (x : Word) → is_steady_word x ≡ true → has_gates c m.words s (flight_of m s) (step.Look x) ≡ true
       gates (word.Reg j r) steady = cc

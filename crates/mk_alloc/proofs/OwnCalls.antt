@@ -37,11 +37,13 @@ other_entry j k o (Some a) ne = ap (λ (b : Bool). cond b (entry_of j o (Some a)
 other_decided : (c : Config) (w : World) (seat : Seat) (x : Step) (k : ℕ) → seat ≢ Caller k
     → calls_by k (call_decided c w.now (record { seat = seat; step = x })) ≡ []
 other_decided c w (Caller j) x k ne =
-    other_entry j k (flight_of w.now (Caller j)).op (answer_decided c w.now (record { seat = Caller j; step = x })) (λ e. ne (ap (λ i. Caller i) e))
+    other_entry j k (flight_of w.now (Caller j)).op (answer_decided c w.now (record { seat = Caller j; step = x }))
+    (λ e. ne (ap (λ i. Caller i) e))
 other_decided c w (Marker j) x k ne = refl
 other_decided c w Host x k ne = refl
 
-calls_of_others : (c : Config) (k : ℕ) (w : World) (es : List Event) → AreOfOthers (Caller k ∷ []) es → calls_by k (calls_from c w es) ≡ []
+calls_of_others : (c : Config) (k : ℕ) (w : World) (es : List Event) → AreOfOthers (Caller k ∷ []) es
+    → calls_by k (calls_from c w es) ≡ []
 unfolding calls_from AreOfOthers
 calls_of_others c k w [] others = refl
 calls_of_others c k w (e ∷ es) others =
@@ -59,7 +61,8 @@ others_add_none c k es others of_others =
     ∙ append-nil (calls_by k (calls c es))
 
 -- A caller's step behind events of others adds the entry that it decides, if it decides one.
-pub own_step_adds : (c : Config) (k : ℕ) (es others : List Event) (x : Step) (o : Op) (a : Option Answer) → AreOfOthers (Caller k ∷ []) others
+pub own_step_adds : (c : Config) (k : ℕ) (es others : List Event) (x : Step) (o : Op) (a : Option Answer)
+    → AreOfOthers (Caller k ∷ []) others
     → (flight_of (left c (es ++ others)).now (Caller k)).op ≡ o
     → answer_decided c (left c (es ++ others)).now (record { seat = Caller k; step = x }) ≡ a
     → calls_by k (calls c (es ++ others ++ record { seat = Caller k; step = x } ∷ [])) ≡ calls_by k (calls c es) ++ entry_of k o a

@@ -33,13 +33,16 @@ use Rattle.mk_alloc.proofs.Takes.{unplaced_settled}
 pub op_is : (p : PassState) (x : Option Op) → IsTurn p x → is_undecided_new (call_of p) ≡ true → x ≡ Some (call_of p).op
 op_is p x turn new = turn.op ∙ by p.seat new
   where
-    by : (s : Seat) → is_undecided_new (flight_of (now_of p) s) ≡ true → op_for s (flight_of (now_of p) s) ≡ Some (flight_of (now_of p) s).op
+    by : (s : Seat) → is_undecided_new (flight_of (now_of p) s) ≡ true
+        → op_for s (flight_of (now_of p) s) ≡ Some (flight_of (now_of p) s).op
     by (Caller k) h = refl
     by (Marker k) h = cc
     by Host h = cc
 
 type_of : (c : Config) (o : Op) → has_operands c o ≡ true → has_type c o ≡ true
-type_of c o h = (and_parts (nat_lt (q_of o) 8 && nat_lt (p_of o) 8 && nat_lt (r_of o) 8 && nat_lt (d_of o) 8 && nat_lt (g_of o) 64) (has_type c o) h).1
+type_of c o h = (and_parts
+    (nat_lt (q_of o) 8 && nat_lt (p_of o) 8 && nat_lt (r_of o) 8 && nat_lt (d_of o) 8 && nat_lt (g_of o) 64)
+    (has_type c o) h).1
 
 -- Its type exists,
 pub type_asked : (p : PassState) (w : WordsState) (x y : Option Op) → p.table ≡ w → IsTurn p x → IsHistory p.table.config p.seen
@@ -47,10 +50,12 @@ pub type_asked : (p : PassState) (w : WordsState) (x y : Option Op) → p.table 
 type_asked p w x y table turn h new same o is =
     let e : o ≡ (call_of p).op = let z : Some o ≡ Some (call_of p).op = sym is ∙ same ∙ op_is p x turn new in cc z in
     ap (λ (v : Op). has_type w.config v) e ∙ ap (λ (t : WordsState). has_type t.config (call_of p).op) (sym table)
-    ∙ type_of p.table.config (call_of p).op (seat_operands p.table.config (now_of p) p.seat (known_left p.table.config p.seen h.within_limits h.enabled))
+    ∙ type_of p.table.config (call_of p).op (seat_operands p.table.config (now_of p) p.seat
+    (known_left p.table.config p.seen h.within_limits h.enabled))
 
 -- and its shape is that of the object.
-pub shape_asked : (p : PassState) (w : WordsState) (x y : Option Op) (shape : Shape) → p.table ≡ w → IsTurn p x → is_undecided_new (call_of p) ≡ true
+pub shape_asked : (p : PassState) (w : WordsState) (x y : Option Op) (shape : Shape) → p.table ≡ w → IsTurn p x
+    → is_undecided_new (call_of p) ≡ true
     → y ≡ x → ((o : Op) → y ≡ Some o → object_shaped shape ≡ object_made w.config o) → object_shaped shape ≡ object_for p
 shape_asked p w x y shape table turn new same made =
     made (call_of p).op (same ∙ op_is p x turn new) ∙ ap (λ (t : WordsState). object_made t.config (call_of p).op) (sym table)
@@ -79,10 +84,12 @@ pub place_found : (p : PassState) (x : Option Op) (found : Option Place) → IsT
     → place_on_pages p.table.config.resident (now_of p).words.pages (object_for p) ≡ found → place_now_for p ≡ found
 place_found p x found turn h u fit =
     let acts = new_is_acting (call_of p) u.new in
-    sym (first_fit_finds_the_place p.table.config p.seen h (object_for p) (unplaced_settled p (acting_now p x turn acts) (acting_caller p acts) u h)) ∙ fit
+    sym (first_fit_finds_the_place p.table.config p.seen h (object_for p)
+    (unplaced_settled p (acting_now p x turn acts) (acting_caller p acts) u h)) ∙ fit
 
 pub fit_within : (p : PassState) (x : Option Op) (place : Place) → IsTurn p x → IsHistory p.table.config p.seen → IsUnplaced p
-    → place_on_pages p.table.config.resident (now_of p).words.pages (object_for p) ≡ Some place → place.page < length (now_of p).words.pages
+    → place_on_pages p.table.config.resident (now_of p).words.pages (object_for p) ≡ Some place
+    → place.page < length (now_of p).words.pages
 fit_within p x place turn h u fit =
     let k = knows_place p x place turn h (goes_to p place u fit) in
     let within = k.within in

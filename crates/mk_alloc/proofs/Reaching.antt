@@ -77,7 +77,8 @@ pub record IsCallers (p : PassState) : Type 0 where
   pub number : ℕ
   pub is : p.seat ≡ Caller number
 
-own_adds : (p : PassState) (k : ℕ) → p.seat ≡ Caller k → (seen others : List Event) (s : Step) (es : List Decided) → AreOfOthers (p.seat ∷ []) others
+own_adds : (p : PassState) (k : ℕ) → p.seat ≡ Caller k → (seen others : List Event) (s : Step) (es : List Decided)
+    → AreOfOthers (p.seat ∷ []) others
     → (a : Option Answer) → answer_decided p.table.config (left p.table.config (seen ++ others)).now (event_of p s) ≡ a
     → entry_of k (flight_of (left p.table.config (seen ++ others)).now p.seat).op a ≡ es
     → own_calls p (seen ++ others ++ event_of p s ∷ []) ≡ own_calls p seen ++ es
@@ -86,7 +87,8 @@ own_adds p k is seen others s es of_others a answer entry =
     (λ (x : Seat). AreOfOthers (x ∷ []) others
     → answer_decided p.table.config (left p.table.config (seen ++ others)).now (record { seat = x; step = s }) ≡ a
     → entry_of k (flight_of (left p.table.config (seen ++ others)).now x).op a ≡ es
-    → own_calls (record p { seat = x }) (seen ++ others ++ record { seat = x; step = s } ∷ []) ≡ own_calls (record p { seat = x }) seen ++ es)
+    → own_calls (record p { seat = x }) (seen ++ others ++ record { seat = x; step = s } ∷ []) ≡ own_calls
+    (record p { seat = x }) seen ++ es)
     (sym is)
     (λ o d e.
     own_step_adds p.table.config k seen others s (flight_of (left p.table.config (seen ++ others)).now (Caller k)).op a o refl d
@@ -99,7 +101,8 @@ GoesOn p A C =
     (w v : World) → A w → IsAsLeft p.seat w v → Known p.table.config v.now → AreOfPages p.table.config.pages v.now.words → C v
 
 -- One step further.
-pub reaches_on : (kinds : Step → Bool) (p q r : PassState) (A B : World → Type 0) (ds es : List Decided) (s : Step) → Reaches kinds p A ds q
+pub reaches_on : (kinds : Step → Bool) (p q r : PassState) (A B : World → Type 0) (ds es : List Decided) (s : Step)
+    → Reaches kinds p A ds q
     → Acts q s r → Has q.seats q.seat → IsHistory r.table.config r.seen → kinds s ≡ true → IsCallers p → GoesOn p A (StepsTo p s B es)
     → Reaches kinds p B (ds ++ es) r
 reaches_on kinds p q r A B ds es s reached acts own history allowed caller next =
@@ -120,7 +123,8 @@ reaches_on kinds p q r A B ds es s reached acts own history allowed caller next 
     }
 
 -- a step that decides nothing
-pub reaches_still : (kinds : Step → Bool) (p q r : PassState) (A B : World → Type 0) (ds : List Decided) (s : Step) → Reaches kinds p A ds q
+pub reaches_still : (kinds : Step → Bool) (p q r : PassState) (A B : World → Type 0) (ds : List Decided) (s : Step)
+    → Reaches kinds p A ds q
     → Acts q s r → Has q.seats q.seat → IsHistory r.table.config r.seen → kinds s ≡ true → IsCallers p → may_decide s ≡ false
     → GoesOn p A (λ v. B (world_behind p.table.config v (event_of p s))) → Reaches kinds p B ds r
 reaches_still kinds p q r A B ds s reached acts own history allowed caller idle next =

@@ -58,11 +58,13 @@ pub record KnowsPlace (p : PassState) (place : Place) : Type 0 where
   pub fit : place_on_pages p.table.config.resident (now_of p).words.pages (object_for p) ≡ Some place
   pub unused : header_at (now_of p).words place.page ≡ 0 → used_at (now_of p).words place.page ≡ 0
   pub within : place.page < p.table.config.pages
-  pub fits : FitsOnFreePages p.table.config.resident (now_of p).words.pages (object_for p) place ⊎ FitsInBlock (now_of p).words.pages (object_for p) place
+  pub fits : FitsOnFreePages p.table.config.resident (now_of p).words.pages (object_for p) place ⊎ FitsInBlock
+      (now_of p).words.pages (object_for p) place
 
 fit_of : (c : Config) (m : Moment) (f : Flight) (place : Place) → is_undecided_new f ≡ true → m.seats.holding.placing ≡ Unplaced
     → place_now c m f ≡ Some place → place_on_pages c.resident m.words.pages (object_made c f.op) ≡ Some place
-fit_of c m f place new at placed = sym (ap (λ (x : Placing). place_in c.resident m.words.pages (object_made c f.op) x) at) ∙ sym (under new) ∙ placed
+fit_of c m f place new at placed = sym (ap
+    (λ (x : Placing). place_in c.resident m.words.pages (object_made c f.op) x) at) ∙ sym (under new) ∙ placed
   where
     under : is_undecided_new f ≡ true → place_now c m f ≡ place_in c.resident m.words.pages (object_made c f.op) m.seats.holding.placing
     under is = rw is refl
@@ -72,7 +74,8 @@ within_of : (limit : ℕ) (pages : List Page) (o : Object) (place : Place) (n : 
 within_of limit pages o place n sized len (inl f) = let some = pages_some o sized in let w = f.within in omega arith
 within_of limit pages o place n sized len (inr b) = let w = b.within in omega arith
 
-pub knows_place : (p : PassState) (o : Option Op) (place : Place) → IsTurn p o → IsHistory p.table.config p.seen → GoesTo p place → KnowsPlace p place
+pub knows_place : (p : PassState) (o : Option Op) (place : Place) → IsTurn p o → IsHistory p.table.config p.seen
+    → GoesTo p place → KnowsPlace p place
 knows_place p o place turn h goes =
     let c : Config = p.table.config in
     let known = known_left c p.seen h.within_limits h.enabled in
@@ -98,7 +101,8 @@ knows_place p o place turn h goes =
       };
       fit = fit;
       unused = λ z.
-          free_unused (scene_of c (object_now c (now_of p)) (is_phase (now_of p).words 4) (now_of p).words.marks (ground_of (world_of p))) place.page order.laid.scene z;
+          free_unused (scene_of c (object_now c (now_of p)) (is_phase (now_of p).words 4) (now_of p).words.marks
+          (ground_of (world_of p))) place.page order.laid.scene z;
       within = within_of c.resident (now_of p).words.pages (object_for p) place c.pages sized lengths found;
       fits = found;
     }
@@ -110,7 +114,8 @@ free_pages_of p place k z = elim k.fits [
   | inl free ↦ free
   | inr block ↦
       let some = pages_some (object_for p) k.sized in
-      absurd (part_not_free (object_for p) 0 (header_made (object_for p) 0) (made_shows (object_for p) 0 k.sized (omega arith)) (sym block.header ∙ z))
+      absurd (part_not_free (object_for p) 0 (header_made (object_for p) 0)
+      (made_shows (object_for p) 0 k.sized (omega arith)) (sym block.header ∙ z))
 ]
 
 pub block_of : (p : PassState) (place : Place) → KnowsPlace p place → header_at (now_of p).words place.page ≢ 0
@@ -124,29 +129,34 @@ block_of p place k some = elim k.fits [
 ]
 
 -- The cell of the place isn't used.
-pub place_unused : (p : PassState) (place : Place) → KnowsPlace p place → has_bit (used_at (now_of p).words place.page) place.index ≡ false
+pub place_unused : (p : PassState) (place : Place) → KnowsPlace p place
+    → has_bit (used_at (now_of p).words place.page) place.index ≡ false
 place_unused p place k = elim (cases_eq (header_at (now_of p).words place.page) 0) [
   | inl z ↦ no_bit (used_at (now_of p).words place.page) place.index (k.unused z)
   | inr some ↦ found_clear p.table.config.resident (now_of p).words.pages (object_for p) place k.sized k.fit some
 ]
 
-phase_kept : (s : Seat) (o : Object) (place : Place) (c : Config) (w u v : World) → Serving c s o place w u → IsAsLeft s u v → phase_of v.now.words ≡ phase_of w.now.words
+phase_kept : (s : Seat) (o : Object) (place : Place) (c : Config) (w u v : World) → Serving c s o place w u
+    → IsAsLeft s u v → phase_of v.now.words ≡ phase_of w.now.words
 phase_kept s o place c w u v at kept = ap (λ (x : Steady). x.phase) kept.steady ∙ ap (λ (x : Steady). x.phase) at.steady
 
 pub out_of_stop : (m n : Moment) → phase_of n.words ≡ phase_of m.words → IsOutOfStop m → IsOutOfStop n
 out_of_stop m n same (inl none) = inl (same ∙ none)
 out_of_stop m n same (inr one) = inr (same ∙ one)
 
-pub served_acting : (p : PassState) (place : Place) (v : World) → KnowsPlace p place → Serving p.table.config p.seat (object_for p) place (world_of p) v
+pub served_acting : (p : PassState) (place : Place) (v : World) → KnowsPlace p place
+    → Serving p.table.config p.seat (object_for p) place (world_of p) v
     → IsActing p.table.config v.now p.seat
 served_acting p place v k at = record { there = k.acting.there; acts = ap (λ (f : Flight). is_acting f.stage) at.call ∙ k.acting.acts }
 
-pub served_new : (p : PassState) (place : Place) (v : World) → GoesTo p place → Serving p.table.config p.seat (object_for p) place (world_of p) v
+pub served_new : (p : PassState) (place : Place) (v : World) → GoesTo p place
+    → Serving p.table.config p.seat (object_for p) place (world_of p) v
     → is_undecided_new (flight_of v.now p.seat) ≡ true
 served_new p place v goes at = ap (λ (f : Flight). is_undecided_new f) at.call ∙ goes.unplaced.new
 
 -- `mark`
-module _ (p : PassState) (place : Place) (goes : GoesTo p place) (k : KnowsPlace p place) (free : header_at (now_of p).words place.page ≡ 0) where
+module _ (p : PassState) (place : Place) (goes : GoesTo p place) (k : KnowsPlace p place)
+    (free : header_at (now_of p).words place.page ≡ 0) where
   frees : FitsOnFreePages p.table.config.resident (now_of p).words.pages (object_for p) place
   frees = free_pages_of p place k free
 
@@ -155,21 +165,25 @@ module _ (p : PassState) (place : Place) (goes : GoesTo p place) (k : KnowsPlace
       may_mark_place p.table.config (now_of p) p.seat k.acting place.page (bits_made (object_for p)) k.within one
       (serving_marks p.table.config p.seat (object_for p) place (world_of p) (world_of p) k.serving one free)
 
-  free_now : (w v : World) → IsAsLeft p.seat (world_of p) v → (d : ℕ) → d < pages_made (object_for p) → header_at v.now.words (place.page + d) ≡ 0
+  free_now : (w v : World) → IsAsLeft p.seat (world_of p) v → (d : ℕ) → d < pages_made (object_for p)
+      → header_at v.now.words (place.page + d) ≡ 0
   free_now w v kept d lt = ap (λ (x : Steady). (slice_index_or x.pages (place.page + d) free_page).header) kept.steady ∙ frees.free d lt
 
-  pub marks_first : (q : PassState) → phase_of (now_of p).words ≡ 1 → Acts p (step.Mark place.page (bits_made (object_for p))) q → Has p.seats p.seat
+  pub marks_first : (q : PassState) → phase_of (now_of p).words ≡ 1
+      → Acts p (step.Mark place.page (bits_made (object_for p))) q → Has p.seats p.seat
       → IsHistory q.table.config q.seen → HasCarved p place 0 q
   marks_first q one a own history =
       reaches_still is_placing p p q (λ w. w ≡ world_of p) (λ w. Carving p.table.config p.seat (object_for p) place (world_of p) w 0) []
-      (step.Mark place.page (bits_made (object_for p))) (reaches_nothing is_placing p (λ w. w ≡ world_of p) refl) a own history refl k.caller refl
+      (step.Mark place.page (bits_made (object_for p)))
+      (reaches_nothing is_placing p (λ w. w ≡ world_of p) refl) a own history refl k.caller refl
       (λ w v here kept known pages.
       let kept : IsAsLeft p.seat (world_of p) v = subst (λ (x : World). IsAsLeft p.seat x v) here kept in
       let serving = serving_left p.table.config p.seat (object_for p) place (world_of p) (world_of p) v k.serving kept in
       let call = acting_has_call p.table.config v.now p.seat known.orderly.flights (served_acting p place v k serving) in
       let some = pages_some (object_for p) k.sized in
       carving_marked p.table.config p.seat (object_for p) place (world_of p) v serving call (served_new p place v goes serving)
-      (ap (λ (x : Steady). x.phase) kept.steady ∙ one) (free_now w v kept) some (let marks = pages.marks in let within = k.within in omega arith))
+      (ap (λ (x : Steady). x.phase) kept.steady ∙ one) (free_now w v kept) some
+      (let marks = pages.marks in let within = k.within in omega arith))
 
   pub marks_none : phase_of (now_of p).words ≢ 1 → HasCarved p place 0 p
   marks_none other =
@@ -189,7 +203,8 @@ module _ (p : PassState) (place : Place) (goes : GoesTo p place) (k : KnowsPlace
       let ends = frees.within in
       let lengths = k.serving.pages in
       subst (λ (x : PassState). IsEnabledTo x (step.Head (place.page + n) (header_made (object_for p) n))) (sym reached.same)
-      (may_carve p.table.config w.now p.seat (served_acting p place w k reached.world.serving) (place.page + n) (header_made (object_for p) n)
+      (may_carve p.table.config w.now p.seat (served_acting p place w k reached.world.serving) (place.page + n)
+      (header_made (object_for p) n)
       (omega arith)
       (out_of_stop (now_of p) w.now (ap (λ (x : Steady). x.phase) reached.world.serving.steady) goes.unplaced.phase)
       (made_is_mapped (object_for p) n k.sized lt)
@@ -202,7 +217,8 @@ module _ (p : PassState) (place : Place) (goes : GoesTo p place) (k : KnowsPlace
       let ends = frees.within in
       let lengths = k.serving.pages in
       reaches_still is_placing p q r (λ w. Carving p.table.config p.seat (object_for p) place (world_of p) w n)
-      (λ w. Carving p.table.config p.seat (object_for p) place (world_of p) w (n + 1)) [] (step.Head (place.page + n) (header_made (object_for p) n))
+      (λ w. Carving p.table.config p.seat (object_for p) place (world_of p) w (n + 1)) []
+      (step.Head (place.page + n) (header_made (object_for p) n))
       reached a own history refl k.caller refl
       (λ w v here kept known pages.
       let on = carving_left p.table.config p.seat (object_for p) place (world_of p) w v n here kept in

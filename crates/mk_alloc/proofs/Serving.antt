@@ -39,7 +39,8 @@ place_same c u v f holding pages =
     ap (λ (h : Holding). place_now c (record v.now { seats = record v.now.seats { holding = h } }) f) holding
     ∙ ap (λ (ps : List Page). place_now c (record u.now { words = record u.now.words { pages = ps } }) f) pages
 
-pub serving_left : (c : Config) (s : Seat) (o : Object) (place : Place) (w u v : World) → Serving c s o place w u → IsAsLeft s u v → Serving c s o place w v
+pub serving_left : (c : Config) (s : Seat) (o : Object) (place : Place) (w u v : World) → Serving c s o place w u
+    → IsAsLeft s u v → Serving c s o place w v
 serving_left c s o place w u v at left =
     let pages : v.now.words.pages ≡ u.now.words.pages = ap (λ (x : Steady). x.pages) left.steady in
     record {
@@ -58,13 +59,16 @@ marked_left o place s u v left h =
     let phase : (v.now.words.phase % 8) ≡ (u.now.words.phase % 8) = ap (λ (x : Steady). x.phase) left.steady in
     or_on (not (is_phase u.now.words 1)) _ (not (is_phase v.now.words 1)) _
     (λ e. ap (λ n. not (n == 1)) phase ∙ e)
-    (without_on (bits_made o) (slice_index u.now.words.marks place.page) (slice_index v.now.words.marks place.page) (left.marks place.page)) h
+    (without_on (bits_made o) (slice_index u.now.words.marks place.page) (slice_index v.now.words.marks place.page)
+    (left.marks place.page)) h
 
-pub carving_left : (c : Config) (s : Seat) (o : Object) (place : Place) (w u v : World) (n : ℕ) → Carving c s o place w u n → IsAsLeft s u v
+pub carving_left : (c : Config) (s : Seat) (o : Object) (place : Place) (w u v : World) (n : ℕ)
+    → Carving c s o place w u n → IsAsLeft s u v
     → Carving c s o place w v n
 carving_left c s o place w u v n at left =
     let pages : v.now.words.pages ≡ u.now.words.pages = ap (λ (x : Steady). x.pages) left.steady in
-    let header : (p : ℕ) → header_at v.now.words p ≡ header_at u.now.words p = λ p. ap (λ (ps : List Page). (slice_index_or ps p free_page).header) pages in
+    let header : (p : ℕ) → header_at v.now.words p ≡ header_at u.now.words p = λ p. ap (λ (ps : List Page).
+    (slice_index_or ps p free_page).header) pages in
     record {
       serving = serving_left c s o place w u v at.serving left;
       stand = λ d lt. header (place.page + d) ∙ at.stand d lt;
@@ -74,7 +78,8 @@ carving_left c s o place w u v n at left =
 
 -- The first step that serves fixes the place.
 
-chosen_place : (resident : ℕ) (pages : List Page) (o : Object) (placing : Placing) (place : Place) → place_in resident pages o placing ≡ Some place
+chosen_place : (resident : ℕ) (pages : List Page) (o : Object) (placing : Placing) (place : Place)
+    → place_in resident pages o placing ≡ Some place
     → is_used_once placing ≡ false → chosen placing (Some place) ≡ Chosen place
 chosen_place resident pages o Unplaced place h once = refl
 chosen_place resident pages o (Chosen x) place h once = cc
@@ -90,20 +95,24 @@ new_placed c m f place new placed once =
     under : is_undecided_new f ≡ true → place_now c m f ≡ place_in c.resident m.words.pages (object_made c f.op) m.seats.holding.placing
     under is = rw is refl
 
-pub chosen_now : (c : Config) (m : Moment) (f : Flight) (place : Place) → is_undecided_new f ≡ true → m.seats.holding.placing ≡ Chosen place
+pub chosen_now : (c : Config) (m : Moment) (f : Flight) (place : Place) → is_undecided_new f ≡ true
+    → m.seats.holding.placing ≡ Chosen place
     → place_now c m f ≡ Some place
 chosen_now c m f place new is = rw (new, is) refl
 
 -- A header is stored, and no other word of the pages changes.
 
-header_set : (ps : List Page) (p q : ℕ) (x : Page) → q ≢ p → (slice_index_or (slice_set ps p x) q free_page).header ≡ (slice_index_or ps q free_page).header
+header_set : (ps : List Page) (p q : ℕ) (x : Page) → q ≢ p
+    → (slice_index_or (slice_set ps p x) q free_page).header ≡ (slice_index_or ps q free_page).header
 header_set ps p q x ne = ap (λ (y : Page). y.header) (get_or-set_other ps p q x free_page ne)
 
 header_here : (ps : List Page) (p : ℕ) (x : Page) → p < length ps → (slice_index_or (slice_set ps p x) p free_page).header ≡ x.header
 header_here ps p x lt = ap (λ (y : Page). y.header) (get_or-set_same ps p x free_page lt)
 
 used_kept : (ps : List Page) (p q h : ℕ)
-    → (slice_index_or (slice_set ps p (record { header = h; used = (slice_index_or ps p free_page).used })) q free_page).used ≡ (slice_index_or ps q free_page).used
+    → (slice_index_or (slice_set ps p
+    (record { header = h; used = (slice_index_or ps p free_page).used })) q free_page).used ≡
+    (slice_index_or ps q free_page).used
 used_kept ps p q h = elim (cases_eq q p) [
   | inl e ↦ elim (cases_lt p (length ps)) [
     | inl lt ↦
@@ -116,7 +125,8 @@ used_kept ps p q h = elim (cases_eq q p) [
 ]
 
 -- the next page gets its header
-pub carving_more : (c : Config) (s : Seat) (o : Object) (place : Place) (w v : World) (n : ℕ) → Carving c s o place w v n → HasCall c v.now s
+pub carving_more : (c : Config) (s : Seat) (o : Object) (place : Place) (w v : World) (n : ℕ)
+    → Carving c s o place w v n → HasCall c v.now s
     → is_undecided_new (flight_of v.now s) ≡ true → IsOutOfStop v.now → n < pages_made o → place.page + n < c.pages
     → Carving c s o place w (world_behind c v (record { seat = s; step = step.Head (place.page + n) (header_made o n) })) (n + 1)
 carving_more c s o place w v n at (OfCaller k lt) new low within room =
@@ -137,7 +147,8 @@ carving_more c s o place w v n at (OfCaller k lt) new low within room =
         pages = length-set v.now.words.pages p _ ∙ at.serving.pages;
       };
       stand = λ d le. elim (cases_eq d n) [
-        | inl e ↦ ap (λ i. header_at u.now.words (place.page + i)) e ∙ header_here v.now.words.pages p _ there ∙ ap (λ i. header_made o i) (sym e)
+        | inl e ↦ ap (λ i. header_at u.now.words (place.page + i)) e ∙ header_here v.now.words.pages p _ there
+            ∙ ap (λ i. header_made o i) (sym e)
         | inr ne ↦ header_set v.now.words.pages p (place.page + d) _ (λ e. ne (omega arith)) ∙ at.stand d (omega arith)
       ];
       free = λ d le lt. header_set v.now.words.pages p (place.page + d) _ (λ e. absurd (omega arith)) ∙ at.free d (omega arith) lt;
@@ -160,7 +171,8 @@ next_is w first count wanted n near not_yet before =
 
 pub carving_carves : (c : Config) (s : Seat) (o : Object) (place : Place) (w v : World) (n : ℕ) → IsSized o → Carving c s o place w v n
     → n < pages_made o
-    → carves v.now.words (object_made c (flight_of v.now s).op) (place_now c v.now (flight_of v.now s)) (place.page + n) (header_made o n) ≡ true
+    → carves v.now.words (object_made c (flight_of v.now s).op) (place_now c v.now (flight_of v.now s))
+    (place.page + n) (header_made o n) ≡ true
 carving_carves c s o place w v n sized at within =
     ap (λ (x : Object). carves v.now.words x (place_now c v.now (flight_of v.now s)) (place.page + n) (header_made o n)) at.serving.object
     ∙ ap (λ (x : Option Place). carves v.now.words o x (place.page + n) (header_made o n)) at.serving.placed
@@ -179,12 +191,14 @@ ready_left c s o place w u v at left =
       stand = λ d lt. ap (λ (ps : List Page). (slice_index_or ps (place.page + d) free_page).header) pages ∙ at.stand d lt;
     }
 
-pub ready_carved : (c : Config) (s : Seat) (o : Object) (place : Place) (w v : World) → Carving c s o place w v (pages_made o) → IsReady c s o place w v
+pub ready_carved : (c : Config) (s : Seat) (o : Object) (place : Place) (w v : World)
+    → Carving c s o place w v (pages_made o) → IsReady c s o place w v
 ready_carved c s o place w v at = record { serving = at.serving; stand = at.stand }
 
 pub ready_takes : (c : Config) (s : Seat) (o : Object) (place : Place) (w v : World) (used : ℕ) → IsReady c s o place w v
     → used_at w.now.words place.page ≡ used → has_bit used place.index ≡ false
-    → takes_cell v.now.words (object_made c (flight_of v.now s).op) (place_now c v.now (flight_of v.now s)) place.page (used + 2 ^ place.index) ≡ true
+    → takes_cell v.now.words (object_made c (flight_of v.now s).op) (place_now c v.now (flight_of v.now s)) place.page
+    (used + 2 ^ place.index) ≡ true
 ready_takes c s o place w v used at known unused =
     let same : used_at v.now.words place.page ≡ used = at.serving.used ∙ known in
     let value = used + 2 ^ place.index in
@@ -215,7 +229,8 @@ taken_left c s o place w u v at left =
       placing = ap (λ (h : Holding). h.placing) left.holding ∙ at.placing;
     }
 
-pub taken_behind : (c : Config) (s : Seat) (o : Object) (place : Place) (w v : World) (p value : ℕ) → Serving c s o place w v → HasCall c v.now s
+pub taken_behind : (c : Config) (s : Seat) (o : Object) (place : Place) (w v : World) (p value : ℕ)
+    → Serving c s o place w v → HasCall c v.now s
     → IsOutOfStop v.now → IsTakenAt c s o place w (world_behind c v (record { seat = s; step = step.Used p value }))
 taken_behind c s o place w v p value at (OfCaller k lt) low =
     let call = call_behind c v.now k (step.Used p value) lt in

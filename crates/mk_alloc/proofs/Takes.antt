@@ -83,14 +83,17 @@ small_index p place k = elim (cases_eq (header_at (now_of p).words place.page) 0
 ]
 
 -- The call is settled before it is served, so few words are held.
-pub unplaced_settled : (p : PassState) → IsActing p.table.config (now_of p) p.seat → IsCallers p → IsUnplaced p → IsHistory p.table.config p.seen
+pub unplaced_settled : (p : PassState) → IsActing p.table.config (now_of p) p.seat → IsCallers p → IsUnplaced p
+    → IsHistory p.table.config p.seen
     → IsSettled (world_of p)
 unplaced_settled p at caller unplaced h = settled p.seat caller.number caller.is at.there unplaced.new
   where
-    settled : (s : Seat) (j : ℕ) → s ≡ Caller j → seat_exists p.table.config s ≡ true → is_undecided_new (flight_of (now_of p) s) ≡ true → IsSettled (world_of p)
+    settled : (s : Seat) (j : ℕ) → s ≡ Caller j → seat_exists p.table.config s ≡ true
+        → is_undecided_new (flight_of (now_of p) s) ≡ true → IsSettled (world_of p)
     settled s j is there new =
         let here : nat_lt j p.table.config.callers ≡ true = ap (λ (x : Seat). seat_exists p.table.config x) (sym is) ∙ there in
-        unplaced_settles p.table.config p.seen j h (ltb-true j p.table.config.callers here) (ap (λ (x : Seat). is_undecided_new (flight_of (now_of p) x)) (sym is) ∙ new)
+        unplaced_settles p.table.config p.seen j h (ltb-true j p.table.config.callers here)
+        (ap (λ (x : Seat). is_undecided_new (flight_of (now_of p) x)) (sym is) ∙ new)
         (off_four (now_of p) unplaced.phase) unplaced.placing
 
 pub few_held : (p : PassState) (place : Place) → KnowsPlace p place → GoesTo p place → IsHistory p.table.config p.seen
@@ -121,7 +124,8 @@ module _ (p : PassState) (place : Place) (goes : GoesTo p place) (k : KnowsPlace
   pub used_on : (q r : PassState) (value : ℕ) → MayTake p place q → Acts q (step.Used place.page value) r → Has q.seats q.seat
       → IsHistory r.table.config r.seen → HasTaken r
   used_on q r value reached a own history =
-      reaches_still is_placing p q r (IsReady c p.seat (object_for p) place (world_of p)) (IsTakenAt c p.seat (object_for p) place (world_of p)) []
+      reaches_still is_placing p q r (IsReady c p.seat (object_for p) place (world_of p))
+      (IsTakenAt c p.seat (object_for p) place (world_of p)) []
       (step.Used place.page value) reached a own history refl k.caller refl
       (λ w v here kept known pages.
       let on = ready_left c p.seat (object_for p) place (world_of p) w v here kept in
@@ -147,7 +151,8 @@ module _ (p : PassState) (place : Place) (goes : GoesTo p place) (k : KnowsPlace
   operands h = by p.seat k.caller.number k.caller.is
     where
       by : (s : Seat) (j : ℕ) → s ≡ Caller j → has_operands c (flight_of (now_of p) s).op ≡ true
-      by s j is = subst (λ (x : Seat). has_operands c (flight_of (now_of p) x).op ≡ true) (sym is) ((known_left c p.seen h.within_limits h.enabled).operands j)
+      by s j is = subst (λ (x : Seat). has_operands c (flight_of (now_of p) x).op ≡ true) (sym is)
+          ((known_left c p.seen h.within_limits h.enabled).operands j)
 
   pub grant_admits : (q : PassState) → HasTaken q → IsHistory q.table.config q.seen → IsHistory c p.seen → IsAdmittedTo q step.Grant
   grant_admits q reached history h =
@@ -158,11 +163,13 @@ module _ (p : PassState) (place : Place) (goes : GoesTo p place) (k : KnowsPlace
       (ap (λ (f : Flight). has_operands c f.op) reached.world.call ∙ operands h) here)
     where
       by : (s : Seat) → s ≡ Caller k.caller.number → seat_exists c s ≡ true → is_undecided_new (flight_of (left c q.seen).now s) ≡ true
-          → has_operands c (flight_of (left c q.seen).now s).op ≡ true → IsHistory c q.seen → IsAdmittedBehind c q.seen (record { seat = s; step = step.Grant })
+          → has_operands c (flight_of (left c q.seen).now s).op ≡ true → IsHistory c q.seen
+          → IsAdmittedBehind c q.seen (record { seat = s; step = step.Grant })
       by s is there new op here =
           subst
           (λ (x : Seat). seat_exists c x ≡ true → is_undecided_new (flight_of (left c q.seen).now x) ≡ true
-          → has_operands c (flight_of (left c q.seen).now x).op ≡ true → IsAdmittedBehind c q.seen (record { seat = x; step = step.Grant }))
+          → has_operands c (flight_of (left c q.seen).now x).op ≡ true
+          → IsAdmittedBehind c q.seen (record { seat = x; step = step.Grant }))
           (sym is)
           (λ t n o. grant_admitted c q.seen k.caller.number here (ltb-true k.caller.number c.callers t) n o)
           there new op
@@ -170,10 +177,12 @@ module _ (p : PassState) (place : Place) (goes : GoesTo p place) (k : KnowsPlace
   abbrev pub HasGranted : PassState → Type 0
   HasGranted q = Reaches is_placing p (IsGrantedAt p.table.config p.seat place (world_of p)) (entry_for p answer.Done) q
 
-  grant_decides : (v : World) (s : Seat) (j : ℕ) → s ≡ Caller j → answer_decided c v.now (record { seat = s; step = step.Grant }) ≡ Some answer.Done
+  grant_decides : (v : World) (s : Seat) (j : ℕ) → s ≡ Caller j
+      → answer_decided c v.now (record { seat = s; step = step.Grant }) ≡ Some answer.Done
   grant_decides v s j is = ap (λ (x : Seat). answer_decided c v.now (record { seat = x; step = step.Grant })) is
 
-  pub grant_on : (q r : PassState) → HasTaken q → Acts q step.Grant r → Has q.seats q.seat → IsHistory r.table.config r.seen → IsHistory c p.seen
+  pub grant_on : (q r : PassState) → HasTaken q → Acts q step.Grant r → Has q.seats q.seat
+      → IsHistory r.table.config r.seen → IsHistory c p.seen
       → HasGranted r
   grant_on q r reached a own history h =
       reaches_on is_placing p q r (IsTakenAt c p.seat (object_for p) place (world_of p)) (IsGrantedAt c p.seat place (world_of p)) []
@@ -211,12 +220,15 @@ module _ (p : PassState) (place : Place) (goes : GoesTo p place) (k : KnowsPlace
       (may_tally c w.now p.seat (granted_acting w reached.world) tally.Held n)
 
   abbrev pub HasCounted : ℕ → PassState → Type 0
-  HasCounted n q = Reaches is_placing p (λ w. IsGrantedAt p.table.config p.seat place (world_of p) w × (w.now.words.held ≡ n)) (entry_for p answer.Done) q
+  HasCounted n q = Reaches is_placing p (λ w. IsGrantedAt p.table.config p.seat place (world_of p) w ×
+      (w.now.words.held ≡ n)) (entry_for p answer.Done) q
 
-  pub tally_on : (q r : PassState) (n : ℕ) → HasGranted q → Acts q (step.Tally tally.Held n) r → Has q.seats q.seat → IsHistory r.table.config r.seen
+  pub tally_on : (q r : PassState) (n : ℕ) → HasGranted q → Acts q (step.Tally tally.Held n) r → Has q.seats q.seat
+      → IsHistory r.table.config r.seen
       → IsHistory c p.seen → HasCounted n r
   tally_on q r n reached a own history h =
-      reaches_still is_placing p q r (IsGrantedAt c p.seat place (world_of p)) (λ w. IsGrantedAt c p.seat place (world_of p) w × (w.now.words.held ≡ n))
+      reaches_still is_placing p q r (IsGrantedAt c p.seat place (world_of p))
+      (λ w. IsGrantedAt c p.seat place (world_of p) w × (w.now.words.held ≡ n))
       (entry_for p answer.Done) (step.Tally tally.Held n) reached a own history refl k.caller refl
       (λ w v here kept known pages.
       let on = granted_left c p.seat place (world_of p) w v (register_small c (call_of p) goes.unplaced.new (operands h)) here kept in
@@ -233,7 +245,8 @@ module _ (p : PassState) (place : Place) (goes : GoesTo p place) (k : KnowsPlace
       → HasCounted (held + size) r → HeldIsExact r
   counted_held r held size before words reached =
       let w : World = left c r.seen in
-      let xs : w.allocations ≡ (world_of p).allocations ++ object_at_place c (call_of p) place ∷ [] = ap (λ (x : Steady). x.allocations) reached.world.0.steady in
+      let xs : w.allocations ≡ (world_of p).allocations ++ object_at_place c (call_of p) place ∷ [] = ap
+      (λ (x : Steady). x.allocations) reached.world.0.steady in
       subst (λ (x : PassState). HeldIsExact x) (sym reached.same)
       (reached.world.1 ∙ ap (λ n. n + size) before ∙ ap (λ n. held_words c (world_of p).allocations + n) (words ∙ sym object_words)
       ∙ sym (held_one_more c (world_of p).allocations (object_at_place c (call_of p) place) refl refl)

@@ -37,7 +37,8 @@ left_joined s w u v a b =
 pub call_behind : (c : Config) (m : Moment) (k : ℕ) (x : Step) → k < length m.seats.flights
     → flight_of (moment_behind c m (record { seat = Caller k; step = x })) (Caller k)
     ≡ (progress c m (flight_of m (Caller k)) (found c m (record { seat = Caller k; step = x })) x).flight
-call_behind c m k x lt = get_or-set_same m.seats.flights k (progress c m (flight_of m (Caller k)) (found c m (record { seat = Caller k; step = x })) x).flight at_rest lt
+call_behind c m k x lt = get_or-set_same m.seats.flights k
+    (progress c m (flight_of m (Caller k)) (found c m (record { seat = Caller k; step = x })) x).flight at_rest lt
 
 -- A seat that is acting has a call.
 pub data HasCall (c : Config) (m : Moment) : Seat → Type 0 where
@@ -70,12 +71,47 @@ steady_is_plain _ h = cc
 pub look_leaves : (c : Config) (w : World) (s : Seat) (x : Word) → HasCall c w.now s → IsPlain x
     → IsAsLeft s w (world_behind c w (record { seat = s; step = step.Look x }))
 look_leaves c w s x (OfCaller k lt) (OfHead p) =
-    record { call = call_behind c w.now k (step.Look (word.Head p)) lt; holding = refl; steady = refl; marks = grows_same w.now.words.marks; registers = λ j r is lt. refl }
+    record {
+      call = call_behind c w.now k (step.Look
+          (word.Head p)) lt;
+      holding = refl;
+      steady = refl;
+      marks = grows_same w.now.words.marks;
+      registers = λ j r is lt. refl;
+    }
 look_leaves c w s x (OfCaller k lt) (OfUsed p) =
-    record { call = call_behind c w.now k (step.Look (word.Used p)) lt; holding = refl; steady = refl; marks = grows_same w.now.words.marks; registers = λ j r is lt. refl }
+    record {
+      call = call_behind c w.now k (step.Look
+          (word.Used p)) lt;
+      holding = refl;
+      steady = refl;
+      marks = grows_same w.now.words.marks;
+      registers = λ j r is lt. refl;
+    }
 look_leaves c w s x (OfCaller k lt) OfHeld =
-    record { call = call_behind c w.now k (step.Look word.Held) lt; holding = refl; steady = refl; marks = grows_same w.now.words.marks; registers = λ j r is lt. refl }
+    record {
+      call = call_behind c w.now k
+          (step.Look word.Held) lt;
+      holding = refl;
+      steady = refl;
+      marks = grows_same w.now.words.marks;
+      registers = λ j r is lt. refl;
+    }
 look_leaves c w s x (OfCaller k lt) OfFresh =
-    record { call = call_behind c w.now k (step.Look word.Fresh) lt; holding = refl; steady = refl; marks = grows_same w.now.words.marks; registers = λ j r is lt. refl }
+    record {
+      call = call_behind c w.now k
+          (step.Look word.Fresh) lt;
+      holding = refl;
+      steady = refl;
+      marks = grows_same w.now.words.marks;
+      registers = λ j r is lt. refl;
+    }
 look_leaves c w s x (OfCaller k lt) OfPhase =
-    record { call = call_behind c w.now k (step.Look word.Phase) lt; holding = refl; steady = refl; marks = grows_same w.now.words.marks; registers = λ j r is lt. refl }
+    record {
+      call = call_behind c w.now k
+          (step.Look word.Phase) lt;
+      holding = refl;
+      steady = refl;
+      marks = grows_same w.now.words.marks;
+      registers = λ j r is lt. refl;
+    }

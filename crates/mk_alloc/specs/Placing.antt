@@ -1,5 +1,6 @@
 -- Placing the object of a New: what is asked, and what comes of it.
 use Rattle.std.specs.Prelude.{◌≡◌, ℕ, ◌%◌, ◌^◌, ◌⊎◌, Bool, true, false, List, [], ◌∷◌, ◌++◌, Option, Some, None}
+use Rattle.mk_geom.specs.declared.pages.Page.{Page}
 use Rattle.mk_geom.specs.declared.pages.Place.{Place}
 use Rattle.mk_geom.specs.Addresses.{address_of}
 use Rattle.mk_core.specs.declared.config.Config.{Config}
@@ -17,7 +18,7 @@ use Rattle.mk_core.specs.Accesses.{caller_number}
 use Rattle.mk_core.specs.Allocations.{PlacedAllocation, held_words, type_made}
 use Rattle.mk_core.specs.Calls.{d_of}
 use Rattle.mk_core.specs.Decided.{Decided, entry_of}
-use Rattle.mk_core.specs.Frames.{steady_of}
+use Rattle.mk_core.specs.Frames.{Steady, steady_of}
 use Rattle.mk_core.specs.History.{World, left}
 use Rattle.mk_core.specs.Moments.{Moment, flight_of}
 use Rattle.mk_core.specs.NewPlaces.{base_made, is_undecided_new, object_made}
@@ -80,7 +81,17 @@ OnlyLooks p q = Reaches is_look p (IsAsLeft p.seat (world_of p)) [] q
 
 -- the object that a grant at a place adds to the allocations
 abbrev pub object_at_place : Config → Flight → Place → PlacedAllocation
-object_at_place c f place = record { base = base_made (object_made c f.op) place; ty = type_made f.op; freed = false; fresh = false; released = false }
+object_at_place c f place = record {
+  base = base_made (object_made c f.op) place;
+  ty = type_made f.op;
+  freed = false;
+  fresh = false;
+  released = false;
+}
+
+-- what none but the holder changes, with an allocation more and these pages and held words
+abbrev pub with_object : Steady → List Page → ℕ → PlacedAllocation → Steady
+with_object x pages held a = record x { pages = pages; held = held; allocations = x.allocations ++ a ∷ [] }
 
 -- Between these worlds the New was granted its object at this place: its call is decided, the object is an allocation
 -- more, its address is in the register, and all else that none but the holder changes, but pages and the tally of held
@@ -89,7 +100,7 @@ pub record IsGrantedAt (c : Config) (s : Seat) (place : Place) (w v : World) : T
   pub call : flight_of v.now s ≡ record (flight_of w.now s) { stage = stage.Give }
   pub placing : v.now.seats.holding.placing ≡ Granted
   pub steady : steady_of v
-      ≡ record (steady_of w) { pages = v.now.words.pages; held = v.now.words.held; allocations = w.allocations ++ object_at_place c (flight_of w.now s) place ∷ [] }
+      ≡ with_object (steady_of w) v.now.words.pages v.now.words.held (object_at_place c (flight_of w.now s) place)
   pub register : (k : ℕ) → s ≡ Caller k → register_word v.now.words k (d_of (flight_of w.now s).op)
       ≡ address_of (base_made (object_made c (flight_of w.now s).op) place) % 2 ^ 64
 

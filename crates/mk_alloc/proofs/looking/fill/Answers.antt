@@ -20,7 +20,14 @@ loop-page-preserved c =
     let a = looks_joined p c.loop-page.turn.pass c.look_at-header.new.turn.pass i.looks c.look_at-header.ensures.looks in
     let b = looks_joined p c.look_at-header.new.turn.pass c.look_at-used.new.turn.pass a c.look_at-used.ensures.looks in
     let x : Page = record { header = c.look_at-header.result; used = c.look_at-used.result } in
-    let within : c.loop-page.page < length c.loop-page.book = omega (arith, i.length, c.requires.book, c.pages-pages.ensures, ap (λ (w : WordsState). w.config.pages) c.requires.one_table) in
+    let within : c.loop-page.page < length c.loop-page.book = omega (
+      arith,
+      i.length,
+      c.requires.book,
+      c.pages-pages.ensures,
+      ap
+          (λ (w : WordsState). w.config.pages) c.requires.one_table,
+    ) in
     record {
       op = c.look_at-used.ensures.op ∙ c.look_at-header.ensures.op ∙ i.op;
       looks = b;
@@ -28,7 +35,8 @@ loop-page-preserved c =
       filled = λ k lt.
           ap (λ (ps : List Page). slice_index_or ps k free_page) c.set.ensures
           ∙ filled_more (now_of p).words.pages c.loop-page.book c.loop-page.page x within
-          (page_found p c.loop-page.turn.pass c.look_at-header.new.turn.pass c.loop-page.page x.header x.used i.looks a c.look_at-header.ensures.finds c.look_at-used.ensures.finds)
+          (page_found p c.loop-page.turn.pass c.look_at-header.new.turn.pass c.loop-page.page x.header x.used i.looks
+          a c.look_at-header.ensures.finds c.look_at-used.ensures.finds)
           i.filled k lt;
     }
 

@@ -9,18 +9,21 @@ use Rattle.mk_alloc.proofs.looking.look_at.Goals as goal
 pub look-found-requires-clause-enabled : goal.look-found-requires-clause-enabled
 look-found-requires-clause-enabled c =
     let t = c.args.turn.now in
-    may_look t.pass.table.config _ t.pass.seat (acting_now t.pass t.op c.is_in_order.ensures.turn c.requires.acting) c.args.word c.requires.steady c.requires.in_range
+    may_look t.pass.table.config _ t.pass.seat
+    (acting_now t.pass t.op c.is_in_order.ensures.turn c.requires.acting) c.args.word c.requires.steady c.requires.in_range
 
 pub returns-clause-looks : goal.returns-clause-looks
 returns-clause-looks c =
     let t = c.args.turn.now in
-    look_reaches t.pass c.look-found.new.self.pass t.op c.args.word c.is_in_order.ensures.turn c.requires.acting (steady_is_plain c.args.word c.requires.steady)
+    look_reaches t.pass c.look-found.new.self.pass t.op c.args.word c.is_in_order.ensures.turn c.requires.acting
+    (steady_is_plain c.args.word c.requires.steady)
     c.look-found.ensures.acts c.is_in_order.ensures.own c.is_in_order-2.ensures.history
 
 pub returns-clause-finds : goal.returns-clause-finds
 returns-clause-finds c =
     let t = c.args.turn.now in
-    found_steady t.pass c.look-found.new.self.pass t.op c.args.word c.look-found.result c.is_in_order.ensures.turn c.look-found.ensures.finds
+    found_steady t.pass c.look-found.new.self.pass t.op c.args.word c.look-found.result c.is_in_order.ensures.turn
+    c.look-found.ensures.finds
     c.is_in_order.ensures.own c.is_in_order-2.ensures.history c.requires.steady
 
 pub returns-clause-keeps : goal.returns-clause-keeps

@@ -32,7 +32,8 @@ head-requires-clause-enabled c =
     let p : PassState = c.args.turn.now.pass in
     let d = c.loop-distance.distance in
     let k = knows_place p c.args.turn.now.op c.args.place c.is_in_order.ensures.turn c.is_in_order.ensures.history c.requires.goes in
-    let near : d < pages_made (object_for p) = omega (arith, c.pages-pages.ensures, c.loop-distance-test.true, ap (λ (o : Object). pages_made o) c.requires.shape) in
+    let near : d < pages_made (object_for p) = omega
+    (arith, c.pages-pages.ensures, c.loop-distance-test.true, ap (λ (o : Object). pages_made o) c.requires.shape) in
     subst (λ n. IsEnabledTo c.loop-distance.turn.pass (step.Head (c.args.place.page + d) n))
     (sym (c.header_word.ensures ∙ ap (λ (o : Object). header_made o d) c.requires.shape))
     (head_may p c.args.place c.requires.goes k c.requires.free c.loop-distance.turn.pass d c.loop-distance.invariant.carved near)
@@ -44,8 +45,10 @@ loop-distance-preserved c =
     let r : PassState = c.head.new.self.pass in
     let d = c.loop-distance.distance in
     let k = knows_place p c.args.turn.now.op c.args.place c.is_in_order.ensures.turn c.is_in_order.ensures.history c.requires.goes in
-    let near : d < pages_made (object_for p) = omega (arith, c.pages-pages.ensures, c.loop-distance-test.true, ap (λ (o : Object). pages_made o) c.requires.shape) in
-    let a = subst (λ n. Acts q (step.Head (c.args.place.page + d) n) r) (c.header_word.ensures ∙ ap (λ (o : Object). header_made o d) c.requires.shape) c.head.ensures.acts in
+    let near : d < pages_made (object_for p) = omega
+    (arith, c.pages-pages.ensures, c.loop-distance-test.true, ap (λ (o : Object). pages_made o) c.requires.shape) in
+    let a = subst (λ n. Acts q (step.Head (c.args.place.page + d) n) r)
+    (c.header_word.ensures ∙ ap (λ (o : Object). header_made o d) c.requires.shape) c.head.ensures.acts in
     record {
       op = c.head.ensures.op ∙ c.loop-distance.invariant.op;
       carved = heads_on p c.args.place c.requires.goes k c.requires.free q r d c.loop-distance.invariant.carved near a
@@ -58,5 +61,13 @@ returns-clause-ready c =
     let q : PassState = c.loop-distance.turn.pass in
     let k = knows_place p c.args.turn.now.op c.args.place c.is_in_order.ensures.turn c.is_in_order.ensures.history c.requires.goes in
     let all : c.loop-distance.distance ≡ pages_made (object_for p) =
-    omega (arith, c.pages-pages.ensures, c.loop-distance-test.false, c.loop-distance.auto.distance-end, ap (λ (o : Object). pages_made o) c.requires.shape) in
-    carved_all p c.args.place c.requires.goes k c.requires.free q (subst (λ n. HasCarved p c.args.place n q) all c.loop-distance.invariant.carved)
+    omega (
+      arith,
+      c.pages-pages.ensures,
+      c.loop-distance-test.false,
+      c.loop-distance.auto.distance-end,
+      ap
+          (λ (o : Object). pages_made o) c.requires.shape,
+    ) in
+    carved_all p c.args.place c.requires.goes k c.requires.free q
+    (subst (λ n. HasCarved p c.args.place n q) all c.loop-distance.invariant.carved)

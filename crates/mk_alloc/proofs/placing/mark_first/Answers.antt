@@ -24,11 +24,14 @@ returns-then-marking-clause-carved c =
     let q : PassState = c.mark.new.self.pass in
     let k = knows_place p c.args.turn.now.op c.args.place c.is_in_order.ensures.turn c.is_in_order.ensures.history c.requires.goes in
     let one = eqb-true (phase_of (now_of p).words) 1 (sym c.requires.marking ∙ c.if-marking.true) in
-    let a = subst (λ n. Acts p (step.Mark c.args.place.page n) q) (c.bits.ensures ∙ ap (λ (o : Object). bits_made o) c.requires.shape) c.mark.ensures.acts in
-    marks_first p c.args.place c.requires.goes k c.requires.free q one a c.is_in_order.ensures.own c.is_in_order-then-marking.ensures.history
+    let a = subst (λ n. Acts p (step.Mark c.args.place.page n) q)
+    (c.bits.ensures ∙ ap (λ (o : Object). bits_made o) c.requires.shape) c.mark.ensures.acts in
+    marks_first p c.args.place c.requires.goes k c.requires.free q one a c.is_in_order.ensures.own
+    c.is_in_order-then-marking.ensures.history
 
 pub returns-else-marking-clause-carved : goal.returns-else-marking-clause-carved
 returns-else-marking-clause-carved c =
     let p : PassState = c.args.turn.now.pass in
     let k = knows_place p c.args.turn.now.op c.args.place c.is_in_order.ensures.turn c.is_in_order.ensures.history c.requires.goes in
-    marks_none p c.args.place c.requires.goes k c.requires.free (eqb-false (phase_of (now_of p).words) 1 (sym c.requires.marking ∙ c.if-marking.false))
+    marks_none p c.args.place c.requires.goes k c.requires.free
+    (eqb-false (phase_of (now_of p).words) 1 (sym c.requires.marking ∙ c.if-marking.false))

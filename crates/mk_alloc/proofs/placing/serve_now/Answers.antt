@@ -7,4 +7,5 @@ returns-clause-granted c =
     let p : PassState = c.args.turn.now.pass in
     let q : PassState = c.look_at_phase-marking.new.turn.pass in
     granted_behind_looks p q c.serve.new.turn.pass c.args.place
-    (looks_joined p c.look_at-held.new.turn.pass q c.look_at-held.ensures.looks c.look_at_phase-marking.ensures.looks) c.serve.ensures.granted
+    (looks_joined p c.look_at-held.new.turn.pass q c.look_at-held.ensures.looks c.look_at_phase-marking.ensures.looks)
+    c.serve.ensures.granted
