@@ -1,6 +1,6 @@
 -- What a look of the turn's holder finds, and that it leaves all as it was.
 use Rattle.std.proofs.Common.{◌≡◌, ℕ, ◌%◌, true, false, [], ◌++◌, refl, ◌∙◌, ap}
-use Rattle.std.specs.Prelude.{Option, slice_index_or}
+use Rattle.std.specs.Prelude.{Option, slice_index_or, slice_index}
 use Rattle.std.proofs.lemmas.Bool.{lt-ltb}
 use Rattle.mk_never.specs.declared.operations.Op.{Op}
 use Rattle.mk_geom.specs.Storages.{free_page}
@@ -16,7 +16,7 @@ use Rattle.mk_core.specs.History.{World, IsHistory, left, world_behind}
 use Rattle.mk_core.specs.Moments.{Moment, flight_of}
 use Rattle.mk_core.specs.Order.{seat_exists}
 use Rattle.mk_core.specs.Readings.{Holds}
-use Rattle.mk_core.specs.Words.{named_word, phase_of}
+use Rattle.mk_core.specs.Words.{named_word, phase_of, quarantine_word}
 use Rattle.mk_words.specs.Seats.{Has}
 use Rattle.mk_words.specs.States.{PassState, call_of, now_of, world_of}
 use Rattle.mk_words.specs.Steps.{Finds, may_decide, moment_of}

@@ -113,6 +113,11 @@ module _ (c : Config) (m : Moment) (s : Seat) (at : IsActing c m s) where
   pub may_look_phase : IsEnabled c m (record { seat = s; step = step.Look word.Phase })
   may_look_phase = may_by (step.Look word.Phase) refl (order_of_acting c m s (step.Look word.Phase) at.acts refl) refl refl refl refl refl
 
+  pub may_look_quarantine : (p : ℕ) → p < c.pages → IsEnabled c m (record { seat = s; step = step.Look (word.Quar p) })
+  may_look_quarantine p within =
+      may_by (step.Look (word.Quar p)) refl (order_of_acting c m s (step.Look (word.Quar p)) at.acts refl) (lt-ltb p c.pages within)
+      refl refl refl refl
+
   pub may_tally : (n : Tally) (v : ℕ) → IsEnabled c m (record { seat = s; step = step.Tally n v })
   may_tally n v = may_by (step.Tally n v) refl (order_of_acting c m s (step.Tally n v) at.acts refl) refl refl refl refl refl
 

@@ -28,8 +28,17 @@ use Rattle.mk_core.specs.Moments.{Moment, flight_of}
 use Rattle.mk_core.specs.NewPlaces.{is_undecided_free, target}
 use Rattle.mk_core.specs.Words.{Words, quarantine_word}
 use Rattle.mk_geom.specs.declared.pages.Page.{Page}
+use Rattle.mk_core.specs.Readings.{Holds}
+use Rattle.mk_protocol.proofs.Known.{Known}
+use Rattle.mk_words.specs.Seats.{Has}
+use Rattle.mk_words.specs.States.{PassState, call_of, now_of, world_of}
+use Rattle.mk_words.specs.TurnSteps.{Acts, IsTurn}
+use Rattle.mk_alloc.specs.Placing.{Reaches, entry_for}
 use Rattle.mk_alloc.specs.Unchanged.{IsAsLeft}
-use Rattle.mk_alloc.specs.Retiring.{CallIsAt}
+use Rattle.mk_alloc.proofs.Looks.{acting_caller}
+use Rattle.mk_alloc.proofs.MayAct.{free_is_acting}
+use Rattle.mk_alloc.proofs.Reaching.{reaches_nothing, reaches_on}
+use Rattle.mk_alloc.specs.Retiring.{CallIsAt, is_freeing}
 use Rattle.mk_alloc.proofs.Unchanged.{call_behind}
 
 -- the call behind such a look
@@ -90,3 +99,52 @@ sees_by c k cell w v lt kept at =
       };
       answer = ap (λ b. (progress_seen (flight_of v.now (Caller k)) b).answer) seen ∙ seen_answer (flight_of v.now (Caller k)) (is_freed w.now.words cell);
     }
+
+-- at the seat of a pass
+abbrev pub entry_seen : PassState → Bool → List Decided
+entry_seen p double = if double then entry_for p answer.Double else []
+
+seen_entry : (k : ℕ) (o : Op) (b : Bool) → entry_of k o (answer_seen b) ≡ (if b then entry_of k o (Some answer.Double) else [])
+seen_entry k o true = refl
+seen_entry k o false = refl
+
+module _ (p : PassState) (cell : Cell) (v : World) (known : Known p.table.config v.now) where
+  abbrev Sees : Seat → Type 0
+  Sees s =
+      CallIsAt s (seen_free (flight_of (now_of p) s) (is_freed (now_of p).words cell)) (world_of p)
+      (world_behind p.table.config v (record { seat = s; step = step.Look (word.Quar cell.page) }))
+      × (answer_decided p.table.config v.now (record { seat = s; step = step.Look (word.Quar cell.page) }) ≡ answer_seen (is_freed (now_of p).words cell))
+
+  sees : (s : Seat) (k : ℕ) → s ≡ Caller k → IsAsLeft s (world_of p) v → Holds p.table.config (now_of p) s
+      → target p.table.config.pages (now_of p).words (flight_of (now_of p) s) ≡ Some cell → Sees s
+  sees s k e kept holds at =
+      let lt : k < p.table.config.callers = (subst (λ (x : Seat). Holds p.table.config (now_of p) x) e holds).0 in
+      let there : k < length v.now.seats.flights = subst (λ i. k < i) (sym known.orderly.flights) lt in
+      let by = sees_by p.table.config k cell (world_of p) v there (subst (λ (x : Seat). IsAsLeft x (world_of p) v) e kept)
+      (ap (λ (x : Seat). target p.table.config.pages (now_of p).words (flight_of (now_of p) x)) (sym e) ∙ at) in
+      subst (λ (x : Seat). Sees x) (sym e) (by.at, by.answer)
+
+abbrev pub HasSeen : PassState → Cell → PassState → Type 0
+HasSeen p cell q =
+    Reaches is_freeing p (CallIsAt p.seat (seen_free (call_of p) (is_freed (now_of p).words cell)) (world_of p))
+    (entry_seen p (is_freed (now_of p).words cell)) q
+
+pub see_reaches : (p q : PassState) (cell : Cell) (o : Option Op) → IsTurn p o → is_undecided_free (call_of p) ≡ true
+    → target p.table.config.pages (now_of p).words (call_of p) ≡ Some cell → Acts p (step.Look (word.Quar cell.page)) q → Has p.seats p.seat
+    → IsHistory q.table.config q.seen → HasSeen p cell q
+see_reaches p q cell o turn free at a own history =
+    let caller = acting_caller p (free_is_acting (call_of p) free) in
+    let double : Bool = is_freed (now_of p).words cell in
+    reaches_on is_freeing p p q (λ w. w ≡ world_of p) (CallIsAt p.seat (seen_free (call_of p) double) (world_of p)) [] (entry_seen p double)
+    (step.Look (word.Quar cell.page)) (reaches_nothing is_freeing p (λ w. w ≡ world_of p) refl) a own history refl caller
+    (λ w v first kept known pages.
+    let kept : IsAsLeft p.seat (world_of p) v = subst (λ (x : World). IsAsLeft p.seat x v) first kept in
+    let to = sees p cell v known p.seat caller.number caller.is kept turn.holds at in
+    record {
+      world = to.0;
+      answer = answer_seen double;
+      decides = to.1;
+      entry = λ k is.
+          ap (λ (f : Flight). entry_of k f.op (answer_seen double)) kept.call ∙ seen_entry k (call_of p).op double
+          ∙ ap (λ i. if double then entry_of i (call_of p).op (Some answer.Double) else []) (sym (ap caller_number is));
+    })
