@@ -18,6 +18,14 @@ use Rattle.mk_core.specs.NewPlaces.{is_undecided_free, target}
 use Rattle.mk_core.specs.Words.{Words, header_at}
 use Rattle.mk_words.specs.States.{PassState, call_of, now_of, world_of}
 use Rattle.mk_alloc.proofs.FreedCells.{PointsAt, free_points_at}
+use Rattle.mk_core.specs.Allocations.{PlacedAllocation}
+use Rattle.mk_core.specs.Config.{IsWithinLimits}
+use Rattle.mk_core.specs.History.{World}
+use Rattle.mk_core.specs.StandingAllocations.{object_placed}
+use Rattle.mk_core.proofs.Sizes.{words_within}
+use Rattle.mk_core.proofs.StandingAllocations.{typed_size}
+use Rattle.mk_layout.specs.SettledPages.{StandsUsed}
+use Rattle.mk_invariant.proofs.Theorems.{allocations_stand}
 use Rattle.mk_alloc.proofs.Looks.{acting_caller}
 use Rattle.mk_alloc.proofs.MayAct.{free_is_acting}
 use Rattle.mk_alloc.proofs.Reaching.{IsCallers}
@@ -63,10 +71,17 @@ pub record IsPointed (p : PassState) (u : ℕ) : Type 0 where
   pub page : page_at_address u < p.table.config.pages
   pub by_header : cell_at p.table.config.pages (header_at (now_of p).words (page_at_address u)) u ≡ Some cell
   pub target : target p.table.config.pages (now_of p).words (call_of p) ≡ Some cell
+  pub within : cell.page < p.table.config.pages
 
 target_of : (pages : ℕ) (w : Words) (f : Flight) (cell : Cell) → is_undecided_free f ≡ true → pointed_cell pages w.pages f.p ≡ Some cell
     → target pages w f ≡ Some cell
 target_of pages w f cell free is = rw free is
+
+cell_within : (c : Config) (w : World) (a : PlacedAllocation) → IsWithinLimits c → StandsUsed c w a → (cell_of_allocation c a).page < c.pages
+cell_within c w a limits s =
+    let some = (words_within (object_placed c a) (typed_size c a limits s.stands.typed)).0 in
+    let ends = s.stands.within in
+    omega arith
 
 pub pointed_now : (p : PassState) (u : ℕ) → IsHistory p.table.config p.seen → is_undecided_free (call_of p) ≡ true → (call_of p).p ≡ u → IsPointed p u
 pointed_now p u h free is =
@@ -83,4 +98,5 @@ pointed_now p u h free is =
       page = heap.page;
       by_header = by_header;
       target = target_of p.table.config.pages (now_of p).words (call_of p) cell free t.cell;
+      within = cell_within p.table.config (world_of p) (placed_at (world_of p).allocations t.number) h.within_limits (allocations_stand p.table.config p.seen h t.number t.unreleased);
     }

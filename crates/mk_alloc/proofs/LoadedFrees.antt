@@ -24,6 +24,7 @@ use Rattle.mk_core.specs.Effects.{answer_decided, moment_behind, progress}
 use Rattle.mk_core.specs.History.{IsAdmittedBehind, IsHistory, World, call_decided, calls, first_world, left, never_behind, never_first, world_behind}
 use Rattle.mk_core.specs.Layout.{AreOfPages}
 use Rattle.mk_core.specs.Moments.{Moment, flight_of}
+use Rattle.mk_core.specs.NewPlaces.{is_undecided_free}
 use Rattle.mk_core.specs.Enabled.{IsEnabled}
 use Rattle.mk_core.specs.Order.{comes_next, seat_exists}
 use Rattle.mk_core.specs.Readings.{Holds}
@@ -248,3 +249,9 @@ load_keeps p q r n o small turn u a own history is some =
     value_kept p q r step.Reg caller small a own history
     (λ v kept known.
     (lands p r n v small known p.seat caller.number caller.is kept turn.holds u.call here).1 ∙ ap (λ (b : Bool). if b then Some answer.Done else None) some)
+
+-- A Free that has loaded a pointer isn't decided.
+pub loaded_undecided : (p : PassState) (r u : ℕ) → IsFreeAt p r (loaded_free r u) → (u == 0) ≡ false → is_undecided_free (call_of p) ≡ true
+loaded_undecided p r u at some =
+    ap (λ (f : Flight). is_undecided_free f) at.call
+    ∙ ap (λ (b : Bool). is_undecided_free (record (begun (op.Free r)) { stage = if b then stage.Give else stage.Turn; p = u })) some

@@ -38,15 +38,8 @@ use Rattle.mk_alloc.specs.Unchanged.{IsAsLeft}
 use Rattle.mk_alloc.proofs.Looks.{acting_caller}
 use Rattle.mk_alloc.proofs.MayAct.{free_is_acting}
 use Rattle.mk_alloc.proofs.Reaching.{reaches_nothing, reaches_on}
-use Rattle.mk_alloc.specs.Retiring.{CallIsAt, is_freeing}
+use Rattle.mk_alloc.specs.Retiring.{CallIsAt, HasSeen, answer_seen, entry_seen, is_freeing, seen_free}
 use Rattle.mk_alloc.proofs.Unchanged.{call_behind}
-
--- the call behind such a look
-abbrev pub seen_free : Flight → Bool → Flight
-seen_free f double = if double then record f { stage = stage.Give } else f
-
-abbrev pub answer_seen : Bool → Option Answer
-answer_seen double = if double then Some answer.Double else None
 
 target_same : (pages : ℕ) (w v : Words) (f : Flight) → v.pages ≡ w.pages → target pages v f ≡ target pages w f
 target_same pages w v f same = ap (λ (ps : List Page). if is_undecided_free f then pointed_cell pages ps f.p else None) same
@@ -101,9 +94,6 @@ sees_by c k cell w v lt kept at =
     }
 
 -- at the seat of a pass
-abbrev pub entry_seen : PassState → Bool → List Decided
-entry_seen p double = if double then entry_for p answer.Double else []
-
 seen_entry : (k : ℕ) (o : Op) (b : Bool) → entry_of k o (answer_seen b) ≡ (if b then entry_of k o (Some answer.Double) else [])
 seen_entry k o true = refl
 seen_entry k o false = refl
@@ -123,11 +113,6 @@ module _ (p : PassState) (cell : Cell) (v : World) (known : Known p.table.config
       let by = sees_by p.table.config k cell (world_of p) v there (subst (λ (x : Seat). IsAsLeft x (world_of p) v) e kept)
       (ap (λ (x : Seat). target p.table.config.pages (now_of p).words (flight_of (now_of p) x)) (sym e) ∙ at) in
       subst (λ (x : Seat). Sees x) (sym e) (by.at, by.answer)
-
-abbrev pub HasSeen : PassState → Cell → PassState → Type 0
-HasSeen p cell q =
-    Reaches is_freeing p (CallIsAt p.seat (seen_free (call_of p) (is_freed (now_of p).words cell)) (world_of p))
-    (entry_seen p (is_freed (now_of p).words cell)) q
 
 pub see_reaches : (p q : PassState) (cell : Cell) (o : Option Op) → IsTurn p o → is_undecided_free (call_of p) ≡ true
     → target p.table.config.pages (now_of p).words (call_of p) ≡ Some cell → Acts p (step.Look (word.Quar cell.page)) q → Has p.seats p.seat

@@ -1,10 +1,12 @@
 -- Freeing an object: what is asked, and how far the call is.
-use Rattle.std.specs.Prelude.{◌≡◌, ℕ, ◌==◌, ◌<◌, Bool, true, false, List, [], Option, Some, if◌then◌else◌}
+use Rattle.std.specs.Prelude.{◌≡◌, ℕ, ◌==◌, ◌<◌, Bool, true, false, List, [], Option, Some, None, if◌then◌else◌}
 use Rattle.mk_never.specs.declared.operations.Op.{Op}
 use Rattle.mk_never.specs.declared.operations.Op.TheVariants as op
 use Rattle.mk_never.specs.declared.values.Value.{Value}
 use Rattle.mk_never.specs.Admitted.{IsBase}
 use Rattle.mk_never.specs.NeverHeap.{register_at}
+use Rattle.mk_geom.specs.declared.addresses.Cell.{Cell}
+use Rattle.mk_core.specs.declared.events.Answer.{Answer}
 use Rattle.mk_core.specs.declared.events.Answer.TheVariants as answer
 use Rattle.mk_core.specs.declared.events.Seat.{Seat}
 use Rattle.mk_core.specs.declared.events.Seat.TheVariants.{Caller}
@@ -14,6 +16,7 @@ use Rattle.mk_core.specs.declared.seats.Flight.{Flight}
 use Rattle.mk_core.specs.declared.seats.Stage.TheVariants as stage
 use Rattle.mk_core.specs.Accesses.{caller_number}
 use Rattle.mk_core.specs.Calls.{begun}
+use Rattle.mk_core.specs.Cells.{is_freed}
 use Rattle.mk_core.specs.Decided.{Decided}
 use Rattle.mk_core.specs.Frames.{steady_of}
 use Rattle.mk_core.specs.History.{World, never_behind}
@@ -65,3 +68,19 @@ is_freeing _ = false
 
 abbrev pub HasLoaded : PassState → ℕ → ℕ → PassState → Type 0
 HasLoaded p r u q = Reaches is_freeing p (CallIsAt p.seat (loaded_free r u) (world_of p)) (entry_loaded p u) q
+
+-- A Free whose target's quarantine word was looked at: the freed bit decides it.
+
+abbrev pub seen_free : Flight → Bool → Flight
+seen_free f double = if double then record f { stage = stage.Give } else f
+
+abbrev pub answer_seen : Bool → Option Answer
+answer_seen double = if double then Some answer.Double else None
+
+abbrev pub entry_seen : PassState → Bool → List Decided
+entry_seen p double = if double then entry_for p answer.Double else []
+
+abbrev pub HasSeen : PassState → Cell → PassState → Type 0
+HasSeen p cell q =
+    Reaches is_freeing p (CallIsAt p.seat (seen_free (call_of p) (is_freed (now_of p).words cell)) (world_of p))
+    (entry_seen p (is_freed (now_of p).words cell)) q

@@ -3,7 +3,9 @@ ghost use Rattle.std.specs.Prelude.{◌≡◌, ℕ, ◌<◌, ◌==◌, true, fal
 ghost use Rattle.mk_core.specs.NewPlaces.{is_undecided_free, target};
 ghost use Rattle.mk_words.specs.States.{call_of, now_of};
 ghost use Rattle.mk_alloc.specs.Placing.{OnlyLooks};
-ghost use Rattle.mk_alloc.specs.Retiring.{HasLoaded, IsUnloaded, value_of};
+ghost use Rattle.mk_core.specs.declared.events.Word.TheVariants as word;
+ghost use Rattle.mk_core.specs.Words.{named_word};
+ghost use Rattle.mk_alloc.specs.Retiring.{HasLoaded, HasSeen, IsFreeAt, IsUnloaded, loaded_free, value_of};
 
 use crate::looking::look_at;
 use mk_core::Word;
@@ -36,10 +38,29 @@ fn find_cell(words: &Words, turn: &mut Turn, value: u64) -> Cell
     ensures op { turn.new.op ≡ turn.old.op }
     ensures looks { OnlyLooks turn.old.pass turn.new.pass }
     ensures cell { target turn.old.pass.table.config.pages (now_of turn.old.pass).words (call_of turn.old.pass) ≡ Some result }
+    ensures within { result.page < turn.old.pass.table.config.pages }
     ensures keeps { (r : ℕ) → r < 8 → value_of turn.new.pass r ≡ value_of turn.old.pass r }
 {
     turn.is_in_order();
     let page = (value - HEAP_START) / PAGE_BYTES;
     let header = look_at(words, turn, Word::Head(page));
     lookup(words.pages(), header, value).unwrap_or(Cell { page: 0, index: 0 })
+}
+
+/// Looks at the quarantine word of the page of a Free's target. Where the target is freed already, that decides the
+/// Free.
+fn look_at_quarantine(words: &Words, turn: &mut Turn, register: u8, value: u64, cell: Cell) -> u64
+    requires one_table { turn.old.pass.table ≡ words.now }
+    requires free { IsFreeAt turn.old.pass register (loaded_free register value) }
+    requires some { (value == 0) ≡ false }
+    requires cell { target turn.old.pass.table.config.pages (now_of turn.old.pass).words (call_of turn.old.pass) ≡ Some cell }
+    requires within { cell.page < turn.old.pass.table.config.pages }
+    ensures op { turn.new.op ≡ turn.old.op }
+    ensures seen { HasSeen turn.old.pass cell turn.new.pass }
+    ensures finds { result ≡ named_word (now_of turn.old.pass).words (word.Quar cell.page) }
+{
+    turn.is_in_order();
+    let found = turn.look(words, Word::Quar(cell.page));
+    turn.is_in_order();
+    found
 }

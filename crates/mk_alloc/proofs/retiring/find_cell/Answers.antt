@@ -31,3 +31,11 @@ look_at-header-requires-clause-in_range c =
     let p : PassState = c.args.turn.now.pass in
     let t = pointed_now p c.args.value c.is_in_order.ensures.history c.requires.undecided c.requires.value in
     lt-ltb _ p.table.config.pages t.page
+
+pub returns-clause-within : goal.returns-clause-within
+returns-clause-within c =
+    let p : PassState = c.args.turn.now.pass in
+    let t = pointed_now p c.args.value c.is_in_order.ensures.history c.requires.undecided c.requires.value in
+    let e : Some t.cell ≡ Some c.unwrap_or.result = sym t.target ∙ returns-clause-cell c in
+    let cell : t.cell ≡ c.unwrap_or.result = cc e in
+    subst (λ (x : Cell). x.page < p.table.config.pages) cell t.within
