@@ -19,3 +19,4 @@ pub mod AdmittedFrees
 pub mod LoadedFrees
 pub mod FoundCells
 pub mod SeenDoubles
+pub mod FreeSteps

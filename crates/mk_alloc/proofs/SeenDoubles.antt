@@ -41,13 +41,13 @@ use Rattle.mk_alloc.proofs.Reaching.{reaches_nothing, reaches_on}
 use Rattle.mk_alloc.specs.Retiring.{CallIsAt, HasSeen, answer_seen, entry_seen, is_freeing, seen_free}
 use Rattle.mk_alloc.proofs.Unchanged.{call_behind}
 
-target_same : (pages : ℕ) (w v : Words) (f : Flight) → v.pages ≡ w.pages → target pages v f ≡ target pages w f
+pub target_same : (pages : ℕ) (w v : Words) (f : Flight) → v.pages ≡ w.pages → target pages v f ≡ target pages w f
 target_same pages w v f same = ap (λ (ps : List Page). if is_undecided_free f then pointed_cell pages ps f.p else None) same
 
 seen_at : (w : Words) (cell : Cell) → sees_double w (Some cell) (word.Quar cell.page) ≡ is_freed w cell
 seen_at w cell = ap (λ b. b && is_freed w cell) (eq-eqb cell.page cell.page refl)
 
-freed_same : (w v : Words) (cell : Cell) → v.freed ≡ w.freed → is_freed v cell ≡ is_freed w cell
+pub freed_same : (w v : Words) (cell : Cell) → v.freed ≡ w.freed → is_freed v cell ≡ is_freed w cell
 freed_same w v cell same = ap (λ (xs : List ℕ). has_bit (slice_index xs cell.page) cell.index) same
 
 -- what is seen of the target in a world that is as it was left

@@ -1,5 +1,5 @@
 -- Freeing an object: what is asked, and how far the call is.
-use Rattle.std.specs.Prelude.{◌≡◌, ℕ, ◌==◌, ◌<◌, Bool, true, false, List, [], Option, Some, None, if◌then◌else◌}
+use Rattle.std.specs.Prelude.{◌≡◌, ℕ, ◌+◌, ◌-◌, ◌^◌, min, map, slice_index, slice_set, ◌==◌, ◌<◌, Bool, true, false, List, [], Option, Some, None, if◌then◌else◌}
 use Rattle.mk_never.specs.declared.operations.Op.{Op}
 use Rattle.mk_never.specs.declared.operations.Op.TheVariants as op
 use Rattle.mk_never.specs.declared.values.Value.{Value}
@@ -14,7 +14,11 @@ use Rattle.mk_core.specs.declared.events.Step.{Step}
 use Rattle.mk_core.specs.declared.events.Step.TheVariants as step
 use Rattle.mk_core.specs.declared.seats.Flight.{Flight}
 use Rattle.mk_core.specs.declared.seats.Stage.TheVariants as stage
+use Rattle.mk_geom.specs.PageUses.{or_else}
+use Rattle.mk_core.specs.declared.config.Config.{Config}
 use Rattle.mk_core.specs.Accesses.{caller_number}
+use Rattle.mk_core.specs.Allocations.{freed_where_it_stands}
+use Rattle.mk_core.specs.Effects.{run_of_cell, words_freed}
 use Rattle.mk_core.specs.Calls.{begun}
 use Rattle.mk_core.specs.Cells.{is_freed}
 use Rattle.mk_core.specs.Decided.{Decided}
@@ -84,3 +88,24 @@ abbrev pub HasSeen : PassState → Cell → PassState → Type 0
 HasSeen p cell q =
     Reaches is_freeing p (CallIsAt p.seat (seen_free (call_of p) (is_freed (now_of p).words cell)) (world_of p))
     (entry_seen p (is_freed (now_of p).words cell)) q
+
+-- The target was quarantined: the call is decided, the allocation of the cell is freed and fresh, a run is what the call
+-- has freed, and all else that none but the holder changes is as it was.
+pub record IsFreedAt (c : Config) (s : Seat) (cell : Cell) (w v : World) : Type 0 where
+  pub call : flight_of v.now s ≡ record (flight_of w.now s) { stage = stage.Give }
+  pub holding : v.now.seats.holding
+      ≡ record w.now.seats.holding { freed = or_else (run_of_cell w.now.words (Some cell)) w.now.seats.holding.freed }
+  pub freed : v.now.words.freed ≡ slice_set w.now.words.freed cell.page (slice_index w.now.words.freed cell.page + 2 ^ cell.index)
+  pub snapshot : v.now.words.snapshot ≡ w.now.words.snapshot
+  pub fresh : v.now.fresh_words ≡ min (w.now.fresh_words + words_freed w.now.words (Some cell)) (2 ^ 64 - 1)
+  pub steady : steady_of v
+      ≡ record (steady_of w) {
+        freed = v.now.words.freed;
+        snapshot = v.now.words.snapshot;
+        fresh_words = v.now.fresh_words;
+        allocations = map (freed_where_it_stands w.now.words (Some cell)) w.allocations;
+      }
+  pub registers : (k r : ℕ) → s ≡ Caller k → r < 8 → register_word v.now.words k r ≡ register_word w.now.words k r
+
+abbrev pub HasFreed : PassState → Cell → PassState → Type 0
+HasFreed p cell q = Reaches is_freeing p (IsFreedAt p.table.config p.seat cell (world_of p)) (entry_for p answer.Done) q
