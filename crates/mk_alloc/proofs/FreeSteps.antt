@@ -28,10 +28,31 @@ use Rattle.mk_core.specs.Moments.{Moment, flight_of, is_phase}
 use Rattle.mk_core.specs.NewPlaces.{is_undecided_free, target}
 use Rattle.mk_core.specs.TurnConditions.{cell_freed, frees}
 use Rattle.mk_core.specs.Words.{Words, quarantine_word}
-use Rattle.mk_alloc.specs.Placing.{IsOutOfStop}
-use Rattle.mk_alloc.specs.Retiring.{IsFreedAt}
+use Rattle.std.specs.Prelude.{bit_or}
+use Rattle.std.proofs.Math.Pow.{pow-lt}
+use Rattle.std.proofs.lemmas.Nat.{or_lt}
+use Rattle.mk_never.specs.declared.operations.Op.{Op}
+use Rattle.mk_core.specs.Accesses.{caller_number}
+use Rattle.mk_core.specs.Cells.{header_in, heads_run}
+use Rattle.mk_core.specs.Decided.{entry_of}
+use Rattle.mk_core.specs.History.{IsHistory}
+use Rattle.mk_core.specs.Moments.{others_are_held}
+use Rattle.mk_core.specs.Ranges.{is_run_cell}
+use Rattle.mk_core.specs.Readings.{Holds}
+use Rattle.mk_core.specs.Words.{phase_of}
+use Rattle.mk_protocol.proofs.Known.{Known}
+use Rattle.mk_words.specs.Seats.{Has}
+use Rattle.mk_words.specs.States.{PassState, call_of, now_of, world_of}
+use Rattle.mk_words.specs.Steps.{IsEnabledTo}
+use Rattle.mk_words.specs.TurnSteps.{Acts, IsTurn}
+use Rattle.mk_alloc.specs.Placing.{IsOutOfStop, Reaches, entry_for}
+use Rattle.mk_alloc.specs.Retiring.{HasFreed, IsFreedAt, is_freeing}
 use Rattle.mk_alloc.specs.Unchanged.{IsAsLeft}
-use Rattle.mk_alloc.proofs.MayAct.{off_four}
+use Rattle.mk_alloc.proofs.Looks.{acting_caller, acting_now}
+use Rattle.mk_alloc.proofs.MayAct.{free_is_acting, may_free, off_four}
+use Rattle.mk_alloc.proofs.Reaching.{reaches_nothing, reaches_on}
+use Rattle.mk_alloc.proofs.Serves.{out_of_stop}
+use Rattle.mk_alloc.proofs.Takes.{one_bit_more}
 use Rattle.mk_alloc.proofs.SeenDoubles.{freed_same, target_same}
 use Rattle.mk_alloc.proofs.Unchanged.{call_behind}
 
@@ -39,7 +60,7 @@ use Rattle.mk_alloc.proofs.Unchanged.{call_behind}
 abbrev pub freed_word : Words → Cell → ℕ
 freed_word w cell = quarantine_word (slice_index w.freed cell.page + 2 ^ cell.index) (slice_index w.snapshot cell.page)
 
-frees_it : (w : Words) (cell : Cell) → is_freed w cell ≡ false → frees w (Some cell) cell.page (freed_word w cell) ≡ true
+pub frees_it : (w : Words) (cell : Cell) → is_freed w cell ≡ false → frees w (Some cell) cell.page (freed_word w cell) ≡ true
 frees_it w cell clear =
     and_from _ _ (and_from _ _ (eq-eqb cell.page cell.page refl) (ap not clear)) (eq-eqb (freed_word w cell) (freed_word w cell) refl)
 
@@ -107,3 +128,73 @@ quar_behind c k cell value w v lt kept low at clear is small =
       registers = kept.registers;
     },
     ap (λ (x : Option Cell). (progress_freed f x).answer) frees)
+
+-- at the seat of a pass
+module _ (p : PassState) (cell : Cell) (value : ℕ) (v : World) (known : Known p.table.config v.now) (low : IsOutOfStop (now_of p)) where
+  abbrev Frees : Seat → Type 0
+  Frees s =
+      IsFreedAt p.table.config s cell (world_of p) (world_behind p.table.config v (record { seat = s; step = step.Quar cell.page value }))
+      × (answer_decided p.table.config v.now (record { seat = s; step = step.Quar cell.page value }) ≡ Some answer.Done)
+
+  still_low : phase_of v.now.words ≡ phase_of (now_of p).words → IsOutOfStop v.now
+  still_low same = out_of_stop (now_of p) v.now same low
+
+  frees_at : (s : Seat) (k : ℕ) → s ≡ Caller k → IsAsLeft s (world_of p) v → Holds p.table.config (now_of p) s
+      → target p.table.config.pages (now_of p).words (flight_of (now_of p) s) ≡ Some cell → is_freed (now_of p).words cell ≡ false
+      → value ≡ freed_word (now_of p).words cell → slice_index (now_of p).words.freed cell.page + 2 ^ cell.index < 2 ^ 32 → Frees s
+  frees_at s k e kept holds at clear is small =
+      let lt : k < p.table.config.callers = (subst (λ (x : Seat). Holds p.table.config (now_of p) x) e holds).0 in
+      let there : k < length v.now.seats.flights = subst (λ i. k < i) (sym known.orderly.flights) lt in
+      let by = quar_behind p.table.config k cell value (world_of p) v there (subst (λ (x : Seat). IsAsLeft x (world_of p) v) e kept)
+      (still_low (ap (λ (x : Steady). x.phase) kept.steady))
+      (ap (λ (x : Seat). target p.table.config.pages (now_of p).words (flight_of (now_of p) x)) (sym e) ∙ at) clear is small in
+      subst (λ (x : Seat). Frees x) (sym e) by
+
+pub quarantine_reaches : (p q : PassState) (cell : Cell) (value : ℕ) (o : Option Op) → IsTurn p o → is_undecided_free (call_of p) ≡ true
+    → target p.table.config.pages (now_of p).words (call_of p) ≡ Some cell → is_freed (now_of p).words cell ≡ false → IsOutOfStop (now_of p)
+    → value ≡ freed_word (now_of p).words cell → slice_index (now_of p).words.freed cell.page + 2 ^ cell.index < 2 ^ 32
+    → Acts p (step.Quar cell.page value) q → Has p.seats p.seat → IsHistory q.table.config q.seen → HasFreed p cell q
+quarantine_reaches p q cell value o turn free at clear low is small a own history =
+    let caller = acting_caller p (free_is_acting (call_of p) free) in
+    reaches_on is_freeing p p q (λ w. w ≡ world_of p) (IsFreedAt p.table.config p.seat cell (world_of p)) [] (entry_for p answer.Done)
+    (step.Quar cell.page value) (reaches_nothing is_freeing p (λ w. w ≡ world_of p) refl) a own history refl caller
+    (λ w v first kept known pages.
+    let kept : IsAsLeft p.seat (world_of p) v = subst (λ (x : World). IsAsLeft p.seat x v) first kept in
+    let to = frees_at p cell value v known low p.seat caller.number caller.is kept turn.holds at clear is small in
+    record {
+      world = to.0;
+      answer = Some answer.Done;
+      decides = to.1;
+      entry = λ k is.
+          ap (λ (f : Flight). entry_of k f.op (Some answer.Done)) kept.call
+          ∙ ap (λ i. entry_of i (call_of p).op (Some answer.Done)) (sym (ap caller_number is));
+    })
+
+pub quarantine_may : (p : PassState) (cell : Cell) (value : ℕ) (o : Option Op) → IsTurn p o → is_undecided_free (call_of p) ≡ true
+    → target p.table.config.pages (now_of p).words (call_of p) ≡ Some cell → is_freed (now_of p).words cell ≡ false → IsOutOfStop (now_of p)
+    → value ≡ freed_word (now_of p).words cell → cell.page < p.table.config.pages
+    → (not (heads_run (header_in (now_of p).words cell.page)) || others_are_held p.table.config.callers (now_of p).words p.seat) ≡ true
+    → IsEnabledTo p (step.Quar cell.page value)
+quarantine_may p cell value o turn free at clear low is within gates =
+    may_free p.table.config (now_of p) p.seat (acting_now p o turn (free_is_acting (call_of p) free)) cell.page value within low
+    (ap (λ (x : Option Cell). not (is_run_cell (now_of p).words x) || others_are_held p.table.config.callers (now_of p).words p.seat) at ∙ gates)
+    (ap (λ (x : Option Cell). frees (now_of p).words x cell.page value) at ∙ ap (λ n. frees (now_of p).words (Some cell) cell.page n) is
+    ∙ frees_it (now_of p).words cell clear)
+
+-- the word that is made of both halves of the one that was found
+pub freed_word_made : (f s i : ℕ) → f < 2 ^ 32 → i < 32 → has_bit f i ≡ false → (quar : ℕ) → quar ≡ quarantine_word f s
+    → 4294967296 * (quar / 4294967296) + bit_or (quar % 4294967296) (1 * 2 ^ i % 2 ^ 64) ≡ quarantine_word (f + 2 ^ i) s
+freed_word_made f s i lt near clear quar is =
+    let low : quar % 4294967296 ≡ f = omega arith in
+    let high : quar / 4294967296 ≡ s = omega arith in
+    let bit : bit_or (quar % 4294967296) (1 * 2 ^ i % 2 ^ 64) ≡ f + 2 ^ i =
+    ap (λ n. bit_or n (1 * 2 ^ i % 2 ^ 64)) low ∙ one_bit_more f i (omega arith) clear in
+    omega arith
+
+pub freed_half : (f i : ℕ) → f < 2 ^ 32 → i < 32 → has_bit f i ≡ false → f + 2 ^ i < 2 ^ 32
+freed_half f i lt near clear =
+    let bit : bit_or f (1 * 2 ^ i % 2 ^ 64) ≡ f + 2 ^ i = one_bit_more f i (omega arith) clear in
+    let power : 2 ^ i < 2 ^ 32 = pow-lt {i = i} {j = 32} near in
+    let same : 1 * 2 ^ i % 2 ^ 64 ≡ 2 ^ i = omega arith in
+    let fits : bit_or f (1 * 2 ^ i % 2 ^ 64) < 2 ^ 32 = or_lt 32 f (1 * 2 ^ i % 2 ^ 64) lt (omega arith) in
+    omega arith
