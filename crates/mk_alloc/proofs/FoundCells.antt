@@ -22,8 +22,14 @@ use Rattle.mk_core.specs.Allocations.{PlacedAllocation}
 use Rattle.mk_core.specs.Config.{IsWithinLimits}
 use Rattle.mk_core.specs.History.{World}
 use Rattle.mk_core.specs.StandingAllocations.{object_placed}
-use Rattle.mk_core.proofs.Sizes.{words_within}
-use Rattle.mk_core.proofs.StandingAllocations.{typed_size}
+use Rattle.std.proofs.Math.Nat.{div-le_of_le-mul}
+use Rattle.mk_geom.specs.Classes.{cells_of, class_words_of}
+use Rattle.mk_geom.proofs.ClassTable.{class_words_within}
+use Rattle.mk_core.specs.declared.seats.Object.{Object}
+use Rattle.mk_core.specs.NewPlaces.{class_made, is_small_object}
+use Rattle.mk_core.specs.ObjectHeaders.{IsSized, cells_made}
+use Rattle.mk_core.proofs.Sizes.{class_known, large_cells, small_cells, words_within}
+use Rattle.mk_core.proofs.StandingAllocations.{placed_cell, typed_size}
 use Rattle.mk_layout.specs.SettledPages.{StandsUsed}
 use Rattle.mk_invariant.proofs.Theorems.{allocations_stand}
 use Rattle.mk_alloc.proofs.Looks.{acting_caller}
@@ -72,6 +78,7 @@ pub record IsPointed (p : PassState) (u : ℕ) : Type 0 where
   pub by_header : cell_at p.table.config.pages (header_at (now_of p).words (page_at_address u)) u ≡ Some cell
   pub target : target p.table.config.pages (now_of p).words (call_of p) ≡ Some cell
   pub within : cell.page < p.table.config.pages
+  pub index : cell.index < 32
 
 target_of : (pages : ℕ) (w : Words) (f : Flight) (cell : Cell) → is_undecided_free f ≡ true → pointed_cell pages w.pages f.p ≡ Some cell
     → target pages w f ≡ Some cell
@@ -81,6 +88,24 @@ cell_within : (c : Config) (w : World) (a : PlacedAllocation) → IsWithinLimits
 cell_within c w a limits s =
     let some = (words_within (object_placed c a) (typed_size c a limits s.stands.typed)).0 in
     let ends = s.stands.within in
+    omega arith
+
+cells_few : (o : Object) → IsSized o → cells_made o ≤ 32
+cells_few o sized = elim (cases_Bool (is_small_object o)) [
+  | inl small ↦
+      let range = class_words_within (class_made o) (class_known o sized small).0 in
+      let is = small_cells o small in
+      let few : cells_of (class_made o) ≤ 32 = div-le_of_le-mul (class_words_of (class_made o)) (omega arith) in
+      omega arith
+  | inr large ↦ let is = large_cells o large in omega arith
+]
+
+cell_index : (c : Config) (w : World) (a : PlacedAllocation) → IsWithinLimits c → StandsUsed c w a → (cell_of_allocation c a).index < 32
+cell_index c w a limits s =
+    let sized = typed_size c a limits s.stands.typed in
+    let is : (cell_of_allocation c a).index ≡ s.stands.begins.index = ap (λ (k : Cell). k.index) (placed_cell c a sized s.stands.begins) in
+    let known = s.stands.begins.known in
+    let few = cells_few (object_placed c a) sized in
     omega arith
 
 pub pointed_now : (p : PassState) (u : ℕ) → IsHistory p.table.config p.seen → is_undecided_free (call_of p) ≡ true → (call_of p).p ≡ u → IsPointed p u
@@ -99,4 +124,5 @@ pointed_now p u h free is =
       by_header = by_header;
       target = target_of p.table.config.pages (now_of p).words (call_of p) cell free t.cell;
       within = cell_within p.table.config (world_of p) (placed_at (world_of p).allocations t.number) h.within_limits (allocations_stand p.table.config p.seen h t.number t.unreleased);
+      index = cell_index p.table.config (world_of p) (placed_at (world_of p).allocations t.number) h.within_limits (allocations_stand p.table.config p.seen h t.number t.unreleased);
     }

@@ -39,3 +39,11 @@ returns-clause-within c =
     let e : Some t.cell ≡ Some c.unwrap_or.result = sym t.target ∙ returns-clause-cell c in
     let cell : t.cell ≡ c.unwrap_or.result = cc e in
     subst (λ (x : Cell). x.page < p.table.config.pages) cell t.within
+
+pub returns-clause-index : goal.returns-clause-index
+returns-clause-index c =
+    let p : PassState = c.args.turn.now.pass in
+    let t = pointed_now p c.args.value c.is_in_order.ensures.history c.requires.undecided c.requires.value in
+    let e : Some t.cell ≡ Some c.unwrap_or.result = sym t.target ∙ returns-clause-cell c in
+    let cell : t.cell ≡ c.unwrap_or.result = cc e in
+    subst (λ (x : Cell). x.index < 32) cell t.index
