@@ -20,3 +20,4 @@ pub mod LoadedFrees
 pub mod FoundCells
 pub mod SeenDoubles
 pub mod FreeSteps
+pub mod FreedTold
