@@ -15,3 +15,9 @@ pub mod Takes
 pub mod CarvedPages
 pub mod PlacedNews
 pub mod FreedCells
+pub mod AdmittedFrees
+pub mod LoadedFrees
+pub mod FoundCells
+pub mod SeenDoubles
+pub mod FreeSteps
+pub mod FreedTold

@@ -1,6 +1,6 @@
 -- What a look of the turn's holder finds, and that it leaves all as it was.
 use Rattle.std.proofs.Common.{◌≡◌, ℕ, ◌%◌, true, false, [], ◌++◌, refl, ◌∙◌, ap}
-use Rattle.std.specs.Prelude.{Option, slice_index_or}
+use Rattle.std.specs.Prelude.{Option, slice_index_or, slice_index}
 use Rattle.std.proofs.lemmas.Bool.{lt-ltb}
 use Rattle.mk_never.specs.declared.operations.Op.{Op}
 use Rattle.mk_geom.specs.Storages.{free_page}
@@ -16,7 +16,7 @@ use Rattle.mk_core.specs.History.{World, IsHistory, left, world_behind}
 use Rattle.mk_core.specs.Moments.{Moment, flight_of}
 use Rattle.mk_core.specs.Order.{seat_exists}
 use Rattle.mk_core.specs.Readings.{Holds}
-use Rattle.mk_core.specs.Words.{named_word, phase_of}
+use Rattle.mk_core.specs.Words.{named_word, phase_of, quarantine_word}
 use Rattle.mk_words.specs.Seats.{Has}
 use Rattle.mk_words.specs.States.{PassState, call_of, now_of, world_of}
 use Rattle.mk_words.specs.Steps.{Finds, may_decide, moment_of}
@@ -61,20 +61,21 @@ looks_on p x at plain w v before kept known pages =
     (still_acting p.table.config p.seat (world_of p) v at here) in
     left_joined p.seat (world_of p) v _ here (look_leaves p.table.config v p.seat x call plain)
 
+-- Such a look decides nothing.
+pub plain_is_idle : (x : Word) → IsPlain x → may_decide (step.Look x) ≡ false
+plain_is_idle x (OfHead p) = refl
+plain_is_idle x (OfUsed p) = refl
+plain_is_idle x OfHeld = refl
+plain_is_idle x OfFresh = refl
+plain_is_idle x OfPhase = refl
+
 pub look_reaches : (p q : PassState) (o : Option Op) (x : Word) → IsTurn p o → is_acting (call_of p).stage ≡ true
     → IsPlain x → Acts p (step.Look x) q
     → Has p.seats p.seat → IsHistory q.table.config q.seen → OnlyLooks p q
 look_reaches p q o x turn acts plain a own history =
     reaches_still is_look p p q (IsAsLeft p.seat (world_of p)) (IsAsLeft p.seat (world_of p)) [] (step.Look x)
     (reaches_nothing is_look p (IsAsLeft p.seat (world_of p)) (left_same p.seat (world_of p))) a own history refl
-    (acting_caller p acts) (looks_idle x plain) (looks_on p x (acting_now p o turn acts) plain)
-  where
-    looks_idle : (x : Word) → IsPlain x → may_decide (step.Look x) ≡ false
-    looks_idle x (OfHead p) = refl
-    looks_idle x (OfUsed p) = refl
-    looks_idle x OfHeld = refl
-    looks_idle x OfFresh = refl
-    looks_idle x OfPhase = refl
+    (acting_caller p acts) (plain_is_idle x plain) (looks_on p x (acting_now p o turn acts) plain)
 
 -- What it finds is what the word is for the holder.
 module _ (p q : PassState) (o : Option Op) (x : Word) (n : ℕ) (turn : IsTurn p o) (f : Finds p (step.Look x) n q)
@@ -98,3 +99,9 @@ pub found_phase : (p q : PassState) (o : Option Op) (n : ℕ) → IsTurn p o →
 found_phase p q o n turn f own history =
     ap (λ i. i % 8) f.finds ∙ ap (λ (t : Steady). t.phase)
     (((made p (step.Look word.Phase) q f.makes own history).frame.turn turn.holds).0).steady
+
+pub found_quarantine : (p q : PassState) (o : Option Op) (page n : ℕ) → IsTurn p o → Finds p (step.Look (word.Quar page)) n q → Has p.seats p.seat
+    → IsHistory q.table.config q.seen → n ≡ named_word (now_of p).words (word.Quar page)
+found_quarantine p q o page n turn f own history =
+    let same = (((made p (step.Look (word.Quar page)) q f.makes own history).frame.turn turn.holds).0).steady in
+    f.finds ∙ ap (λ (t : Steady). quarantine_word (slice_index t.freed page) (slice_index t.snapshot page)) same

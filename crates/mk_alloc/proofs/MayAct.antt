@@ -19,15 +19,15 @@ use Rattle.mk_core.specs.Words.{phase_of}
 use Rattle.mk_core.specs.Cells.{is_unmapped_header}
 use Rattle.mk_core.specs.Enabled.{IsEnabled, marker_may, holder_may}
 use Rattle.mk_core.specs.Moments.{Moment, flight_of, marker_at, is_phase, others_are_held}
-use Rattle.mk_core.specs.NewPlaces.{is_new_at, is_undecided_new, object_made}
+use Rattle.mk_core.specs.NewPlaces.{is_new_at, is_undecided_free, is_undecided_new, target, object_made}
 use Rattle.mk_core.specs.Order.{comes_next, group_of, is_in_order, is_of_any_holder, is_open_to, may_decide, seat_exists}
-use Rattle.mk_core.specs.Ranges.{is_in_range, is_word, has_gates, has_phase}
+use Rattle.mk_core.specs.Ranges.{is_in_range, is_run_cell, is_word, has_gates, has_phase}
 use Rattle.mk_core.specs.StopConditions.{marks_by_hand, marks_place}
-use Rattle.mk_core.specs.TurnConditions.{carves, is_used_once, place_now, takes_cell, unmaps}
+use Rattle.mk_core.specs.TurnConditions.{carves, frees, takes_snapshot, is_used_once, place_now, takes_cell, unmaps}
 use Rattle.mk_core.specs.declared.events.Word.{Word}
 use Rattle.mk_core.specs.declared.seats.Flight.{Flight}
 use Rattle.mk_core.proofs.Conditions.{meets_enabled}
-use Rattle.mk_core.proofs.PlacesNow.{undecided_new}
+use Rattle.mk_core.proofs.PlacesNow.{undecided_free, undecided_new}
 use Rattle.mk_alloc.specs.Looking.{is_acting, is_steady_word}
 use Rattle.mk_alloc.specs.Placing.{IsOutOfStop}
 
@@ -62,6 +62,9 @@ order_of_acting c m Host x acts any = cc
 
 pub new_is_acting : (f : Flight) → is_undecided_new f ≡ true → is_acting f.stage ≡ true
 new_is_acting f new = ap is_acting (undecided_new f new).stage
+
+pub free_is_acting : (f : Flight) → is_undecided_free f ≡ true → is_acting f.stage ≡ true
+free_is_acting f free = ap is_acting (undecided_free f free).stage
 
 grant_comes_next : (s : Stage) (o : Op) → is_new_at s o ≡ true → comes_next s o step.Grant ≡ true
 grant_comes_next stage.Turn (op.New d ty full) h = refl
@@ -109,6 +112,18 @@ module _ (c : Config) (m : Moment) (s : Seat) (at : IsActing c m s) where
 
   pub may_look_phase : IsEnabled c m (record { seat = s; step = step.Look word.Phase })
   may_look_phase = may_by (step.Look word.Phase) refl (order_of_acting c m s (step.Look word.Phase) at.acts refl) refl refl refl refl refl
+
+  pub may_look_quarantine : (p : ℕ) → p < c.pages → IsEnabled c m (record { seat = s; step = step.Look (word.Quar p) })
+  may_look_quarantine p within =
+      may_by (step.Look (word.Quar p)) refl (order_of_acting c m s (step.Look (word.Quar p)) at.acts refl) (lt-ltb p c.pages within)
+      refl refl refl refl
+
+  pub may_free : (p v : ℕ) → p < c.pages → IsOutOfStop m
+      → (not (is_run_cell m.words (target c.pages m.words (flight_of m s))) || others_are_held c.callers m.words s) ≡ true
+      → frees m.words (target c.pages m.words (flight_of m s)) p v ≡ true → IsEnabled c m (record { seat = s; step = step.Quar p v })
+  may_free p v within low gates frees =
+      may_by (step.Quar p v) refl (order_of_acting c m s (step.Quar p v) at.acts refl) (lt-ltb p c.pages within) gates
+      (low_or_more (phase_of m.words) 4 low) refl (rw (off_four m low) (or_left _ (takes_snapshot m.words p v) frees))
 
   pub may_tally : (n : Tally) (v : ℕ) → IsEnabled c m (record { seat = s; step = step.Tally n v })
   may_tally n v = may_by (step.Tally n v) refl (order_of_acting c m s (step.Tally n v) at.acts refl) refl refl refl refl refl

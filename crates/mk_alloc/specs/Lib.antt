@@ -4,3 +4,4 @@ pub mod Serving
 pub mod Entries
 pub mod Placing
 pub mod Looking
+pub mod Retiring

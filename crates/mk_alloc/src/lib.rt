@@ -4,5 +4,6 @@
 mod looking;
 mod objects;
 mod placing;
+mod retiring;
 
 pub use placing::place_object;

@@ -1,10 +1,11 @@
 //! Looks of the turn's holder, at words that none but it changes.
-ghost use Rattle.std.specs.Prelude.{◌≡◌, ◌<◌, ◌%◌, true, length};
+ghost use Rattle.std.specs.Prelude.{◌≡◌, ℕ, ◌<◌, ◌%◌, true, length};
 ghost use Rattle.mk_core.specs.Ranges.{is_word};
 ghost use Rattle.mk_core.specs.Words.{named_word, page_of, phase_of};
 ghost use Rattle.mk_words.specs.States.{call_of, now_of};
 ghost use Rattle.mk_alloc.specs.Looking.{is_acting, is_steady_word};
 ghost use Rattle.mk_alloc.specs.Placing.{OnlyLooks};
+ghost use Rattle.mk_alloc.specs.Retiring.{value_of};
 
 use mk_books::Book;
 use mk_core::Word;
@@ -20,6 +21,7 @@ pub(crate) fn look_at(words: &Words, turn: &mut Turn, word: Word) -> u64
     ensures op { turn.new.op ≡ turn.old.op }
     ensures looks { OnlyLooks turn.old.pass turn.new.pass }
     ensures finds { result ≡ named_word (now_of turn.old.pass).words word }
+    ensures keeps { (r : ℕ) → r < 8 → value_of turn.new.pass r ≡ value_of turn.old.pass r }
 {
     turn.is_in_order();
     let found = turn.look(words, word);

@@ -1,4 +1,7 @@
-use Rattle.mk_alloc.proofs.Looks.{acting_now, found_steady, look_reaches}
+use Rattle.mk_core.specs.declared.events.Step.TheVariants as step
+use Rattle.mk_words.proofs.Undecided.{decides_nothing}
+use Rattle.mk_alloc.proofs.LoadedFrees.{value_kept}
+use Rattle.mk_alloc.proofs.Looks.{acting_caller, plain_is_idle, acting_now, found_steady, look_reaches}
 use Rattle.mk_alloc.proofs.MayAct.{may_look}
 use Rattle.mk_alloc.proofs.Unchanged.{steady_is_plain}
 use Rattle.mk_alloc.proofs.looking.look_at.Goals as goal
@@ -22,3 +25,11 @@ returns-clause-finds c =
     found_steady t.pass c.look-found.new.self.pass t.op c.args.word c.look-found.result c.is_in_order.ensures.turn
     c.look-found.ensures.finds
     c.is_in_order.ensures.own c.is_in_order-2.ensures.history c.requires.steady
+
+pub returns-clause-keeps : goal.returns-clause-keeps
+returns-clause-keeps c =
+    let t = c.args.turn.now in
+    λ r lt.
+    value_kept t.pass c.look-found.new.self.pass r (step.Look c.args.word) (acting_caller t.pass c.requires.acting) lt c.look-found.ensures.acts
+    c.is_in_order.ensures.own c.is_in_order-2.ensures.history
+    (λ v kept known. decides_nothing t.pass.table.config v.now t.pass.seat (step.Look c.args.word) (plain_is_idle c.args.word (steady_is_plain c.args.word c.requires.steady)))

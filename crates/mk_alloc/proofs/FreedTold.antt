@@ -1,0 +1,48 @@
+-- The freed bit of an unreleased allocation's cell says whether it is freed.
+use Rattle.std.proofs.Common.{◌≡◌, ◌⊎◌, ℕ, Bool, true, false, List, refl, sym, ap, ◌∙◌, inl, inr}
+use Rattle.std.specs.Prelude.{slice_index}
+use Rattle.std.proofs.lemmas.Bool.{cases_Bool, false_from_ne_true, true≢false}
+use Rattle.mk_geom.specs.declared.addresses.Cell.{Cell}
+use Rattle.mk_core.specs.declared.config.Config.{Config}
+use Rattle.mk_core.specs.declared.events.Event.{Event}
+use Rattle.mk_core.specs.Allocations.{PlacedAllocation, cell_of_allocation, placed_at}
+use Rattle.mk_core.specs.Bits.{has_bit}
+use Rattle.mk_core.specs.Cells.{is_freed}
+use Rattle.mk_core.specs.History.{IsHistory, World, left}
+use Rattle.mk_core.specs.Moments.{is_phase}
+use Rattle.mk_layout.specs.LayoutLaws.{StandsInOrder}
+use Rattle.mk_layout.specs.Quarantine.{IsFreedCell}
+use Rattle.mk_layout.specs.Scene.{is_released_in}
+use Rattle.mk_layout.proofs.Settled.{unreleased_are_apart}
+use Rattle.mk_invariant.proofs.Histories.{histories_keep_the_invariant}
+
+pub freed_told : (c : Config) (es : List Event) (i : ℕ) → IsHistory c es → is_phase (left c es).now.words 4 ≡ false
+    → (placed_at (left c es).allocations i).released ≡ false
+    → is_freed (left c es).now.words (cell_of_allocation c (placed_at (left c es).allocations i)) ≡ (placed_at (left c es).allocations i).freed
+freed_told c es i h off u = elim (cases_Bool (placed_at (left c es).allocations i).freed) [
+  | inl freed ↦ order.quarantined.shown i u freed ∙ sym freed
+  | inr live ↦
+      false_from_ne_true (is_freed w.now.words k)
+      (λ set. true≢false (sym (other (order.quarantined.owned k.page k.index set)) ∙ live))
+      ∙ sym live
+]
+  where
+    w : World
+    w = left c es
+
+    k : Cell
+    k = cell_of_allocation c (placed_at (left c es).allocations i)
+
+    order : StandsInOrder c (left c es)
+    order = (histories_keep_the_invariant c es h).order
+
+    other : IsFreedCell c (left c es).allocations (cell_of_allocation c (placed_at (left c es).allocations i)).page (cell_of_allocation c (placed_at (left c es).allocations i)).index
+        ⊎ (is_released_in (is_phase (left c es).now.words 4) (left c es).now.words.snapshot (left c es).now.words.marks
+        (cell_of_allocation c (placed_at (left c es).allocations i)).page (cell_of_allocation c (placed_at (left c es).allocations i)).index ≡ true)
+        → (placed_at (left c es).allocations i).freed ≡ true
+    other (inl f) =
+        let one = unreleased_are_apart c es order.laid f.number i f.unreleased u f.cell in
+        ap (λ j. (placed_at (left c es).allocations j).freed) (sym one) ∙ f.freed
+    other (inr gone) =
+        let none : false ≡ true = sym (ap (λ b. is_released_in b (left c es).now.words.snapshot (left c es).now.words.marks
+        (cell_of_allocation c (placed_at (left c es).allocations i)).page (cell_of_allocation c (placed_at (left c es).allocations i)).index) off) ∙ gone in cc
