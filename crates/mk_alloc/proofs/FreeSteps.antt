@@ -111,23 +111,24 @@ quar_behind c k cell value w v lt kept low at clear is small =
     let allocations : u.allocations ≡ map (freed_where_it_stands w.now.words (Some cell)) w.allocations =
     ap (λ (x : Option Cell). map (freed_where_it_stands v.now.words x) v.allocations) frees
     ∙ ap (λ (ps : List Page). map (freed_where_it_stands (record v.now.words { pages = ps }) (Some cell)) v.allocations) pages
-    ∙ ap (λ (xs : List PlacedAllocation). map (freed_where_it_stands w.now.words (Some cell)) xs) (ap (λ (x : Steady). x.allocations) kept.steady) in
-    (record {
-      call = call_behind c v.now k (step.Quar cell.page value) lt ∙ ap (λ (x : Option Cell). (progress_freed f x).flight) frees
-          ∙ ap (λ (g : Flight). record g { stage = stage.Give }) kept.call;
-      holding = ap (λ (x : Option Cell). record v.now.seats.holding { freed = or_else (run_of_cell v.now.words x) v.now.seats.holding.freed }) frees
-          ∙ ap (λ (ps : List Page). record v.now.seats.holding { freed = or_else (run_of_cell (record v.now.words { pages = ps }) (Some cell)) v.now.seats.holding.freed }) pages
-          ∙ ap (λ (h : Holding). record h { freed = or_else (run_of_cell w.now.words (Some cell)) h.freed }) kept.holding;
-      freed = freed;
-      snapshot = snapshot;
-      fresh = ap (λ (x : Option Cell). min (v.now.fresh_words + words_freed v.now.words x) (2 ^ 64 - 1)) frees
-          ∙ ap (λ (ps : List Page). min (v.now.fresh_words + words_freed (record v.now.words { pages = ps }) (Some cell)) (2 ^ 64 - 1)) pages
-          ∙ ap (λ i. min (i + words_freed w.now.words (Some cell)) (2 ^ 64 - 1)) (ap (λ (x : Steady). x.fresh_words) kept.steady);
-      steady = ap (λ (xs : List PlacedAllocation). record (steady_of v) { freed = u.now.words.freed; snapshot = u.now.words.snapshot; fresh_words = u.now.fresh_words; allocations = xs }) allocations
-          ∙ ap (λ (x : Steady). record x { freed = u.now.words.freed; snapshot = u.now.words.snapshot; fresh_words = u.now.fresh_words; allocations = map (freed_where_it_stands w.now.words (Some cell)) w.allocations }) kept.steady;
-      registers = kept.registers;
-    },
-    ap (λ (x : Option Cell). (progress_freed f x).answer) frees)
+    ∙ ap (λ (xs : List PlacedAllocation). map (freed_where_it_stands w.now.words (Some cell)) xs) (ap (λ (x : Steady). x.allocations) kept.steady) in (
+      record {
+        call = call_behind c v.now k (step.Quar cell.page value) lt ∙ ap (λ (x : Option Cell). (progress_freed f x).flight) frees
+            ∙ ap (λ (g : Flight). record g { stage = stage.Give }) kept.call;
+        holding = ap (λ (x : Option Cell). record v.now.seats.holding { freed = or_else (run_of_cell v.now.words x) v.now.seats.holding.freed }) frees
+            ∙ ap (λ (ps : List Page). record v.now.seats.holding { freed = or_else (run_of_cell (record v.now.words { pages = ps }) (Some cell)) v.now.seats.holding.freed }) pages
+            ∙ ap (λ (h : Holding). record h { freed = or_else (run_of_cell w.now.words (Some cell)) h.freed }) kept.holding;
+        freed = freed;
+        snapshot = snapshot;
+        fresh = ap (λ (x : Option Cell). min (v.now.fresh_words + words_freed v.now.words x) (2 ^ 64 - 1)) frees
+            ∙ ap (λ (ps : List Page). min (v.now.fresh_words + words_freed (record v.now.words { pages = ps }) (Some cell)) (2 ^ 64 - 1)) pages
+            ∙ ap (λ i. min (i + words_freed w.now.words (Some cell)) (2 ^ 64 - 1)) (ap (λ (x : Steady). x.fresh_words) kept.steady);
+        steady = ap (λ (xs : List PlacedAllocation). record (steady_of v) { freed = u.now.words.freed; snapshot = u.now.words.snapshot; fresh_words = u.now.fresh_words; allocations = xs }) allocations
+            ∙ ap (λ (x : Steady). record x { freed = u.now.words.freed; snapshot = u.now.words.snapshot; fresh_words = u.now.fresh_words; allocations = map (freed_where_it_stands w.now.words (Some cell)) w.allocations }) kept.steady;
+        registers = kept.registers;
+      },
+      ap (λ (x : Option Cell). (progress_freed f x).answer) frees,
+    )
 
 -- at the seat of a pass
 module _ (p : PassState) (cell : Cell) (value : ℕ) (v : World) (known : Known p.table.config v.now) (low : IsOutOfStop (now_of p)) where

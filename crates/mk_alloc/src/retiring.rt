@@ -16,6 +16,7 @@ use mk_words::{Turn, Words};
 
 /// The address of the heap's first word, and how many a page takes.
 const HEAP_START: u64 = 65536;
+
 const PAGE_BYTES: u64 = 512;
 
 /// The low half of a quarantine word has the freed bits, and the high half the snapshot.
