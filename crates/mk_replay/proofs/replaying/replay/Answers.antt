@@ -47,7 +47,7 @@ returns-clause-texts c =
 
 pub returns-clause-admitted : goal.returns-clause-admitted
 returns-clause-admitted c =
-    let known = c.program-_well_typed.ensures in
+    let known = c.program-well_typed.ensures in
     let checked : IsChecked c.args.program.now = record { well_typed = known.well_typed; of_some_text = known.of_some_text } in
     (schedule_is_history c.args.program.now c.args.schedule.now checked
     (over c.args.program.now c.args.schedule.now c.entries-entry-items.result.now c.loop-entry.entry-index c.loop-entry.run
@@ -55,7 +55,7 @@ returns-clause-admitted c =
 
 pub returns-clause-promises : goal.returns-clause-promises
 returns-clause-promises c =
-    let known = c.program-_well_typed.ensures in
+    let known = c.program-well_typed.ensures in
     let checked : IsChecked c.args.program.now = record { well_typed = known.well_typed; of_some_text = known.of_some_text } in
     schedule_keeps_all_promises c.args.program.now c.args.schedule.now checked
     (over c.args.program.now c.args.schedule.now c.entries-entry-items.result.now c.loop-entry.entry-index c.loop-entry.run
