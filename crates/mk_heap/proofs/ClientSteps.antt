@@ -1,13 +1,11 @@
 -- What the client's calls ask.
-use Rattle.std.proofs.Common.{◌≡◌, ℕ, ◌+◌, ◌*◌, ◌<◌, ◌≤◌, List, length, refl, sym, ◌∙◌, ap, subst, arith}
+use Rattle.std.proofs.Common.{◌≡◌, ℕ, ◌+◌, ◌*◌, ◌<◌, List, length, refl, sym, ◌∙◌, ap, subst, arith}
 use Rattle.std.proofs.lemmas.List.{length-replicate}
 use Rattle.mk_never.specs.declared.operations.Op.TheVariants as op
 use Rattle.mk_never.specs.declared.values.Value.TheVariants.{Null}
-use Rattle.mk_never.specs.NeverHeap.{NeverState}
 use Rattle.mk_never.proofs.Later.{calls_stay}
 use Rattle.mk_core.specs.declared.config.Config.{Config}
 use Rattle.mk_core.specs.declared.events.Event.{Event}
-use Rattle.mk_core.specs.declared.events.Seat.{Seat}
 use Rattle.mk_core.specs.declared.events.Seat.TheVariants.{Caller}
 use Rattle.mk_core.specs.Accesses.{caller_number}
 use Rattle.mk_core.specs.Decided.{asked}
@@ -42,6 +40,7 @@ pass_of_next h x w is table lt =
 
 -- the host behind one caller
 pub behind_one : (h g : HostState) (w : WordsState) → h ≡ first_host w → g ≡ with_caller_made h → (g.callers ≡ 1) × (g.pass.table ≡ w)
-behind_one h g w first is =
-    (ap (λ (x : HostState). x.callers) is ∙ ap (λ (x : HostState). x.callers + 1) first,
-    ap (λ (x : HostState). x.pass.table) is ∙ ap (λ (x : HostState). x.pass.table) first)
+behind_one h g w first is = (
+  ap (λ (x : HostState). x.callers) is ∙ ap (λ (x : HostState). x.callers + 1) first,
+  ap (λ (x : HostState). x.pass.table) is ∙ ap (λ (x : HostState). x.pass.table) first,
+)

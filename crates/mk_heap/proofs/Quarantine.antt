@@ -1,5 +1,5 @@
 -- The freed bits of the quarantine words are as many as the allocations that are freed and unreleased.
-use Rattle.std.proofs.Common.{◌≡◌, ◌≢◌, ◌⊎◌, inl, inr, ℕ, zero, suc, ◌+◌, ◌*◌, ◌<◌, ◌≤◌, ◌^◌, Bool, true, false, cond, not, ◌&&◌, ◌==◌, List, length, get_or, count_by, count_ones, refl, sym, ◌∙◌, ap, subst, arith}
+use Rattle.std.proofs.Common.{◌≡◌, ◌≢◌, ◌⊎◌, inl, inr, ℕ, zero, suc, ◌<◌, ◌≤◌, ◌^◌, Bool, true, false, cond, not, ◌&&◌, ◌==◌, List, get_or, count_by, count_ones, refl, sym, ◌∙◌, ap, subst, arith}
 use Rattle.std.specs.Prelude.{◌%◌, slice_index, nat_eq}
 use Rattle.std.specs.Int.{bit_at}
 use Rattle.std.proofs.lemmas.Bool.{and_from, and_parts, cases_lt, eqb-true, eq-eqb, not-true}
@@ -16,10 +16,9 @@ use Rattle.mk_core.specs.Allocations.{PlacedAllocation, cell_of_allocation, neve
 use Rattle.mk_core.specs.Bits.{has_bit}
 use Rattle.mk_core.specs.Cells.{is_freed}
 use Rattle.mk_core.specs.Cycles.{is_quarantined}
-use Rattle.mk_core.specs.History.{World, left, never_behind, IsHistory}
+use Rattle.mk_core.specs.History.{left, never_behind, IsHistory}
 use Rattle.mk_core.specs.Words.{Words, phase_of}
 use Rattle.mk_core.proofs.Lengths.{histories_keep_lengths}
-use Rattle.mk_layout.specs.Quarantine.{IsFreedCell}
 use Rattle.mk_layout.proofs.Settled.{unreleased_are_apart}
 use Rattle.mk_images.proofs.KnownWorlds.{known_world}
 use Rattle.mk_invariant.proofs.Histories.{histories_keep_the_invariant}

@@ -1,5 +1,5 @@
-use Rattle.std.proofs.Common.{◌≡◌, ◌∙◌, ◌<◌, ◌+◌, sym, ap, subst}
-use Rattle.mk_words.specs.States.{WordsState, PassState}
+use Rattle.std.proofs.Common.{◌+◌, sym, subst}
+use Rattle.mk_words.specs.States.{PassState}
 use Rattle.mk_marker.specs.Markers.{IsMarkers}
 use Rattle.mk_heap.specs.Hosts.{HostState, IsHost}
 use Rattle.mk_heap.proofs.HostsKept.{marker_made_is_host, home_host, home_is, home_view}
