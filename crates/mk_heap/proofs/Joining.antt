@@ -58,7 +58,8 @@ still_rests c seats es fs s h g has rests =
     (record { call = kept.own.flight ∙ rests.call; out = kept.own.marker ∙ rests.out })
 
 -- and the host hasn't got the turn by them.
-pub still_no_turn : (id : TableId) (c : Config) (seats : List Seat) (es fs : List Event) → IsHistory c fs → Grows seats es fs → Has seats Host
+pub still_no_turn : (id : TableId) (c : Config) (seats : List Seat) (es fs : List Event) → IsHistory c fs
+    → Grows seats es fs → Has seats Host
     → host_has_turn c (left c es).now ≡ false → host_has_turn c (left c fs).now ≡ false
 still_no_turn id c seats es fs h g has no_turn =
     let whole = begins c seats es fs h g in

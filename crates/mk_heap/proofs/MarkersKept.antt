@@ -56,7 +56,8 @@ pub next_is_out : (h : HostState) → IsHost h → h.markers < 8 → marker_at (
 next_is_out h is lt = (is.rests (Marker h.markers) (is.markers h.markers (omega arith) lt)).out
 
 -- There are eight markers at most.
-pub few_markers : (h g : HostState) (w v : WordsState) → h ≡ g → w ≡ v → g.markers < v.config.markers → IsWithinLimits w.config → h.markers < 8
+pub few_markers : (h g : HostState) (w v : WordsState) → h ≡ g → w ≡ v → g.markers < v.config.markers
+    → IsWithinLimits w.config → h.markers < 8
 few_markers h g w v same table more limits =
     let least : h.markers < w.config.markers = subst (λ (x : HostState). x.markers < w.config.markers) (sym same)
     (subst (λ (x : WordsState). g.markers < x.config.markers) (sym table) more) in

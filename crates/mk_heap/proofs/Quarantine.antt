@@ -92,10 +92,12 @@ module _ (c : Config) (es : List Event) (h : IsHistory c es) (quiet : phase_of (
   counted_in_cell p k =
       let all = histories_keep_the_invariant c es h in
       let known = known_world c es h.within_limits h.enabled in
-      one_if_any never_granted (in_cell c p k) (is_freed (left c es).now.words (record { page = p; index = k })) (left c es).allocations refl
+      one_if_any never_granted (in_cell c p k) (is_freed (left c es).now.words (record { page = p; index = k }))
+      (left c es).allocations refl
       (λ bit.
       let o = freed_cell c (left c es) (never_behind c es) known all quiet (record { page = p; index = k }) bit in
-      (o.number, is_in_too c p k (placed_at (left c es).allocations o.number) (record { freed = o.freed; unreleased = o.unreleased; cell = o.cell })))
+      (o.number, is_in_too c p k (placed_at (left c es).allocations o.number)
+      (record { freed = o.freed; unreleased = o.unreleased; cell = o.cell })))
       (λ i there.
       let x = is_in c p k (placed_at (left c es).allocations i) there in
       subst (λ (y : Cell). is_freed (left c es).now.words y ≡ true) x.cell (all.order.quarantined.shown i x.unreleased x.freed))

@@ -27,7 +27,8 @@ use Rattle.mk_heap.proofs.Waiting.{MovesOn, waits_move, moves_more}
 pub look_admitted : (p : PassState) (x : Word) → p.seat ≡ Host → IsHistory p.table.config p.seen → IsAdmittedTo p (step.Look x)
 look_admitted p x host h =
     let c : Config = p.table.config in
-    subst (λ (s : Seat). AreAdmitted c.globals (never_first c) (asked (calls c (p.seen ++ record { seat = s; step = step.Look x } ∷ [])))) (sym host)
+    subst (λ (s : Seat). AreAdmitted c.globals (never_first c)
+    (asked (calls c (p.seen ++ record { seat = s; step = step.Look x } ∷ [])))) (sym host)
     (subst (λ (xs : List Decided). AreAdmitted c.globals (never_first c) (asked xs))
     (sym (calls_more c (first_world c) p.seen (record { seat = Host; step = step.Look x }) ∙ append-nil (calls c p.seen))) h.admitted)
 
