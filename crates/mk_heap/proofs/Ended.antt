@@ -1,10 +1,10 @@
 -- Where all are joined nobody holds the turn, so the tallies are the counts.
-use Rattle.std.proofs.Common.{◌≡◌, ◌≢◌, ◌⊎◌, ℕ, ◌+◌, ◌-◌, ◌<◌, ◌≤◌, true, false, List, refl, sym, ◌∙◌, ap, subst, inl, inr, ⊎_elim, arith}
+use Rattle.std.proofs.Common.{◌≡◌, ◌≢◌, ◌⊎◌, ◌+◌, ◌-◌, ◌<◌, true, false, List, sym, ◌∙◌, ap, subst, inl, inr, arith}
 use Rattle.std.proofs.lemmas.Bool.{cases_eq, eq-eqb, lt-ltb, true≢false}
 use Rattle.mk_core.specs.declared.config.Config.{Config}
 use Rattle.mk_core.specs.declared.events.Event.{Event}
 use Rattle.mk_core.specs.declared.events.Seat.{Seat}
-use Rattle.mk_core.specs.declared.events.Seat.TheVariants.{Caller, Marker, Host}
+use Rattle.mk_core.specs.declared.events.Seat.TheVariants.{Caller}
 use Rattle.mk_core.specs.declared.seats.Flight.{Flight}
 use Rattle.mk_core.specs.Counts.{IsTidy}
 use Rattle.mk_core.specs.History.{left, IsHistory}
@@ -26,6 +26,19 @@ use Rattle.mk_heap.specs.Reports.{HasCounts, IsWhole}
 use Rattle.mk_heap.proofs.HostsKept.{all_home}
 use Rattle.mk_heap.proofs.Quarantine.{freed_cells_are_quarantined}
 
+-- the report of a table that has ended
+abbrev pub report_of : Final → Report
+report_of f =
+    record {
+      held = f.held;
+      fresh = f.fresh;
+      quarantined = f.quarantined;
+      released = f.released;
+      cycles = f.cycles;
+      full = f.full;
+      last = f;
+    }
+
 -- the turn of a moment at which all rest
 rested_turn : (c : Config) (m : Moment) → Protocol c m → host_has_turn c m ≡ false
     → ((s : Seat) → seat_exists c s ≡ true → Rests m s) → m.words.turn ≡ 0
@@ -45,7 +58,7 @@ pub counts_told : (c : Config) (es : List Event) (f : Final) → IsHistory c es 
     → host_has_turn c (left c es).now ≡ false → ((s : Seat) → seat_exists c s ≡ true → Rests (left c es).now s)
     → HasTallies (left c es).now.words c.pages f
     → HasCounts c es
-    (record { held = f.held; fresh = f.fresh; quarantined = f.quarantined; released = f.released; cycles = f.cycles; full = f.full; last = f })
+    (report_of f)
 counts_told c es f h tidy no_turn rests told =
     let protocol = protocol_of c (left c es).now (known_left c es h.within_limits h.enabled) in
     let free = rested_turn c (left c es).now protocol no_turn rests in
@@ -81,9 +94,9 @@ module _ (h : HostState) (w : WordsState) (is : IsHost h) (joined : AllAreJoined
 
         pub ends_counted : HasTallies (now_of h.pass).words w.config.pages f
             → HasCounts (final.config_of f) (final.history_of f)
-            (record { held = f.held; fresh = f.fresh; quarantined = f.quarantined; released = f.released; cycles = f.cycles; full = f.full; last = f })
+            (report_of f)
         ends_counted told =
-            let r : Report = record { held = f.held; fresh = f.fresh; quarantined = f.quarantined; released = f.released; cycles = f.cycles; full = f.full; last = f } in
+            let r : Report = report_of f in
             subst (λ (c : Config). HasCounts c (final.history_of f) r) (ap (λ (x : WordsState). x.config) table ∙ sym config)
             (subst (λ (es : List Event). HasCounts h.pass.table.config es r) (sym seen)
             (counts_told h.pass.table.config h.pass.seen f history tidy is.no_turn all_rest

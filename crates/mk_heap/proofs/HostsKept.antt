@@ -1,5 +1,5 @@
 -- What always holds of the host holds of the first, and is kept where a caller or a marker is made or joined.
-use Rattle.std.proofs.Common.{◌≡◌, ◌⊎◌, ℕ, ◌+◌, ◌<◌, ◌≤◌, true, false, List, [], ◌∷◌, ◌++◌, get_or, replicate, refl, sym, ◌∙◌, ap, subst, inl, inr, ⊎_elim, arith}
+use Rattle.std.proofs.Common.{◌≡◌, ℕ, ◌+◌, ◌<◌, ◌≤◌, List, [], ◌∷◌, get_or, replicate, refl, sym, ◌∙◌, ap, subst, ⊎_elim, arith}
 use Rattle.std.specs.Prelude.{Option, Some}
 use Rattle.std.proofs.lemmas.Bool.{ne_eqb, lt-ltb, cases_lt, ltb-true}
 use Rattle.std.proofs.lemmas.List.{get_or-replicate, get_or_past, length-replicate}
@@ -8,13 +8,12 @@ use Rattle.mk_core.specs.declared.events.Event.{Event}
 use Rattle.mk_core.specs.declared.events.Seat.{Seat}
 use Rattle.mk_core.specs.declared.events.Seat.TheVariants.{Caller, Marker, Host}
 use Rattle.mk_core.specs.Calls.{at_rest}
-use Rattle.mk_core.specs.Growing.{Grows, is_same_seat}
+use Rattle.mk_core.specs.Growing.{Grows}
 use Rattle.mk_core.specs.History.{left, left_from, IsHistory}
 use Rattle.mk_core.specs.Moments.{first_moment, marker_at, outside}
-use Rattle.mk_core.specs.Order.{seat_exists, host_has_turn}
-use Rattle.mk_words.specs.Seats.{Has, HasAll, all_seats, without_seat}
+use Rattle.mk_words.specs.Seats.{Has, HasAll}
 use Rattle.mk_words.specs.States.{WordsState, PassState, now_of}
-use Rattle.mk_words.proofs.Seats.{has_all, has_either, has_left, has_right, only_one, without_keeps, without_less}
+use Rattle.mk_words.proofs.Seats.{has_all, has_either, has_left, only_one, without_keeps, without_less}
 use Rattle.mk_caller.specs.States.{IsIdleCaller}
 use Rattle.mk_heap.specs.Hosts.{HostState, host_of, IsWholeHost, pass_for, first_host, with_caller_made, with_marker_made, with_joined, AllAreJoined, Rests, IsDone, IsHost}
 use Rattle.mk_heap.proofs.Joining.{still_rests, still_no_turn}

@@ -1,28 +1,26 @@
 -- What the host knows still holds behind the events of others.
-use Rattle.std.proofs.Common.{◌≡◌, ◌⊎◌, ℕ, ◌+◌, ◌<◌, ◌≤◌, Bool, true, false, not, List, [], ◌∷◌, ◌++◌, refl, sym, ◌∙◌, ap, subst, inl, inr, ⊎_elim, arith}
-use Rattle.std.specs.Prelude.{None, ◌==◌}
-use Rattle.std.proofs.lemmas.Bool.{cases_eq}
+use Rattle.std.proofs.Common.{◌≡◌, Bool, true, false, not, List, ◌++◌, refl, sym, ◌∙◌, ap, subst}
+use Rattle.std.specs.Prelude.{None}
 use Rattle.atomic_table.specs.Seated.{TableId}
 use Rattle.mk_core.specs.declared.config.Config.{Config}
 use Rattle.mk_core.specs.declared.events.Event.{Event}
 use Rattle.mk_core.specs.declared.events.Seat.{Seat}
-use Rattle.mk_core.specs.declared.events.Seat.TheVariants.{Caller, Marker, Host}
+use Rattle.mk_core.specs.declared.events.Seat.TheVariants.{Host}
 use Rattle.mk_core.specs.declared.events.Step.TheVariants as step
 use Rattle.mk_core.specs.Enabled.{IsEnabled}
-use Rattle.mk_core.specs.Growing.{Grows, AreOfOthers, is_same_seat}
+use Rattle.mk_core.specs.Growing.{Grows}
 use Rattle.mk_core.specs.History.{first_world, left, IsHistory}
 use Rattle.mk_core.specs.Moments.{Moment}
-use Rattle.mk_core.specs.Order.{host_has_turn, comes_next_to_host}
+use Rattle.mk_core.specs.Order.{host_has_turn}
 use Rattle.mk_core.proofs.Conditions.{enabled_meets, meets_enabled}
 use Rattle.mk_core.proofs.Histories.{last_enabled}
 use Rattle.mk_core.proofs.HistoryParts.{earlier_part_is_history}
 use Rattle.mk_protocol.proofs.Frames.{others_leave}
-use Rattle.mk_words.specs.Seats.{Has, without_seat}
-use Rattle.mk_words.specs.States.{PassState, now_of}
-use Rattle.mk_words.specs.Steps.{IsEnabledTo}
+use Rattle.mk_words.specs.Seats.{Has}
+use Rattle.mk_words.specs.States.{PassState}
 use Rattle.mk_words.proofs.LongerLists.{longer_lists}
 use Rattle.mk_words.proofs.Owed.{history_more}
-use Rattle.mk_words.proofs.Seats.{has_either, has_first, has_left, only_one, others_own, without_keeps, without_less}
+use Rattle.mk_words.proofs.Seats.{others_own}
 use Rattle.mk_heap.specs.Hosts.{Rests}
 
 abbrev take_of_host : Event
@@ -60,7 +58,8 @@ still_rests c seats es fs s h g has rests =
     (record { call = kept.own.flight ∙ rests.call; out = kept.own.marker ∙ rests.out })
 
 -- and the host hasn't got the turn by them.
-pub still_no_turn : (id : TableId) (c : Config) (seats : List Seat) (es fs : List Event) → IsHistory c fs → Grows seats es fs → Has seats Host
+pub still_no_turn : (id : TableId) (c : Config) (seats : List Seat) (es fs : List Event) → IsHistory c fs
+    → Grows seats es fs → Has seats Host
     → host_has_turn c (left c es).now ≡ false → host_has_turn c (left c fs).now ≡ false
 still_no_turn id c seats es fs h g has no_turn =
     let whole = begins c seats es fs h g in

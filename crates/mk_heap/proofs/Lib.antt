@@ -5,3 +5,5 @@ pub mod Quarantine
 pub mod Ended
 pub mod Waiting
 pub mod Telling
+pub mod MarkersKept
+pub mod ClientSteps

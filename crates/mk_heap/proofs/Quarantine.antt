@@ -1,5 +1,5 @@
 -- The freed bits of the quarantine words are as many as the allocations that are freed and unreleased.
-use Rattle.std.proofs.Common.{◌≡◌, ◌≢◌, ◌⊎◌, inl, inr, ℕ, zero, suc, ◌+◌, ◌*◌, ◌<◌, ◌≤◌, ◌^◌, Bool, true, false, cond, not, ◌&&◌, ◌==◌, List, length, get_or, count_by, count_ones, refl, sym, ◌∙◌, ap, subst, arith}
+use Rattle.std.proofs.Common.{◌≡◌, ◌≢◌, ◌⊎◌, inl, inr, ℕ, zero, suc, ◌<◌, ◌≤◌, ◌^◌, Bool, true, false, cond, not, ◌&&◌, ◌==◌, List, get_or, count_by, count_ones, refl, sym, ◌∙◌, ap, subst, arith}
 use Rattle.std.specs.Prelude.{◌%◌, slice_index, nat_eq}
 use Rattle.std.specs.Int.{bit_at}
 use Rattle.std.proofs.lemmas.Bool.{and_from, and_parts, cases_lt, eqb-true, eq-eqb, not-true}
@@ -16,10 +16,9 @@ use Rattle.mk_core.specs.Allocations.{PlacedAllocation, cell_of_allocation, neve
 use Rattle.mk_core.specs.Bits.{has_bit}
 use Rattle.mk_core.specs.Cells.{is_freed}
 use Rattle.mk_core.specs.Cycles.{is_quarantined}
-use Rattle.mk_core.specs.History.{World, left, never_behind, IsHistory}
+use Rattle.mk_core.specs.History.{left, never_behind, IsHistory}
 use Rattle.mk_core.specs.Words.{Words, phase_of}
 use Rattle.mk_core.proofs.Lengths.{histories_keep_lengths}
-use Rattle.mk_layout.specs.Quarantine.{IsFreedCell}
 use Rattle.mk_layout.proofs.Settled.{unreleased_are_apart}
 use Rattle.mk_images.proofs.KnownWorlds.{known_world}
 use Rattle.mk_invariant.proofs.Histories.{histories_keep_the_invariant}
@@ -93,10 +92,12 @@ module _ (c : Config) (es : List Event) (h : IsHistory c es) (quiet : phase_of (
   counted_in_cell p k =
       let all = histories_keep_the_invariant c es h in
       let known = known_world c es h.within_limits h.enabled in
-      one_if_any never_granted (in_cell c p k) (is_freed (left c es).now.words (record { page = p; index = k })) (left c es).allocations refl
+      one_if_any never_granted (in_cell c p k) (is_freed (left c es).now.words (record { page = p; index = k }))
+      (left c es).allocations refl
       (λ bit.
       let o = freed_cell c (left c es) (never_behind c es) known all quiet (record { page = p; index = k }) bit in
-      (o.number, is_in_too c p k (placed_at (left c es).allocations o.number) (record { freed = o.freed; unreleased = o.unreleased; cell = o.cell })))
+      (o.number, is_in_too c p k (placed_at (left c es).allocations o.number)
+      (record { freed = o.freed; unreleased = o.unreleased; cell = o.cell })))
       (λ i there.
       let x = is_in c p k (placed_at (left c es).allocations i) there in
       subst (λ (y : Cell). is_freed (left c es).now.words y ≡ true) x.cell (all.order.quarantined.shown i x.unreleased x.freed))

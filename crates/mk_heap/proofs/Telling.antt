@@ -1,5 +1,5 @@
 -- What the host asks where it tells a word: a look decides nothing, and the turn may be given back behind it.
-use Rattle.std.proofs.Common.{◌≡◌, ◌≢◌, ℕ, ◌+◌, true, false, List, [], ◌∷◌, ◌++◌, refl, sym, ◌∙◌, ap, subst, append-nil, arith}
+use Rattle.std.proofs.Common.{◌≡◌, ℕ, ◌+◌, false, List, [], ◌∷◌, ◌++◌, refl, sym, ◌∙◌, ap, subst, append-nil, arith}
 use Rattle.std.specs.Prelude.{None}
 use Rattle.std.proofs.lemmas.Bool.{ne_eqb}
 use Rattle.mk_core.specs.declared.config.Config.{Config}
@@ -16,18 +16,19 @@ use Rattle.mk_core.specs.Order.{host_has_turn}
 use Rattle.mk_core.proofs.Histories.{calls_more}
 use Rattle.mk_never.specs.Admitted.{AreAdmitted}
 use Rattle.mk_placement.proofs.TallySteps.{CountsNothing}
-use Rattle.mk_words.specs.States.{PassState, now_of, event_of}
+use Rattle.mk_words.specs.States.{PassState, now_of}
 use Rattle.mk_words.specs.Steps.{IsAdmittedTo}
 use Rattle.mk_words.specs.TurnSteps.{Acts}
 use Rattle.mk_words.proofs.Tallies.{counts_tidy_more}
-use Rattle.mk_heap.specs.Turns.{TakesTurn, Tells}
+use Rattle.mk_heap.specs.Turns.{TakesTurn}
 use Rattle.mk_heap.proofs.Waiting.{MovesOn, waits_move, moves_more}
 
 -- No step of the host's decides a call.
 pub look_admitted : (p : PassState) (x : Word) → p.seat ≡ Host → IsHistory p.table.config p.seen → IsAdmittedTo p (step.Look x)
 look_admitted p x host h =
     let c : Config = p.table.config in
-    subst (λ (s : Seat). AreAdmitted c.globals (never_first c) (asked (calls c (p.seen ++ record { seat = s; step = step.Look x } ∷ [])))) (sym host)
+    subst (λ (s : Seat). AreAdmitted c.globals (never_first c)
+    (asked (calls c (p.seen ++ record { seat = s; step = step.Look x } ∷ [])))) (sym host)
     (subst (λ (xs : List Decided). AreAdmitted c.globals (never_first c) (asked xs))
     (sym (calls_more c (first_world c) p.seen (record { seat = Host; step = step.Look x }) ∙ append-nil (calls c p.seen))) h.admitted)
 
@@ -71,13 +72,6 @@ pub given_no_turn : (p q : PassState) → Acts p step.Give q → host_has_turn q
 given_no_turn p q a =
     ne_eqb (now_of q).words.turn (1 + q.table.config.callers)
     (λ e. let zero : (now_of q).words.turn ≡ 0 = ap (λ (w : World). w.now.words.turn) a.world in absurd (omega arith))
-
-pub told_moves : (p q : PassState) (x : Word) (n : ℕ) → Tells p x n q → MovesOn p q
-told_moves p q x n t =
-    moves_more p t.looked q step.Give
-    (moves_more p t.taken t.looked (step.Look x)
-    (moves_more p t.takes.waited t.taken (step.Take None) (waits_move p t.takes.waited t.takes.waits) t.takes.takes.makes)
-    t.looks.makes) t.gives
 
 pub turn_moves : (p q : PassState) → TakesTurn p q → MovesOn p q
 turn_moves p q t =

@@ -1,24 +1,23 @@
 -- A pass that goes on: waiting for the turn, and with steps of its own.
-use Rattle.std.proofs.Common.{◌≡◌, ◌⊎◌, ℕ, ◌+◌, Bool, true, false, not, ◌||◌, ◌&&◌, List, [], ◌∷◌, ◌++◌, refl, sym, ◌∙◌, ap, subst, inl, inr, append-nil, append_assoc, arith}
+use Rattle.std.proofs.Common.{◌≡◌, ◌⊎◌, Bool, true, false, not, ◌||◌, ◌&&◌, List, [], ◌∷◌, ◌++◌, refl, sym, ◌∙◌, ap, subst, inl, inr, append-nil, append_assoc}
 use Rattle.std.specs.Prelude.{None}
 use Rattle.std.specs.List.{list_all}
 use Rattle.std.proofs.lemmas.Bool.{and_from, and_parts, not-true, or_cases, true≢false}
 use Rattle.std.proofs.lemmas.List.Folds.{list_all-append}
-use Rattle.mk_core.specs.declared.config.Config.{Config}
 use Rattle.mk_core.specs.declared.events.Event.{Event}
 use Rattle.mk_core.specs.declared.events.Seat.{Seat}
 use Rattle.mk_core.specs.declared.events.Seat.TheVariants.{Caller, Marker, Host}
 use Rattle.mk_core.specs.declared.events.Step.{Step}
 use Rattle.mk_core.specs.declared.events.Step.TheVariants as step
-use Rattle.mk_core.specs.Growing.{AreOfOthers, Grows, is_one_of, is_same_seat}
+use Rattle.mk_core.specs.Growing.{AreOfOthers, is_one_of, is_same_seat}
 use Rattle.mk_core.specs.History.{left, IsHistory}
 use Rattle.mk_core.specs.Order.{host_has_turn}
 use Rattle.mk_words.specs.Seats.{Has}
 use Rattle.mk_words.specs.States.{PassState, now_of, event_of}
 use Rattle.mk_words.specs.Steps.{Makes}
-use Rattle.mk_words.proofs.Seats.{has_not, others_append, others_fewer, others_none, others_one, others_own, only_one, same_self}
-use Rattle.mk_heap.specs.Hosts.{HostState, IsHost, Rests, with_seen}
-use Rattle.mk_heap.specs.Turns.{is_take, waits_for, Waits, TakesTurn, Tells}
+use Rattle.mk_words.proofs.Seats.{has_not, others_append, others_none, others_one, others_own, only_one, same_self}
+use Rattle.mk_heap.specs.Hosts.{HostState, IsHost, Rests}
+use Rattle.mk_heap.specs.Turns.{is_take, waits_for, Waits}
 use Rattle.mk_heap.proofs.Joining.{still_rests}
 
 -- the list of a pass that made a step
@@ -69,7 +68,8 @@ pub record MovesOn (p q : PassState) : Type 0 where
 
 pub moves_none : (p : PassState) → MovesOn p p
 moves_none p =
-    record { more = []; is = ap (λ (l : List Event). record p { seen = l }) (sym (append-nil p.seen)); leaves = λ s has other. others_none (s ∷ []) }
+    record { more = []; is = ap (λ (l : List Event). record p { seen = l })
+    (sym (append-nil p.seen)); leaves = λ s has other. others_none (s ∷ []) }
 
 pub moves_more : (p q r : PassState) (s : Step) → MovesOn p q → Makes q s r → MovesOn p r
 moves_more p q r s v m =
@@ -91,7 +91,8 @@ unfolding AreOfOthers
 waits_leave p x [] has other h = tt
 waits_leave p x (e ∷ es) has other h =
     let parts = and_parts (waits_for p e) (list_all (waits_for p) es) h in (
-      has_not (x ∷ []) e.seat (λ own. by (only_one x e.seat own) (or_cases (not (is_one_of p.seats e.seat)) (is_take e.step && is_same_seat e.seat p.seat) parts.0)),
+      has_not (x ∷ []) e.seat (λ own. by (only_one x e.seat own)
+      (or_cases (not (is_one_of p.seats e.seat)) (is_take e.step && is_same_seat e.seat p.seat) parts.0)),
       waits_leave p x es has other parts.1,
     )
   where

@@ -1,13 +1,12 @@
 -- What contracts see of the host, and what always holds of it.
-use Rattle.std.specs.Prelude.{◌≡◌, ℕ, ◌+◌, ◌<◌, ◌≤◌, Bool, true, false, List, [], ◌∷◌, ◌++◌, Option, Some, None}
-use Rattle.mk_core.specs.declared.config.Config.{Config}
+use Rattle.std.specs.Prelude.{◌≡◌, ℕ, ◌+◌, ◌<◌, ◌≤◌, false, List, [], ◌∷◌, ◌++◌, Option, Some, None}
 use Rattle.mk_core.specs.declared.events.Event.{Event}
 use Rattle.mk_core.specs.declared.events.Seat.{Seat}
 use Rattle.mk_core.specs.declared.events.Seat.TheVariants.{Caller, Marker, Host}
 use Rattle.mk_core.specs.Calls.{at_rest}
 use Rattle.mk_core.specs.Moments.{Moment, flight_of, marker_at, outside}
-use Rattle.mk_core.specs.Order.{seat_exists, host_has_turn}
-use Rattle.mk_words.specs.Seats.{Has, HasAll, all_seats, without_seat}
+use Rattle.mk_core.specs.Order.{host_has_turn}
+use Rattle.mk_words.specs.Seats.{Has, all_seats, without_seat}
 use Rattle.mk_words.specs.Rule.{no_config}
 use Rattle.mk_words.specs.States.{WordsState, PassState, now_of}
 

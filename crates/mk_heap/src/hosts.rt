@@ -1,17 +1,19 @@
-//! The host: it makes callers, and joins them.
+//! The host: it makes callers and markers, and joins them.
 ghost use Rattle.std.specs.Prelude.{◌≡◌, ◌<◌, [], ◌∷◌, true, false};
 ghost use Rattle.mk_core.specs.Growing.{Grows};
 ghost use Rattle.mk_core.specs.declared.events.Seat.TheVariants as seat;
 ghost use Rattle.mk_words.specs.Seats.{has_over};
 ghost use Rattle.mk_core.specs.Ranges.{is_word};
 ghost use Rattle.mk_caller.specs.States.{at_home, IsIdleCaller};
-ghost use Rattle.mk_heap.specs.Hosts.{pass_for, with_caller_made, with_joined, with_seen};
+ghost use Rattle.mk_marker.specs.Markers.{IsMarkers, IsOut};
+ghost use Rattle.mk_heap.specs.Hosts.{pass_for, with_caller_made, with_marker_made, with_joined, with_seen};
 ghost use Rattle.mk_heap.specs.Turns.{is_register, Tells};
 
 use crate::heaps::Heap;
 use crate::turns::take_turn;
 use mk_caller::Caller;
 use mk_core::{Seat, Word};
+use mk_marker::Marker;
 use mk_words::{Pass, Words};
 use std::marker::Model;
 use std::sync::Wait;
@@ -67,6 +69,47 @@ impl Host {
     {
         match &mut self.pass {
             Some(home) => {
+                home.is_in_order();
+                Words::join(&heap.words, home, pass);
+                home.is_in_order();
+            }
+            None => unreachable!(),
+        }
+    }
+
+    /// The next marker.
+    pub fn marker<'h>(&mut self, heap: &'h Heap) -> Marker<'h>
+        requires one_table { self.old.pass.table ≡ heap.now }
+        requires more { self.old.markers < heap.now.config.markers }
+        ensures host { self.new ≡ with_marker_made self.old }
+        ensures marker { result ≡ pass_for self.old (seat.Marker self.old.markers) }
+    {
+        let words = &heap.words;
+        words.is_within_limits();
+        match &mut self.pass {
+            Some(home) => {
+                let pass = Words::split(words, home, Seat::Marker(self.markers));
+                self.markers += 1;
+                Marker::new(words, pass)
+            }
+            None => unreachable!(),
+        }
+    }
+
+    /// Takes the pass of a marker back, as its `finish` handed it back.
+    pub fn join_marker(&mut self, heap: &Heap, pass: Pass)
+        requires one_table { self.old.pass.table ≡ heap.now }
+        requires of_table { pass.table ≡ heap.now }
+        requires alone { pass.seats ≡ pass.seat ∷ [] }
+        requires marker { IsMarkers pass }
+        requires out { IsOut pass }
+        ensures host { self.new ≡ with_joined self.old pass self.new.pass.seen }
+        ensures own { Grows self.old.pass.seats self.old.pass.seen self.new.pass.seen }
+        ensures came { Grows pass.seats pass.seen self.new.pass.seen }
+    {
+        match &mut self.pass {
+            Some(home) => {
+                pass.is_in_order();
                 home.is_in_order();
                 Words::join(&heap.words, home, pass);
                 home.is_in_order();

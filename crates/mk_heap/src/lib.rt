@@ -1,6 +1,7 @@
 //! A heap, and its host: who makes callers and markers, joins them, and closes the heap.
 #![tactic(auto)]
 
+mod clients;
 mod heaps;
 mod hosts;
 mod reports;

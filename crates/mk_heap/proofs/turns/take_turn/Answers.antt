@@ -1,9 +1,9 @@
-use Rattle.std.proofs.Common.{◌≡◌, ◌∙◌, sym, ap, subst, None}
+use Rattle.std.proofs.Common.{◌∙◌, sym, subst, None}
 use Rattle.mk_core.specs.declared.events.Step.TheVariants as step
 use Rattle.mk_words.specs.States.{PassState}
 use Rattle.mk_words.specs.Steps.{IsEnabledTo}
 use Rattle.mk_heap.specs.Turns.{Waits}
-use Rattle.mk_heap.proofs.Waiting.{waits_none, waits_more}
+use Rattle.mk_heap.proofs.Waiting.{waits_more}
 use Rattle.mk_heap.proofs.turns.take_turn.Goals as goal
 use Rattle.mk_heap.proofs.turns.take_turn.Goals.{then-is_turn_free+in-Err, else-is_turn_free}
 

@@ -1,5 +1,4 @@
-use Rattle.std.proofs.Common.{◌≡◌, ◌∙◌, sym, ap, subst}
-use Rattle.mk_words.specs.States.{WordsState}
+use Rattle.std.proofs.Common.{◌∙◌, sym, ap, subst}
 use Rattle.mk_heap.specs.Hosts.{HostState, AllAreJoined}
 use Rattle.mk_heap.proofs.HostsKept.{home_host, home_is, home_view}
 use Rattle.mk_heap.proofs.Ended.{home, ends_whole, ends_counted}

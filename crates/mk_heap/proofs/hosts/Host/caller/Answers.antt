@@ -1,4 +1,4 @@
-use Rattle.std.proofs.Common.{◌≡◌, ◌∙◌, ℕ, ◌<◌, ◌+◌, sym, ap, subst, arith}
+use Rattle.std.proofs.Common.{◌<◌, ◌+◌, sym, subst}
 use Rattle.mk_caller.specs.States.{IsIdleCaller}
 use Rattle.mk_words.specs.States.{WordsState, PassState}
 use Rattle.mk_heap.specs.Hosts.{HostState, IsHost}

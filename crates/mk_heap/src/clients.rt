@@ -1,0 +1,41 @@
+//! A client: a heap from first to last, of which nothing is asked but its configuration.
+ghost use Rattle.std.specs.Prelude.{◌≡◌, ◌<◌, ◌≤◌, IfOk, true};
+ghost use Rattle.mk_core.specs.Config.{IsWithinLimits};
+ghost use Rattle.mk_heap.specs.Clients.{IsPassOf};
+ghost use Rattle.mk_heap.specs.Reports.{history_of, config_of, IsWhole, HasCounts};
+
+use crate::{Heap, Report};
+use mk_caller::Caller;
+use mk_core::Config;
+use mk_never::NoMemory;
+use std::alloc::Global;
+
+/// Clears a register, if the caller's gate isn't held.
+fn clear(caller: &mut Caller, d: u8)
+    requires home { caller.old.home ≡ true }
+    requires whole { IsPassOf caller.old.pass.table caller.old.pass }
+    requires register { d < 8 }
+    ensures home { caller.new.home ≡ true }
+    ensures pass { caller.new.pass ≡ record caller.old.pass { seen = caller.new.pass.seen } }
+{
+    caller.is_idle();
+    let _ = caller.clear(d);
+}
+
+/// Two callers make a call each, and are joined.
+pub(crate) fn two_callers(alloc: Global, config: &Config) -> Result<Report, NoMemory>
+    requires limits { IsWithinLimits config.now }
+    requires two { 2 ≤ config.now.callers }
+    ensures config { IfOk result (λ report. config_of report ≡ config.now) }
+    ensures whole { IfOk result (λ report. IsWhole config.now (history_of report)) }
+    ensures counts { IfOk result (λ report. HasCounts config.now (history_of report) report) }
+{
+    let (heap, mut host) = Heap::new(alloc, config)?;
+    let mut first = host.caller(&heap);
+    let mut second = host.caller(&heap);
+    clear(&mut first, 0);
+    clear(&mut second, 7);
+    host.join_caller(&heap, second.finish());
+    host.join_caller(&heap, first.finish());
+    Ok(heap.close(host))
+}
