@@ -95,9 +95,11 @@ module _ (c : Config) (es : List Event) (h : IsHistory c es) (quiet : phase_of (
       one_if_any never_granted (in_cell c p k) (is_freed (left c es).now.words (record { page = p; index = k }))
       (left c es).allocations refl
       (λ bit.
-      let o = freed_cell c (left c es) (never_behind c es) known all quiet (record { page = p; index = k }) bit in
-      (o.number, is_in_too c p k (placed_at (left c es).allocations o.number)
-      (record { freed = o.freed; unreleased = o.unreleased; cell = o.cell })))
+      let o = freed_cell c (left c es) (never_behind c es) known all quiet (record { page = p; index = k }) bit in (
+        o.number,
+        is_in_too c p k (placed_at (left c es).allocations o.number)
+            (record { freed = o.freed; unreleased = o.unreleased; cell = o.cell }),
+      ))
       (λ i there.
       let x = is_in c p k (placed_at (left c es).allocations i) there in
       subst (λ (y : Cell). is_freed (left c es).now.words y ≡ true) x.cell (all.order.quarantined.shown i x.unreleased x.freed))

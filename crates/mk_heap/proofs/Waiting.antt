@@ -68,8 +68,12 @@ pub record MovesOn (p q : PassState) : Type 0 where
 
 pub moves_none : (p : PassState) → MovesOn p p
 moves_none p =
-    record { more = []; is = ap (λ (l : List Event). record p { seen = l })
-    (sym (append-nil p.seen)); leaves = λ s has other. others_none (s ∷ []) }
+    record {
+      more = [];
+      is = ap (λ (l : List Event). record p { seen = l })
+          (sym (append-nil p.seen));
+      leaves = λ s has other. others_none (s ∷ []);
+    }
 
 pub moves_more : (p q r : PassState) (s : Step) → MovesOn p q → Makes q s r → MovesOn p r
 moves_more p q r s v m =
@@ -92,7 +96,7 @@ waits_leave p x [] has other h = tt
 waits_leave p x (e ∷ es) has other h =
     let parts = and_parts (waits_for p e) (list_all (waits_for p) es) h in (
       has_not (x ∷ []) e.seat (λ own. by (only_one x e.seat own)
-      (or_cases (not (is_one_of p.seats e.seat)) (is_take e.step && is_same_seat e.seat p.seat) parts.0)),
+          (or_cases (not (is_one_of p.seats e.seat)) (is_take e.step && is_same_seat e.seat p.seat) parts.0)),
       waits_leave p x es has other parts.1,
     )
   where
