@@ -66,7 +66,7 @@ still_no_turn id c seats es fs h g has no_turn =
     let before = earlier_part_is_history c es g.more whole in
     let p : PassState = record { table = record { id = id; config = c }; seat = Host; seats = seats; seen = es } in
     let short = history_more p (step.Take None) before
-    (record { enabled = host_may_take c (left c es).now no_turn; admitted = λ e. cc; tidy = λ e. cc }) in
+    (record { enabled = host_may_take c (left c es).now no_turn; admitted = λ e. cc; tidy = λ e. cc; home = λ e. cc }) in
     let long = longer_lists c es g.more take_of_host short whole (others_own seats Host g.more has g.of_others) in
     let on = last_enabled c (first_world c) (es ++ g.more) take_of_host long.history.enabled in
     let meets = enabled_meets c (left c (es ++ g.more)).now take_of_host on in
