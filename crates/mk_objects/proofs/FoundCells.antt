@@ -1,0 +1,128 @@
+-- The cell that the register of a Free points into, by a look at its page's header.
+use Rattle.std.proofs.Common.{◌≡◌, ◌≢◌, ℕ, ◌+◌, ◌*◌, ◌-◌, ◌/◌, ◌<◌, ◌≤◌, Bool, true, false, refl, sym, ap, subst, ◌∙◌, inl, inr, arith}
+use Rattle.std.specs.Prelude.{◌&&◌, nat_le, nat_lt, Option, Some, None, slice_index_or, option_and_then, if◌then◌else◌}
+use Rattle.std.proofs.lemmas.Bool.{and_parts, cases_Bool, leb-true, ltb-true, cond-false}
+use Rattle.mk_geom.specs.declared.addresses.Cell.{Cell}
+use Rattle.mk_geom.specs.declared.headers.Header.{Header}
+use Rattle.mk_geom.specs.Addresses.{cell_at, cell_under, is_heap_address, page_at_address, word_at_address}
+use Rattle.mk_geom.specs.Headers.{header_of}
+use Rattle.mk_core.specs.declared.config.Config.{Config}
+use Rattle.mk_core.specs.declared.events.Seat.{Seat}
+use Rattle.mk_core.specs.declared.events.Seat.TheVariants.{Caller}
+use Rattle.mk_core.specs.declared.seats.Flight.{Flight}
+use Rattle.mk_core.specs.Cells.{pointed_cell}
+use Rattle.mk_core.specs.History.{IsHistory, left, never_behind}
+use Rattle.mk_core.specs.Moments.{flight_of}
+use Rattle.mk_core.specs.Allocations.{cell_of_allocation, placed_at}
+use Rattle.mk_core.specs.NewPlaces.{is_undecided_free, target}
+use Rattle.mk_core.specs.Words.{Words, header_at}
+use Rattle.mk_words.specs.States.{PassState, call_of, now_of, world_of}
+use Rattle.mk_objects.proofs.FreedCells.{PointsAt, free_points_at}
+use Rattle.mk_core.specs.Allocations.{PlacedAllocation}
+use Rattle.mk_core.specs.Config.{IsWithinLimits}
+use Rattle.mk_core.specs.History.{World}
+use Rattle.mk_core.specs.StandingAllocations.{object_placed}
+use Rattle.std.proofs.Math.Nat.{div-le_of_le-mul}
+use Rattle.mk_geom.specs.Classes.{cells_of, class_words_of}
+use Rattle.mk_geom.proofs.ClassTable.{class_words_within}
+use Rattle.mk_core.specs.declared.seats.Object.{Object}
+use Rattle.mk_core.specs.NewPlaces.{class_made, is_small_object}
+use Rattle.mk_core.specs.ObjectHeaders.{IsSized, cells_made}
+use Rattle.mk_core.proofs.Sizes.{class_known, large_cells, small_cells, words_within}
+use Rattle.mk_core.proofs.StandingAllocations.{placed_cell, typed_size}
+use Rattle.mk_layout.specs.SettledPages.{StandsUsed}
+use Rattle.mk_invariant.proofs.Theorems.{allocations_stand}
+use Rattle.mk_objects.proofs.Looks.{acting_caller}
+use Rattle.mk_objects.proofs.MayAct.{free_is_acting}
+use Rattle.mk_objects.proofs.Reaching.{IsCallers}
+
+-- what points into a cell is an address of the heap
+pub record InHeap (pages u : ℕ) : Type 0 where
+  pub from : 65536 ≤ u
+  pub page : page_at_address u < pages
+
+pub pointed_in_heap : (pages header u : ℕ) (cell : Cell) → cell_at pages header u ≡ Some cell → InHeap pages u
+pointed_in_heap pages header u cell is = elim (cases_Bool (is_heap_address pages u)) [
+  | inl inside ↦
+      let both = and_parts (nat_le 65536 u) (nat_lt u (65536 + 512 * pages)) inside in
+      let low = leb-true 65536 u both.0 in
+      let high = ltb-true u (65536 + 512 * pages) both.1 in
+      record { from = low; page = omega arith }
+  | inr outside ↦
+      let none : cell_at pages header u ≡ None =
+      cond-false (is_heap_address pages u) (option_and_then (λ (h : Header). cell_under h (page_at_address u) (word_at_address u)) (header_of header)) None outside in
+      let clash : None ≡ Some cell = sym none ∙ is in cc
+]
+
+pub points_now : (p : PassState) (k : ℕ) → p.seat ≡ Caller k → IsHistory p.table.config p.seen → is_undecided_free (call_of p) ≡ true
+    → PointsAt p.table.config (world_of p) (never_behind p.table.config p.seen) k (call_of p)
+points_now p k is h undecided = by p.seat is undecided
+  where
+    by : (s : Seat) → s ≡ Caller k → is_undecided_free (flight_of (now_of p) s) ≡ true
+        → PointsAt p.table.config (world_of p) (never_behind p.table.config p.seen) k (flight_of (now_of p) s)
+    by s e free =
+        subst (λ (x : Seat). PointsAt p.table.config (world_of p) (never_behind p.table.config p.seen) k (flight_of (now_of p) x)) (sym e)
+        (free_points_at p.table.config p.seen k h (ap (λ (x : Seat). is_undecided_free (flight_of (now_of p) x)) (sym e) ∙ free))
+
+-- what points into a cell by the words does so by its page's header
+pub pointed_by_header : (p : PassState) (u : ℕ) (x : Option Cell) → pointed_cell p.table.config.pages (now_of p).words.pages u ≡ x
+    → cell_at p.table.config.pages (header_at (now_of p).words (page_at_address u)) u ≡ x
+unfolding pointed_cell
+pointed_by_header p u x is = is
+
+-- The value that a Free has loaded points into this cell, by its page's header.
+pub record IsPointed (p : PassState) (u : ℕ) : Type 0 where
+  pub cell : Cell
+  pub from : 65536 ≤ u
+  pub page : page_at_address u < p.table.config.pages
+  pub by_header : cell_at p.table.config.pages (header_at (now_of p).words (page_at_address u)) u ≡ Some cell
+  pub target : target p.table.config.pages (now_of p).words (call_of p) ≡ Some cell
+  pub within : cell.page < p.table.config.pages
+  pub index : cell.index < 32
+
+target_of : (pages : ℕ) (w : Words) (f : Flight) (cell : Cell) → is_undecided_free f ≡ true → pointed_cell pages w.pages f.p ≡ Some cell
+    → target pages w f ≡ Some cell
+target_of pages w f cell free is = rw free is
+
+cell_within : (c : Config) (w : World) (a : PlacedAllocation) → IsWithinLimits c → StandsUsed c w a → (cell_of_allocation c a).page < c.pages
+cell_within c w a limits s =
+    let some = (words_within (object_placed c a) (typed_size c a limits s.stands.typed)).0 in
+    let ends = s.stands.within in
+    omega arith
+
+cells_few : (o : Object) → IsSized o → cells_made o ≤ 32
+cells_few o sized = elim (cases_Bool (is_small_object o)) [
+  | inl small ↦
+      let range = class_words_within (class_made o) (class_known o sized small).0 in
+      let is = small_cells o small in
+      let few : cells_of (class_made o) ≤ 32 = div-le_of_le-mul (class_words_of (class_made o)) (omega arith) in
+      omega arith
+  | inr large ↦ let is = large_cells o large in omega arith
+]
+
+cell_index : (c : Config) (w : World) (a : PlacedAllocation) → IsWithinLimits c → StandsUsed c w a → (cell_of_allocation c a).index < 32
+cell_index c w a limits s =
+    let sized = typed_size c a limits s.stands.typed in
+    let is : (cell_of_allocation c a).index ≡ s.stands.begins.index = ap (λ (k : Cell). k.index) (placed_cell c a sized s.stands.begins) in
+    let known = s.stands.begins.known in
+    let few = cells_few (object_placed c a) sized in
+    omega arith
+
+pub pointed_now : (p : PassState) (u : ℕ) → IsHistory p.table.config p.seen → is_undecided_free (call_of p) ≡ true → (call_of p).p ≡ u → IsPointed p u
+pointed_now p u h free is =
+    let caller = acting_caller p (free_is_acting (call_of p) free) in
+    let t = points_now p caller.number caller.is h free in
+    let cell : Cell = cell_of_allocation p.table.config (placed_at (world_of p).allocations t.number) in
+    let pointed : pointed_cell p.table.config.pages (now_of p).words.pages u ≡ Some cell =
+    ap (λ n. pointed_cell p.table.config.pages (now_of p).words.pages n) (sym is) ∙ t.cell in
+    let by_header = pointed_by_header p u (Some cell) pointed in
+    let heap = pointed_in_heap p.table.config.pages (header_at (now_of p).words (page_at_address u)) u cell by_header in
+    record {
+      cell = cell;
+      from = heap.from;
+      page = heap.page;
+      by_header = by_header;
+      target = target_of p.table.config.pages (now_of p).words (call_of p) cell free t.cell;
+      within = cell_within p.table.config (world_of p) (placed_at (world_of p).allocations t.number) h.within_limits (allocations_stand p.table.config p.seen h t.number t.unreleased);
+      index = cell_index p.table.config (world_of p) (placed_at (world_of p).allocations t.number) h.within_limits (allocations_stand p.table.config p.seen h t.number t.unreleased);
+    }

@@ -1,0 +1,201 @@
+-- A New behind its mark, its grant and its tally.
+use Rattle.std.proofs.Common.{◌≡◌, ℕ, ◌+◌, ◌*◌, ◌<◌, ◌≤◌, ◌^◌, ◌%◌, true, false, List, [], ◌∷◌, ◌++◌, length, refl, sym, ap, ◌∙◌, arith}
+use Rattle.std.specs.Prelude.{not, ◌==◌, Option, Some, slice_index, slice_set, bit_or}
+use Rattle.std.proofs.lemmas.Bool.{and_from, or_left, or_right, eq-eqb}
+use Rattle.std.specs.Int.Bits.{and_self}
+use Rattle.std.proofs.lemmas.List.{get_or-set_same}
+use Rattle.mk_geom.specs.declared.pages.Page.{Page}
+use Rattle.mk_geom.specs.declared.pages.Place.{Place}
+use Rattle.mk_geom.specs.Addresses.{address_of}
+use Rattle.mk_core.specs.declared.config.Config.{Config}
+use Rattle.mk_core.specs.declared.events.Seat.{Seat}
+use Rattle.mk_core.specs.declared.events.Seat.TheVariants.{Caller}
+use Rattle.mk_core.specs.declared.events.Step.TheVariants as step
+use Rattle.mk_core.specs.declared.events.Tally.TheVariants as tally
+use Rattle.mk_core.specs.declared.seats.Flight.{Flight}
+use Rattle.mk_core.specs.declared.seats.Holding.{Holding}
+use Rattle.mk_core.specs.declared.seats.Object.{Object}
+use Rattle.mk_core.specs.declared.seats.Placing.{Placing}
+use Rattle.mk_core.specs.declared.seats.Placing.TheVariants.{Chosen}
+use Rattle.mk_core.specs.declared.seats.Stage.TheVariants as stage
+use Rattle.mk_core.specs.Accesses.{granted_base}
+use Rattle.mk_core.specs.Allocations.{PlacedAllocation, type_made}
+use Rattle.mk_core.specs.Bits.{without}
+use Rattle.mk_core.specs.Calls.{d_of}
+use Rattle.mk_core.specs.Frames.{Steady, steady_of}
+use Rattle.mk_core.specs.History.{World, world_behind}
+use Rattle.mk_core.specs.Moments.{flight_of, is_phase}
+use Rattle.mk_core.specs.NewPlaces.{base_made, bits_made, is_undecided_new, object_made, pages_made}
+use Rattle.mk_core.specs.StopConditions.{marks_place}
+use Rattle.mk_core.specs.TurnConditions.{is_used_once, place_now}
+use Rattle.mk_core.specs.Words.{Words, header_at, phase_of, register_word}
+use Rattle.mk_core.proofs.WordBits.{bits_added}
+use Rattle.mk_frames.proofs.Tests.{without_on}
+use Rattle.mk_objects.specs.Unchanged.{IsAsLeft}
+use Rattle.mk_objects.proofs.Unchanged.{HasCall, OfCaller, call_behind}
+use Rattle.mk_objects.specs.Placing.{IsGrantedAt, object_at_place}
+use Rattle.mk_objects.specs.Serving.{Carving, Serving}
+use Rattle.mk_objects.proofs.Serving.{IsTakenAt, chosen_now, new_placed}
+
+-- `mark` before the first header: all cells of the place's first page get their marks.
+
+marks_first : (w : Words) (o : Object) (place : Place) → phase_of w ≡ 1 → header_at w place.page ≡ 0
+    → marks_place w o (Some place) place.page (bits_made o) ≡ true
+marks_first w o place one free =
+    and_from _ _ (and_from _ _ (and_from _ _ (eq-eqb (phase_of w) 1 one) (eq-eqb place.page place.page refl))
+    (eq-eqb (header_at w place.page) 0 free))
+    (eq-eqb (bits_made o) (bits_made o) refl)
+
+pub serving_marks : (c : Config) (s : Seat) (o : Object) (place : Place) (w v : World) → Serving c s o place w v
+    → phase_of v.now.words ≡ 1
+    → header_at v.now.words place.page ≡ 0
+    → marks_place v.now.words (object_made c (flight_of v.now s).op)
+    (place_now c v.now (flight_of v.now s)) place.page (bits_made o) ≡ true
+serving_marks c s o place w v at one free =
+    ap (λ (x : Object). marks_place v.now.words x (place_now c v.now (flight_of v.now s)) place.page (bits_made o)) at.object
+    ∙ ap (λ (x : Option Place). marks_place v.now.words o x place.page (bits_made o)) at.placed
+    ∙ marks_first v.now.words o place one free
+
+all_marked : (bits : ℕ) (xs : List ℕ) (p : ℕ) → p < length xs
+    → (without bits (slice_index (slice_set xs p (bit_or (slice_index xs p) bits)) p) == 0) ≡ true
+all_marked bits xs p lt =
+    without_on bits bits (slice_index (slice_set xs p (bit_or (slice_index xs p) bits)) p)
+    (λ k h. bits_added xs p bits k lt h) (without_itself bits)
+  where
+    without_itself : (n : ℕ) → (without n n == 0) ≡ true
+    without_itself n = eq-eqb (without n n) 0 (omega (arith, and_self n))
+
+pub carving_marked : (c : Config) (s : Seat) (o : Object) (place : Place) (w v : World) → Serving c s o place w v → HasCall c v.now s
+    → is_undecided_new (flight_of v.now s) ≡ true → phase_of v.now.words ≡ 1
+    → ((d : ℕ) → d < pages_made o → header_at v.now.words (place.page + d) ≡ 0)
+    → 1 ≤ pages_made o → place.page < length v.now.words.marks
+    → Carving c s o place w (world_behind c v (record { seat = s; step = step.Mark place.page (bits_made o) })) 0
+carving_marked c s o place w v at (OfCaller k lt) new one free some room =
+    let x = step.Mark place.page (bits_made o) in
+    let call = call_behind c v.now k x lt in
+    let u : World = world_behind c v (record { seat = s; step = x }) in
+    let zero : place.page + 0 ≡ place.page = omega arith in
+    let marks = serving_marks c (Caller k) o place w v at one (sym (ap (λ p. header_at v.now.words p) zero) ∙ free 0 (omega arith)) in
+    let fixed : u.now.seats.holding.placing ≡ Chosen place = rw marks
+    (new_placed c v.now (flight_of v.now (Caller k)) place new at.placed at.once) in
+    record {
+      serving = record {
+        call = call ∙ at.call;
+        object = ap (λ (f : Flight). object_made c f.op) call ∙ at.object;
+        steady = at.steady;
+        placed = chosen_now c u.now (flight_of u.now (Caller k)) place (ap is_undecided_new call ∙ new) fixed;
+        once = ap is_used_once fixed;
+        used = at.used;
+        pages = at.pages;
+      };
+      stand = λ d lt. absurd (omega arith);
+      free = λ d le lt. free d lt;
+      marked = or_right (not (is_phase u.now.words 1)) _ (all_marked (bits_made o) v.now.words.marks place.page room);
+    }
+
+-- Outside of marking no mark is asked for.
+pub carving_unmarked : (c : Config) (s : Seat) (o : Object) (place : Place) (w v : World) → Serving c s o place w v
+    → phase_of v.now.words ≡ 0
+    → ((d : ℕ) → d < pages_made o → header_at v.now.words (place.page + d) ≡ 0) → Carving c s o place w v 0
+carving_unmarked c s o place w v at none free =
+    record {
+      serving = at;
+      stand = λ d lt. absurd (omega arith);
+      free = λ d le lt. free d lt;
+      marked = or_left (not (is_phase v.now.words 1)) _ (ap (λ n. not (n == 1)) none);
+    }
+
+-- the grant, the tally, and what others do behind them
+
+pub granted_left : (c : Config) (s : Seat) (place : Place) (w u v : World) → d_of (flight_of w.now s).op < 8 → IsGrantedAt c s place w u
+    → IsAsLeft s u v → IsGrantedAt c s place w v
+granted_left c s place w u v small at left =
+    let pages : v.now.words.pages ≡ u.now.words.pages = ap (λ (x : Steady). x.pages) left.steady in
+    let held : v.now.words.held ≡ u.now.words.held = ap (λ (x : Steady). x.held) left.steady in
+    let xs = w.allocations ++ object_at_place c (flight_of w.now s) place ∷ [] in
+    record {
+      call = left.call ∙ at.call;
+      placing = ap (λ (h : Holding). h.placing) left.holding ∙ at.placing;
+      steady = left.steady ∙ at.steady
+          ∙ ap (λ (ps : List Page). record (steady_of w) { pages = ps; held = u.now.words.held; allocations = xs }) (sym pages)
+          ∙ ap (λ n. record (steady_of w) { pages = v.now.words.pages; held = n; allocations = xs }) (sym held);
+      register = λ k is. left.registers k (d_of (flight_of w.now s).op) is small ∙ at.register k is;
+    }
+
+pub granted_behind : (c : Config) (s : Seat) (o : Object) (place : Place) (w v : World) → IsTakenAt c s o place w v → HasCall c v.now s
+    → ((k : ℕ) → s ≡ Caller k → 8 * k + d_of (flight_of w.now s).op < length v.now.words.registers)
+    → IsGrantedAt c s place w (world_behind c v (record { seat = s; step = step.Grant }))
+granted_behind c s o place w v at (OfCaller k lt) room =
+    let call = call_behind c v.now k step.Grant lt in
+    let f : Flight = flight_of w.now (Caller k) in
+    let base : granted_base c (flight_of v.now (Caller k)) v.now.seats.holding.placing ≡ base_made (object_made c f.op) place =
+    ap (λ (x : Placing). granted_base c (flight_of v.now (Caller k)) x) at.placing
+    ∙ ap (λ (g : Flight). base_made (object_made c g.op) place) at.call in
+    let u : World = world_behind c v (record { seat = Caller k; step = step.Grant }) in
+    record {
+      call = call ∙ ap (λ (g : Flight). record g { stage = stage.Give }) at.call;
+      placing = refl;
+      steady =
+          ap (λ (x : Steady). record x { allocations = u.allocations }) at.steady
+          ∙ ap (λ n. record
+          (steady_of w) {
+            pages = v.now.words.pages;
+            allocations = v.allocations ++
+                record {
+                  base = n;
+                  ty = type_made (flight_of v.now (Caller k)).op;
+                  freed = false;
+                  fresh = false;
+                  released = false;
+                } ∷ [];
+          }) base
+          ∙ ap (λ (g : Flight). record
+          (steady_of w) {
+            pages = v.now.words.pages;
+            allocations = v.allocations ++ record {
+              base = base_made
+                  (object_made c f.op) place;
+              ty = type_made g.op;
+              freed = false;
+              fresh = false;
+              released = false;
+            } ∷ [];
+          }) at.call
+          ∙ ap (λ (xs : List PlacedAllocation). record
+          (steady_of w) { pages = v.now.words.pages; allocations = xs ++ object_at_place c f place ∷ [] })
+          (ap (λ (x : Steady). x.allocations) at.steady)
+          ∙ ap (λ n. record
+          (steady_of w) {
+            pages = v.now.words.pages;
+            held = n;
+            allocations = w.allocations ++ object_at_place c f
+                place ∷ [];
+          }) (sym (ap (λ (x : Steady). x.held) at.steady));
+      register = λ j is. granted_register j is;
+    }
+  where
+    granted_register : (j : ℕ) → Caller k ≡ Caller j
+        → register_word (world_behind c v (record { seat = Caller k; step = step.Grant })).now.words j
+        (d_of (flight_of w.now (Caller k)).op)
+        ≡ address_of (base_made (object_made c (flight_of w.now (Caller k)).op) place) % 2 ^ 64
+    granted_register j is =
+        let same : k ≡ j = cc in
+        let d : d_of (flight_of v.now (Caller k)).op ≡ d_of (flight_of w.now (Caller k)).op = ap (λ (g : Flight). d_of g.op) at.call in
+        let value = address_of (granted_base c (flight_of v.now (Caller k)) v.now.seats.holding.placing) % 2 ^ 64 in
+        ap (λ i. slice_index (slice_set v.now.words.registers (8 * k + d_of (flight_of v.now (Caller k)).op) value)
+        (8 * i + d_of (flight_of w.now (Caller k)).op)) (sym same)
+        ∙ ap (λ i. slice_index (slice_set v.now.words.registers (8 * k + i) value) (8 * k + d_of (flight_of w.now (Caller k)).op)) d
+        ∙ get_or-set_same v.now.words.registers (8 * k + d_of (flight_of w.now (Caller k)).op) value 0 (room k refl)
+        ∙ ap (λ n. address_of n % 2 ^ 64) (ap (λ (x : Placing). granted_base c (flight_of v.now (Caller k)) x) at.placing
+        ∙ ap (λ (g : Flight). base_made (object_made c g.op) place) at.call)
+
+-- The tally of held words is set.
+pub tallied_behind : (c : Config) (s : Seat) (place : Place) (w v : World) (n : ℕ) → IsGrantedAt c s place w v → HasCall c v.now s
+    → IsGrantedAt c s place w (world_behind c v (record { seat = s; step = step.Tally tally.Held n }))
+tallied_behind c s place w v n at (OfCaller k lt) =
+    record {
+      call = call_behind c v.now k (step.Tally tally.Held n) lt ∙ at.call;
+      placing = at.placing;
+      steady = ap (λ (x : Steady). record x { held = n }) at.steady;
+      register = at.register;
+    }

@@ -1,0 +1,154 @@
+-- Looks one after the other, and a part of a turn behind looks.
+use Rattle.std.proofs.Common.{◌≡◌, ◌^◌, ◌%◌, inl, inr, Bool, true, List, [], ◌∷◌, ◌++◌, refl, sym, ◌∙◌, ap, subst, append-nil}
+use Rattle.std.specs.Prelude.{Some}
+use Rattle.std.proofs.lemmas.Bool.{and_from, and_parts}
+use Rattle.mk_core.specs.declared.events.Step.{Step}
+use Rattle.mk_core.specs.declared.events.Step.TheVariants as step
+use Rattle.mk_core.specs.declared.seats.Flight.{Flight}
+use Rattle.mk_geom.specs.declared.pages.Place.{Place}
+use Rattle.mk_geom.specs.Addresses.{address_of}
+use Rattle.mk_core.specs.declared.config.Config.{Config}
+use Rattle.mk_core.specs.declared.events.Answer.TheVariants as answer
+use Rattle.mk_core.specs.declared.events.Seat.{Seat}
+use Rattle.mk_core.specs.declared.seats.Holding.{Holding}
+use Rattle.mk_core.specs.declared.seats.Placing.{Placing}
+use Rattle.mk_core.specs.declared.seats.Stage.TheVariants as stage
+use Rattle.mk_core.specs.Accesses.{caller_number}
+use Rattle.mk_core.specs.Allocations.{held_words}
+use Rattle.mk_core.specs.Calls.{d_of}
+use Rattle.mk_core.specs.Decided.{Decided, entry_of}
+use Rattle.mk_core.specs.Frames.{Steady, steady_of}
+use Rattle.mk_core.specs.Moments.{flight_of}
+use Rattle.mk_core.specs.NewPlaces.{base_made, is_undecided_new, object_made, place_in, place_on_pages}
+use Rattle.mk_core.specs.Words.{phase_of, register_word}
+use Rattle.mk_core.specs.Growing.{Finding}
+use Rattle.mk_core.specs.History.{World}
+use Rattle.mk_words.specs.States.{PassState, WordsState, call_of, now_of, world_of}
+use Rattle.mk_turns.specs.Doing.{Does, are_of, done_in}
+use Rattle.mk_turns.proofs.Doing.{does_then}
+use Rattle.mk_objects.specs.Entries.{own_calls}
+use Rattle.mk_objects.specs.Placing.{GoesTo, HeldIsExact, IsGranted, IsGrantedAt, IsOutOfStop, IsUnplaced, OnlyLooks, entry_for, is_look, is_placing, object_at_place, object_for}
+use Rattle.mk_objects.specs.Unchanged.{IsAsLeft}
+use Rattle.mk_objects.proofs.Reaching.{reaches_nothing, seeing}
+use Rattle.mk_objects.proofs.Unchanged.{left_joined, left_same}
+
+are_wider : (narrow wide : Step → Bool) → ((s : Step) → narrow s ≡ true → wide s ≡ true) → (xs : List Finding) → are_of narrow xs ≡ true
+    → are_of wide xs ≡ true
+are_wider narrow wide widens [] all = refl
+are_wider narrow wide widens (x ∷ xs) all =
+    let both = and_parts (narrow x.event.step) (are_of narrow xs) all in
+    and_from (wide x.event.step) (are_of wide xs) (widens x.event.step both.0) (are_wider narrow wide widens xs both.1)
+
+pub does_wider : (narrow wide : Step → Bool) → ((s : Step) → narrow s ≡ true → wide s ≡ true) → (p q : PassState)
+    → Does narrow p q → Does wide p q
+does_wider narrow wide widens p q d =
+    record {
+      more = d.more;
+      is = d.is;
+      own_or_others = d.own_or_others;
+      of_kinds = are_wider narrow wide widens
+          (done_in p d.more) d.of_kinds;
+    }
+
+looks_place : (s : Step) → is_look s ≡ true → is_placing s ≡ true
+looks_place (step.Look x) h = refl
+looks_place _ h = cc
+
+pub looks_nothing : (p : PassState) → OnlyLooks p p
+looks_nothing p = reaches_nothing is_look p (IsAsLeft p.seat (world_of p)) (left_same p.seat (world_of p))
+
+-- behind looks all is as it was
+pub looks_left : (p q : PassState) → OnlyLooks p q → IsAsLeft p.seat (world_of p) (world_of q)
+looks_left p q a = subst (λ (x : PassState). IsAsLeft p.seat (world_of p) (world_of x)) (sym a.same) a.world
+
+pub looks_call : (p q : PassState) → OnlyLooks p q → call_of q ≡ call_of p
+looks_call p q a = ap (λ (x : PassState). call_of x) a.same ∙ a.world.call
+
+pub looks_table : (p q : PassState) → OnlyLooks p q → q.table ≡ p.table
+looks_table p q a = ap (λ (x : PassState). x.table) a.same
+
+pub looks_joined : (p q r : PassState) → OnlyLooks p q → OnlyLooks q r → OnlyLooks p r
+looks_joined p q r a b = by (subst (λ (x : PassState). OnlyLooks x r) a.same b)
+  where
+    by : OnlyLooks (seeing p q.seen) r → OnlyLooks p r
+    by b =
+        record {
+          same = b.same;
+          does = does_then is_look p q r a.does (subst (λ (x : PassState). Does is_look x r) (sym a.same) b.does);
+          calls = b.calls ∙ append-nil (own_calls p q.seen) ∙ a.calls;
+          world = left_joined p.seat (world_of p) _ _ a.world b.world;
+        }
+
+-- What is granted behind looks is granted.
+granted_over : (c : Config) (s : Seat) (place : Place) (w u v : World) → IsAsLeft s w u → IsGrantedAt c s place u v
+    → IsGrantedAt c s place w v
+granted_over c s place w u v a b =
+    record {
+      call = b.call ∙ ap (λ (f : Flight). record f { stage = stage.Give }) a.call;
+      placing = b.placing;
+      steady = b.steady
+          ∙ ap (λ (x : Steady). record x { pages = v.now.words.pages; held = v.now.words.held; allocations = x.allocations ++ object_at_place c (flight_of u.now s) place ∷ [] }) a.steady
+          ∙ ap (λ (f : Flight). record
+          (steady_of w) {
+            pages = v.now.words.pages;
+            held = v.now.words.held;
+            allocations = w.allocations ++
+                object_at_place c f place ∷ [];
+          }) a.call;
+      register = λ k is.
+          ap (λ (f : Flight). register_word v.now.words k (d_of f.op)) (sym a.call) ∙ b.register k is
+          ∙ ap (λ (f : Flight). address_of (base_made (object_made c f.op) place) % 2 ^ 64) a.call;
+    }
+
+pub granted_behind_looks : (p q r : PassState) (place : Place) → OnlyLooks p q → IsGranted q place r → IsGranted p place r
+granted_behind_looks p q r place a b = by (subst (λ (x : PassState). IsGranted x place r) a.same b)
+  where
+    by : IsGranted (seeing p q.seen) place r → IsGranted p place r
+    by b =
+        record {
+          same = b.same;
+          does = does_then is_placing p q r (does_wider is_look is_placing looks_place p q a.does)
+              (subst (λ (x : PassState). Does is_placing x r) (sym a.same) b.does);
+          calls = b.calls ∙ ap (λ (l : List Decided). l ++ entry_for (seeing p q.seen) answer.Done) (a.calls
+              ∙ append-nil (own_calls p p.seen))
+              ∙ ap (λ (f : Flight). own_calls p p.seen ++ entry_of (caller_number p.seat) f.op (Some answer.Done)) a.world.call;
+          world = granted_over p.table.config p.seat place (world_of p) _ _ a.world b.world;
+        }
+
+-- Looks leave a New unplaced, and the tally as it is.
+pub looks_unplaced : (p q : PassState) → OnlyLooks p q → IsUnplaced p → IsUnplaced q
+looks_unplaced p q a u =
+    let kept = looks_left p q a in
+    record {
+      new = ap (λ (f : Flight). is_undecided_new f) (looks_call p q a) ∙ u.new;
+      placing = ap (λ (h : Holding). h.placing) kept.holding ∙ u.placing;
+      phase = phase_same (ap (λ (x : Steady). x.phase) kept.steady) u.phase;
+    }
+  where
+    phase_same : phase_of (now_of q).words ≡ phase_of (now_of p).words → IsOutOfStop (now_of p) → IsOutOfStop (now_of q)
+    phase_same e (inl none) = inl (e ∙ none)
+    phase_same e (inr one) = inr (e ∙ one)
+
+pub looks_exact : (p q : PassState) → OnlyLooks p q → HeldIsExact p → HeldIsExact q
+looks_exact p q a exact =
+    let kept = looks_left p q a in
+    ap (λ (x : Steady). x.held) kept.steady ∙ exact ∙ ap (λ (x : Steady). held_words p.table.config x.allocations) (sym kept.steady)
+    ∙ ap (λ (t : WordsState). held_words t.config (world_of q).allocations) (sym (looks_table p q a))
+
+pub looks_object : (p q : PassState) → OnlyLooks p q → object_for q ≡ object_for p
+looks_object p q a =
+    ap (λ (t : WordsState). object_made t.config (call_of q).op) (looks_table p q a)
+    ∙ ap (λ (f : Flight). object_made p.table.config f.op) (looks_call p q a)
+
+pub looks_pages : (p q : PassState) → OnlyLooks p q → (now_of q).words.pages ≡ (now_of p).words.pages
+looks_pages p q a = ap (λ (x : Steady). x.pages) (looks_left p q a).steady
+
+-- the first fit on the pages is where an unplaced New goes
+pub goes_to : (p : PassState) (place : Place) → IsUnplaced p
+    → place_on_pages p.table.config.resident (now_of p).words.pages (object_for p) ≡ Some place
+    → GoesTo p place
+goes_to p place u fit =
+    record {
+      unplaced = u;
+      goes = rw u.new (ap (λ (x : Placing). place_in p.table.config.resident (now_of p).words.pages (object_for p) x) u.placing ∙ fit);
+    }

@@ -1,0 +1,107 @@
+-- What a look of the turn's holder finds, and that it leaves all as it was.
+use Rattle.std.proofs.Common.{◌≡◌, ℕ, ◌%◌, true, false, [], ◌++◌, refl, ◌∙◌, ap}
+use Rattle.std.specs.Prelude.{Option, slice_index_or, slice_index}
+use Rattle.std.proofs.lemmas.Bool.{lt-ltb}
+use Rattle.mk_never.specs.declared.operations.Op.{Op}
+use Rattle.mk_geom.specs.Storages.{free_page}
+use Rattle.mk_core.specs.declared.config.Config.{Config}
+use Rattle.mk_core.specs.declared.events.Seat.{Seat}
+use Rattle.mk_core.specs.declared.events.Seat.TheVariants.{Caller, Host, Marker}
+use Rattle.mk_core.specs.declared.events.Step.TheVariants as step
+use Rattle.mk_core.specs.declared.events.Word.{Word}
+use Rattle.mk_core.specs.declared.events.Word.TheVariants as word
+use Rattle.mk_core.specs.declared.seats.Flight.{Flight}
+use Rattle.mk_core.specs.Frames.{Steady, steady_of}
+use Rattle.mk_core.specs.History.{World, IsHistory, left, world_behind}
+use Rattle.mk_core.specs.Moments.{Moment, flight_of}
+use Rattle.mk_core.specs.Order.{seat_exists}
+use Rattle.mk_core.specs.Readings.{Holds}
+use Rattle.mk_core.specs.Words.{named_word, phase_of, quarantine_word}
+use Rattle.mk_words.specs.Seats.{Has}
+use Rattle.mk_words.specs.States.{PassState, call_of, now_of, world_of}
+use Rattle.mk_words.specs.Steps.{Finds, may_decide, moment_of}
+use Rattle.mk_words.specs.TurnSteps.{Acts, IsTurn}
+use Rattle.mk_words.proofs.Made.{made}
+use Rattle.mk_objects.specs.Looking.{is_acting, is_steady_word}
+use Rattle.mk_objects.specs.Placing.{OnlyLooks, is_look}
+use Rattle.mk_objects.specs.Unchanged.{IsAsLeft}
+use Rattle.mk_objects.proofs.MayAct.{IsActing}
+use Rattle.mk_objects.proofs.Reaching.{GoesOn, IsCallers, reaches_nothing, reaches_still}
+use Rattle.mk_objects.proofs.Unchanged.{IsPlain, OfFresh, OfHead, OfHeld, OfPhase, OfUsed, acting_has_call, left_joined, left_same, look_leaves}
+
+-- Who holds the turn exists, and is a caller where it is acting.
+
+holder_exists : (c : Config) (m : Moment) (s : Seat) → Holds c m s → seat_exists c s ≡ true
+holder_exists c m (Caller k) h = lt-ltb k c.callers h.0
+holder_exists c m (Marker k) h = absurd h
+holder_exists c m Host h = refl
+
+pub acting_now : (p : PassState) (o : Option Op) → IsTurn p o → is_acting (call_of p).stage ≡ true
+    → IsActing p.table.config (now_of p) p.seat
+acting_now p o turn acts = record { there = holder_exists p.table.config (now_of p) p.seat turn.holds; acts = acts }
+
+pub acting_caller : (p : PassState) → is_acting (call_of p).stage ≡ true → IsCallers p
+acting_caller p acts = by p.seat refl acts
+  where
+    by : (s : Seat) → p.seat ≡ s → is_acting (flight_of (now_of p) s).stage ≡ true → IsCallers p
+    by (Caller k) is h = record { number = k; is = is }
+    by (Marker k) is h = cc
+    by Host is h = cc
+
+-- where it is as it was left, it is acting still
+pub still_acting : (c : Config) (s : Seat) (w v : World) → IsActing c w.now s → IsAsLeft s w v → IsActing c v.now s
+still_acting c s w v at kept = record { there = at.there; acts = ap (λ (f : Flight). is_acting f.stage) kept.call ∙ at.acts }
+
+pub looks_on : (p : PassState) (x : Word) → IsActing p.table.config (now_of p) p.seat → IsPlain x
+    → GoesOn p (IsAsLeft p.seat (world_of p)) (λ v. IsAsLeft p.seat (world_of p)
+    (world_behind p.table.config v (record { seat = p.seat; step = step.Look x })))
+looks_on p x at plain w v before kept known pages =
+    let here = left_joined p.seat (world_of p) w v before kept in
+    let call = acting_has_call p.table.config v.now p.seat known.orderly.flights
+    (still_acting p.table.config p.seat (world_of p) v at here) in
+    left_joined p.seat (world_of p) v _ here (look_leaves p.table.config v p.seat x call plain)
+
+-- Such a look decides nothing.
+pub plain_is_idle : (x : Word) → IsPlain x → may_decide (step.Look x) ≡ false
+plain_is_idle x (OfHead p) = refl
+plain_is_idle x (OfUsed p) = refl
+plain_is_idle x OfHeld = refl
+plain_is_idle x OfFresh = refl
+plain_is_idle x OfPhase = refl
+
+pub look_reaches : (p q : PassState) (o : Option Op) (x : Word) → IsTurn p o → is_acting (call_of p).stage ≡ true
+    → IsPlain x → Acts p (step.Look x) q
+    → Has p.seats p.seat → IsHistory q.table.config q.seen → OnlyLooks p q
+look_reaches p q o x turn acts plain a own history =
+    reaches_still is_look p p q (IsAsLeft p.seat (world_of p)) (IsAsLeft p.seat (world_of p)) [] (step.Look x)
+    (reaches_nothing is_look p (IsAsLeft p.seat (world_of p)) (left_same p.seat (world_of p))) a own history refl
+    (acting_caller p acts) (plain_is_idle x plain) (looks_on p x (acting_now p o turn acts) plain)
+
+-- What it finds is what the word is for the holder.
+module _ (p q : PassState) (o : Option Op) (x : Word) (n : ℕ) (turn : IsTurn p o) (f : Finds p (step.Look x) n q)
+    (own : Has p.seats p.seat)
+    (history : IsHistory q.table.config q.seen) where
+  same : steady_of (left p.table.config (p.seen ++ f.makes.others)) ≡ steady_of (world_of p)
+  same = (((made p (step.Look x) q f.makes own history).frame.turn turn.holds).0).steady
+
+  pub found_steady : is_steady_word x ≡ true → n ≡ named_word (now_of p).words x
+  found_steady steady = f.finds ∙ by x steady
+    where
+      by : (y : Word) → is_steady_word y ≡ true → named_word (moment_of f.makes).words y ≡ named_word (now_of p).words y
+      by (word.Head i) h = ap (λ (t : Steady). (slice_index_or t.pages i free_page).header) same
+      by (word.Used i) h = ap (λ (t : Steady). (slice_index_or t.pages i free_page).used) same
+      by word.Held h = ap (λ (t : Steady). t.held) same
+      by word.Fresh h = ap (λ (t : Steady). t.fresh) same
+      by _ h = cc
+
+pub found_phase : (p q : PassState) (o : Option Op) (n : ℕ) → IsTurn p o → Finds p (step.Look word.Phase) n q → Has p.seats p.seat
+    → IsHistory q.table.config q.seen → n % 8 ≡ phase_of (now_of p).words
+found_phase p q o n turn f own history =
+    ap (λ i. i % 8) f.finds ∙ ap (λ (t : Steady). t.phase)
+    (((made p (step.Look word.Phase) q f.makes own history).frame.turn turn.holds).0).steady
+
+pub found_quarantine : (p q : PassState) (o : Option Op) (page n : ℕ) → IsTurn p o → Finds p (step.Look (word.Quar page)) n q → Has p.seats p.seat
+    → IsHistory q.table.config q.seen → n ≡ named_word (now_of p).words (word.Quar page)
+found_quarantine p q o page n turn f own history =
+    let same = (((made p (step.Look (word.Quar page)) q f.makes own history).frame.turn turn.holds).0).steady in
+    f.finds ∙ ap (λ (t : Steady). quarantine_word (slice_index t.freed page) (slice_index t.snapshot page)) same

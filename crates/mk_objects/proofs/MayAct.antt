@@ -1,0 +1,158 @@
+-- What the turn's holder may do, whatever the moment.
+use Rattle.std.proofs.Common.{◌≡◌, ℕ, ◌<◌, true, false, refl, ap, ◌∙◌, ◌⊎◌, inl, inr}
+use Rattle.std.specs.Prelude.{◌||◌, not, ◌==◌}
+use Rattle.std.proofs.lemmas.Bool.{lt-ltb, eq-eqb, or_left, or_right}
+use Rattle.mk_never.specs.declared.operations.Op.{Op}
+use Rattle.mk_never.specs.declared.operations.Op.TheVariants as op
+use Rattle.mk_geom.specs.Headers.{header_of}
+use Rattle.mk_core.specs.declared.config.Config.{Config}
+use Rattle.mk_core.specs.declared.events.Seat.{Seat}
+use Rattle.mk_core.specs.declared.events.Seat.TheVariants.{Caller, Host, Marker}
+use Rattle.mk_core.specs.declared.events.Step.{Step}
+use Rattle.mk_core.specs.declared.events.Step.TheVariants as step
+use Rattle.mk_core.specs.declared.events.Group.TheVariants as group
+use Rattle.mk_core.specs.declared.events.Tally.{Tally}
+use Rattle.mk_core.specs.declared.events.Word.TheVariants as word
+use Rattle.mk_core.specs.declared.seats.Stage.{Stage}
+use Rattle.mk_core.specs.declared.seats.Stage.TheVariants as stage
+use Rattle.mk_core.specs.Words.{phase_of}
+use Rattle.mk_core.specs.Cells.{is_unmapped_header}
+use Rattle.mk_core.specs.Enabled.{IsEnabled, marker_may, holder_may}
+use Rattle.mk_core.specs.Moments.{Moment, flight_of, marker_at, is_phase, others_are_held}
+use Rattle.mk_core.specs.NewPlaces.{is_new_at, is_undecided_free, is_undecided_new, target, object_made}
+use Rattle.mk_core.specs.Order.{comes_next, group_of, is_in_order, is_of_any_holder, is_open_to, may_decide, seat_exists}
+use Rattle.mk_core.specs.Ranges.{is_in_range, is_run_cell, is_word, has_gates, has_phase}
+use Rattle.mk_core.specs.StopConditions.{marks_by_hand, marks_place}
+use Rattle.mk_core.specs.TurnConditions.{carves, frees, takes_snapshot, is_used_once, place_now, takes_cell, unmaps}
+use Rattle.mk_core.specs.declared.events.Word.{Word}
+use Rattle.mk_core.specs.declared.seats.Flight.{Flight}
+use Rattle.mk_core.proofs.Conditions.{meets_enabled}
+use Rattle.mk_core.proofs.PlacesNow.{undecided_free, undecided_new}
+use Rattle.mk_objects.specs.Looking.{is_acting, is_steady_word}
+use Rattle.mk_objects.specs.Placing.{IsOutOfStop}
+
+-- A seat that is acting is a caller's, and has the steps of any holder next.
+
+pub record IsActing (c : Config) (m : Moment) (s : Seat) : Type 0 where
+  pub there : seat_exists c s ≡ true
+  pub acts : is_acting (flight_of m s).stage ≡ true
+
+open_to_acting : (m : Moment) (s : Seat) → is_acting (flight_of m s).stage ≡ true → is_open_to s group.Turn ≡ true
+open_to_acting m (Caller k) acts = refl
+open_to_acting m (Marker k) acts = cc
+open_to_acting m Host acts = cc
+
+any_may_decide : (o : Op) (x : Step) → is_of_any_holder x ≡ true → may_decide o x ≡ true
+any_may_decide (op.New d ty full) step.Grant h = refl
+any_may_decide (op.New d ty full) step.Full h = refl
+any_may_decide _ x h = h
+
+next_of_acting : (s : Stage) (o : Op) (x : Step) → is_acting s ≡ true → is_of_any_holder x ≡ true → comes_next s o x ≡ true
+next_of_acting stage.Turn o x acts any = any_may_decide o x any
+next_of_acting stage.Give o x acts any = any
+next_of_acting _ o x acts any = cc
+
+order_of_acting : (c : Config) (m : Moment) (s : Seat) (x : Step) → is_acting (flight_of m s).stage ≡ true → is_of_any_holder x ≡ true
+    → is_in_order c m s x ≡ true
+order_of_acting c m (Caller k) x acts any = next_of_acting (flight_of m (Caller k)).stage (flight_of m (Caller k)).op x acts any
+order_of_acting c m (Marker k) x acts any = cc
+order_of_acting c m Host x acts any = cc
+
+-- An undecided New is acting, and has `grant` next besides.
+
+pub new_is_acting : (f : Flight) → is_undecided_new f ≡ true → is_acting f.stage ≡ true
+new_is_acting f new = ap is_acting (undecided_new f new).stage
+
+pub free_is_acting : (f : Flight) → is_undecided_free f ≡ true → is_acting f.stage ≡ true
+free_is_acting f free = ap is_acting (undecided_free f free).stage
+
+grant_comes_next : (s : Stage) (o : Op) → is_new_at s o ≡ true → comes_next s o step.Grant ≡ true
+grant_comes_next stage.Turn (op.New d ty full) h = refl
+grant_comes_next _ _ h = cc
+
+grant_in_order : (c : Config) (m : Moment) (s : Seat) → is_undecided_new (flight_of m s) ≡ true → is_in_order c m s step.Grant ≡ true
+grant_in_order c m (Caller k) new = grant_comes_next (flight_of m (Caller k)).stage (flight_of m (Caller k)).op new
+grant_in_order c m (Marker k) new = cc
+grant_in_order c m Host new = cc
+
+low_phase : (n : ℕ) → (n ≡ 0) ⊎ (n ≡ 1) → ((n == 0) || (n == 1)) ≡ true
+low_phase n (inl none) = or_left (n == 0) (n == 1) (eq-eqb n 0 none)
+low_phase n (inr one) = or_right (n == 0) (n == 1) (eq-eqb n 1 one)
+
+low_or_more : (n k : ℕ) → (n ≡ 0) ⊎ (n ≡ 1) → ((n == 0) || (n == 1) || (n == k)) ≡ true
+low_or_more n k low = or_left ((n == 0) || (n == 1)) (n == k) (low_phase n low)
+
+pub off_four : (m : Moment) → IsOutOfStop m → is_phase m.words 4 ≡ false
+off_four m (inl none) = ap (λ (n : ℕ). n == 4) none
+off_four m (inr one) = ap (λ (n : ℕ). n == 4) one
+
+module _ (c : Config) (m : Moment) (s : Seat) (at : IsActing c m s) where
+  may_by : (x : Step) → group_of x ≡ group.Turn → is_in_order c m s x ≡ true → is_in_range c s (flight_of m s) x ≡ true
+      → has_gates c m.words s (flight_of m s) x ≡ true → has_phase (phase_of m.words) x ≡ true → marker_may c (marker_at m s) x ≡ true
+      → holder_may c m (flight_of m s) x ≡ true → IsEnabled c m (record { seat = s; step = x })
+  may_by x turn order range gates phase marker own =
+      meets_enabled c m (record { seat = s; step = x }) (record {
+        seat = at.there;
+        kind = ap (λ g. is_open_to s g) turn ∙ open_to_acting m s at.acts;
+        order = order;
+        range = range;
+        gates = gates;
+        phase = phase;
+        marker = marker;
+        holder = own;
+      })
+
+  pub may_look : (x : Word) → is_steady_word x ≡ true → is_word c x ≡ true → IsEnabled c m (record { seat = s; step = step.Look x })
+  may_look x steady within = may_by (step.Look x) refl (order_of_acting c m s (step.Look x) at.acts refl) within
+      (gates x steady) refl refl refl
+    where
+      gates : (x : Word) → is_steady_word x ≡ true → has_gates c m.words s (flight_of m s) (step.Look x) ≡ true
+      gates (word.Reg j r) steady = cc
+      gates x steady = refl
+
+  pub may_look_phase : IsEnabled c m (record { seat = s; step = step.Look word.Phase })
+  may_look_phase = may_by (step.Look word.Phase) refl (order_of_acting c m s (step.Look word.Phase) at.acts refl) refl refl refl refl refl
+
+  pub may_look_quarantine : (p : ℕ) → p < c.pages → IsEnabled c m (record { seat = s; step = step.Look (word.Quar p) })
+  may_look_quarantine p within =
+      may_by (step.Look (word.Quar p)) refl (order_of_acting c m s (step.Look (word.Quar p)) at.acts refl) (lt-ltb p c.pages within)
+      refl refl refl refl
+
+  pub may_free : (p v : ℕ) → p < c.pages → IsOutOfStop m
+      → (not (is_run_cell m.words (target c.pages m.words (flight_of m s))) || others_are_held c.callers m.words s) ≡ true
+      → frees m.words (target c.pages m.words (flight_of m s)) p v ≡ true → IsEnabled c m (record { seat = s; step = step.Quar p v })
+  may_free p v within low gates frees =
+      may_by (step.Quar p v) refl (order_of_acting c m s (step.Quar p v) at.acts refl) (lt-ltb p c.pages within) gates
+      (low_or_more (phase_of m.words) 4 low) refl (rw (off_four m low) (or_left _ (takes_snapshot m.words p v) frees))
+
+  pub may_tally : (n : Tally) (v : ℕ) → IsEnabled c m (record { seat = s; step = step.Tally n v })
+  may_tally n v = may_by (step.Tally n v) refl (order_of_acting c m s (step.Tally n v) at.acts refl) refl refl refl refl refl
+
+  pub may_mark_place : (p v : ℕ) → p < c.pages → phase_of m.words ≡ 1
+      → marks_place m.words (object_made c (flight_of m s).op) (place_now c m (flight_of m s)) p v ≡ true
+      → IsEnabled c m (record { seat = s; step = step.Mark p v })
+  may_mark_place p v within one places =
+      may_by (step.Mark p v) refl (order_of_acting c m s (step.Mark p v) at.acts refl) (lt-ltb p c.pages within) refl
+      (ap (λ (n : ℕ). (n == 1) || (n == 2)) one) refl
+      (or_right (marks_by_hand c.pages m.words m.seats.holding.hand p v) _ places)
+
+  pub may_carve : (p v : ℕ) → p < c.pages → IsOutOfStop m → is_unmapped_header (header_of v) ≡ false
+      → carves m.words (object_made c (flight_of m s).op) (place_now c m (flight_of m s)) p v ≡ true
+      → IsEnabled c m (record { seat = s; step = step.Head p v })
+  may_carve p v within low mapped carve =
+      may_by (step.Head p v) refl (order_of_acting c m s (step.Head p v) at.acts refl) (lt-ltb p c.pages within)
+      (ap (λ b. not b || others_are_held c.callers m.words s) mapped) (low_or_more (phase_of m.words) 4 low) refl
+      (rw (off_four m low) (or_left _ (unmaps m.words m.seats.holding.freed p v) carve))
+
+  pub may_take : (p v : ℕ) → p < c.pages → IsOutOfStop m → is_used_once m.seats.holding.placing ≡ false
+      → takes_cell m.words (object_made c (flight_of m s).op) (place_now c m (flight_of m s)) p v ≡ true
+      → IsEnabled c m (record { seat = s; step = step.Used p v })
+  may_take p v within low once takes =
+      may_by (step.Used p v) refl (order_of_acting c m s (step.Used p v) at.acts refl) (lt-ltb p c.pages within)
+      refl (low_or_more (phase_of m.words) 4 low) refl
+      (rw (off_four m low, once) takes)
+
+  pub may_grant : is_undecided_new (flight_of m s) ≡ true → IsOutOfStop m → is_used_once m.seats.holding.placing ≡ true
+      → IsEnabled c m (record { seat = s; step = step.Grant })
+  may_grant new low once =
+      may_by step.Grant refl (grant_in_order c m s new) refl refl (low_phase (phase_of m.words) low) refl once

@@ -1,0 +1,97 @@
+-- What is asked of a New, and where it goes, by what its turn tells.
+use Rattle.std.proofs.Common.{◌≡◌, ℕ, ◌<◌, true, List, length, refl, sym, ◌∙◌, ap, arith}
+use Rattle.std.specs.Prelude.{◌&&◌, nat_lt, Option, Some}
+use Rattle.std.proofs.lemmas.Bool.{and_parts}
+use Rattle.mk_never.specs.declared.operations.Op.{Op}
+use Rattle.mk_geom.specs.declared.pages.Page.{Page}
+use Rattle.mk_geom.specs.declared.pages.Place.{Place}
+use Rattle.mk_geom.specs.PageUses.{place_among}
+use Rattle.mk_geom.specs.PageWords.{uses_of_pages}
+use Rattle.mk_core.specs.declared.config.Config.{Config}
+use Rattle.mk_core.specs.declared.events.Seat.{Seat}
+use Rattle.mk_core.specs.declared.events.Seat.TheVariants.{Caller, Host, Marker}
+use Rattle.mk_core.specs.declared.seats.Object.{Object}
+use Rattle.mk_core.specs.Calls.{d_of, g_of, has_operands, has_type, p_of, q_of, r_of}
+use Rattle.mk_core.specs.History.{IsHistory}
+use Rattle.mk_core.specs.Moments.{flight_of}
+use Rattle.mk_core.specs.NewPlaces.{is_undecided_new, object_made, place_on_pages}
+use Rattle.mk_layout.proofs.Holders.{seat_operands}
+use Rattle.mk_protocol.proofs.Known.{known_left}
+use Rattle.mk_invariant.proofs.Theorems.{first_fit_finds_the_place}
+use Rattle.mk_words.specs.States.{PassState, WordsState, call_of, now_of}
+use Rattle.mk_words.specs.TurnSteps.{IsTurn, op_for}
+use Rattle.mk_objects.specs.declared.objects.Shape.{Shape}
+use Rattle.mk_objects.specs.Placing.{GoesTo, IsUnplaced, OnlyLooks, object_for, place_now_for}
+use Rattle.mk_objects.specs.Shapes.{object_shaped}
+use Rattle.mk_objects.proofs.JoinedLooks.{goes_to, looks_object, looks_pages, looks_table, looks_unplaced}
+use Rattle.mk_objects.proofs.Looks.{acting_caller, acting_now}
+use Rattle.mk_objects.proofs.MayAct.{new_is_acting}
+use Rattle.mk_objects.proofs.Serves.{knows_place}
+use Rattle.mk_objects.proofs.Takes.{unplaced_settled}
+
+-- the operation of a turn that is for an undecided New
+pub op_is : (p : PassState) (x : Option Op) → IsTurn p x → is_undecided_new (call_of p) ≡ true → x ≡ Some (call_of p).op
+op_is p x turn new = turn.op ∙ by p.seat new
+  where
+    by : (s : Seat) → is_undecided_new (flight_of (now_of p) s) ≡ true
+        → op_for s (flight_of (now_of p) s) ≡ Some (flight_of (now_of p) s).op
+    by (Caller k) h = refl
+    by (Marker k) h = cc
+    by Host h = cc
+
+type_of : (c : Config) (o : Op) → has_operands c o ≡ true → has_type c o ≡ true
+type_of c o h = (and_parts
+    (nat_lt (q_of o) 8 && nat_lt (p_of o) 8 && nat_lt (r_of o) 8 && nat_lt (d_of o) 8 && nat_lt (g_of o) 64)
+    (has_type c o) h).1
+
+-- Its type exists,
+pub type_asked : (p : PassState) (w : WordsState) (x y : Option Op) → p.table ≡ w → IsTurn p x → IsHistory p.table.config p.seen
+    → is_undecided_new (call_of p) ≡ true → y ≡ x → (o : Op) → y ≡ Some o → has_type w.config o ≡ true
+type_asked p w x y table turn h new same o is =
+    let e : o ≡ (call_of p).op = let z : Some o ≡ Some (call_of p).op = sym is ∙ same ∙ op_is p x turn new in cc z in
+    ap (λ (v : Op). has_type w.config v) e ∙ ap (λ (t : WordsState). has_type t.config (call_of p).op) (sym table)
+    ∙ type_of p.table.config (call_of p).op (seat_operands p.table.config (now_of p) p.seat
+    (known_left p.table.config p.seen h.within_limits h.enabled))
+
+-- and its shape is that of the object.
+pub shape_asked : (p : PassState) (w : WordsState) (x y : Option Op) (shape : Shape) → p.table ≡ w → IsTurn p x
+    → is_undecided_new (call_of p) ≡ true
+    → y ≡ x → ((o : Op) → y ≡ Some o → object_shaped shape ≡ object_made w.config o) → object_shaped shape ≡ object_for p
+shape_asked p w x y shape table turn new same made =
+    made (call_of p).op (same ∙ op_is p x turn new) ∙ ap (λ (t : WordsState). object_made t.config (call_of p).op) (sym table)
+
+-- The first fit on pages that are filled is that on the words.
+pub fit_found : (p : PassState) (w : WordsState) (pages : List Page) (resident : ℕ) (shape : Shape) (x : Option Place) → p.table ≡ w
+    → resident ≡ w.config.resident → pages ≡ (now_of p).words.pages → object_shaped shape ≡ object_for p
+    → x ≡ place_among resident shape.words shape.leaf (uses_of_pages pages)
+    → place_on_pages p.table.config.resident (now_of p).words.pages (object_for p) ≡ x
+fit_found p w pages resident shape x table limit filled is found =
+    ap (λ n. place_on_pages n (now_of p).words.pages (object_for p)) (ap (λ (t : WordsState). t.config.resident) table ∙ sym limit)
+    ∙ ap (λ (ps : List Page). place_on_pages resident ps (object_for p)) (sym filled)
+    ∙ ap (λ (o : Object). place_on_pages resident pages o) (sym is) ∙ sym found
+
+-- So it is where the New goes, behind looks too,
+pub goes_behind : (p q : PassState) (place : Place) → OnlyLooks p q → IsUnplaced p
+    → place_on_pages p.table.config.resident (now_of p).words.pages (object_for p) ≡ Some place → GoesTo q place
+goes_behind p q place a u fit =
+    goes_to q place (looks_unplaced p q a u)
+    (ap (λ (t : WordsState). place_on_pages t.config.resident (now_of q).words.pages (object_for q)) (looks_table p q a)
+    ∙ ap (λ (ps : List Page). place_on_pages p.table.config.resident ps (object_for q)) (looks_pages p q a)
+    ∙ ap (λ (o : Object). place_on_pages p.table.config.resident (now_of p).words.pages o) (looks_object p q a) ∙ fit)
+
+-- and the place among the allocations.
+pub place_found : (p : PassState) (x : Option Op) (found : Option Place) → IsTurn p x → IsHistory p.table.config p.seen → IsUnplaced p
+    → place_on_pages p.table.config.resident (now_of p).words.pages (object_for p) ≡ found → place_now_for p ≡ found
+place_found p x found turn h u fit =
+    let acts = new_is_acting (call_of p) u.new in
+    sym (first_fit_finds_the_place p.table.config p.seen h (object_for p)
+    (unplaced_settled p (acting_now p x turn acts) (acting_caller p acts) u h)) ∙ fit
+
+pub fit_within : (p : PassState) (x : Option Op) (place : Place) → IsTurn p x → IsHistory p.table.config p.seen → IsUnplaced p
+    → place_on_pages p.table.config.resident (now_of p).words.pages (object_for p) ≡ Some place
+    → place.page < length (now_of p).words.pages
+fit_within p x place turn h u fit =
+    let k = knows_place p x place turn h (goes_to p place u fit) in
+    let within = k.within in
+    let lengths = k.serving.pages in
+    omega arith

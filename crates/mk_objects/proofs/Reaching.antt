@@ -1,0 +1,138 @@
+-- The turn's holder goes on by a step.
+use Rattle.std.proofs.Common.{◌≡◌, ℕ, Bool, true, false, List, [], ◌∷◌, ◌++◌, refl, sym, ◌∙◌, ap, subst, append-nil, append_assoc}
+use Rattle.std.specs.Prelude.{Option, None}
+use Rattle.mk_core.specs.declared.config.Config.{Config}
+use Rattle.mk_core.specs.declared.events.Answer.{Answer}
+use Rattle.mk_core.specs.declared.events.Event.{Event}
+use Rattle.mk_core.specs.declared.events.Seat.{Seat}
+use Rattle.mk_core.specs.declared.events.Seat.TheVariants.{Caller}
+use Rattle.mk_core.specs.declared.events.Step.{Step}
+use Rattle.mk_core.specs.Decided.{Decided, entry_of}
+use Rattle.mk_core.specs.Effects.{answer_decided}
+use Rattle.mk_core.specs.Growing.{AreOfOthers}
+use Rattle.mk_core.specs.History.{World, IsHistory, left, world_behind}
+use Rattle.mk_core.specs.Layout.{AreOfPages}
+use Rattle.mk_core.specs.Moments.{flight_of}
+use Rattle.mk_core.proofs.Lengths.{histories_keep_lengths}
+use Rattle.mk_protocol.proofs.Known.{Known}
+use Rattle.mk_words.specs.Seats.{Has}
+use Rattle.mk_words.specs.States.{PassState, event_of, world_of}
+use Rattle.mk_words.specs.Steps.{may_decide}
+use Rattle.mk_words.specs.TurnSteps.{Acts}
+use Rattle.mk_words.proofs.Made.{made}
+use Rattle.mk_words.proofs.Undecided.{decides_nothing}
+use Rattle.mk_turns.specs.Doing.{Does}
+use Rattle.mk_turns.proofs.Doing.{does_nothing, does_step, does_then}
+use Rattle.mk_objects.specs.Entries.{own_calls}
+use Rattle.mk_objects.specs.Placing.{Reaches}
+use Rattle.mk_objects.specs.Unchanged.{IsAsLeft}
+use Rattle.mk_objects.proofs.OwnCalls.{own_step_adds}
+
+-- the pass, where it has seen these
+abbrev pub seeing : PassState → List Event → PassState
+seeing p es = record p { seen = es }
+
+-- The step was made in this world, which others had left the holder its own.
+pub record MadeIn (p : PassState) (es : List Event) (s : Step) (r : PassState) : Type 0 where
+  pub others : List Event
+  pub of_others : AreOfOthers (p.seat ∷ []) others
+  pub same : r ≡ seeing p (es ++ others ++ event_of p s ∷ [])
+  pub kept : IsAsLeft p.seat (left p.table.config es) (left p.table.config (es ++ others))
+  pub behind : world_of r ≡ world_behind p.table.config (left p.table.config (es ++ others)) (event_of p s)
+  pub known : Known p.table.config (left p.table.config (es ++ others)).now
+  pub does : (kinds : Step → Bool) → kinds s ≡ true → Does kinds (seeing p es) r
+
+pub made_in : (p : PassState) (es : List Event) (s : Step) (r : PassState) → Acts (seeing p es) s r → Has p.seats p.seat
+    → IsHistory r.table.config r.seen → MadeIn p es s r
+made_in p es s r a own history =
+    let d = made (seeing p es) s r a.makes own history in
+    record {
+      others = a.makes.others;
+      of_others = d.others;
+      same = a.makes.is;
+      kept = record {
+        call = a.own.flight;
+        holding = a.holding;
+        steady = a.turn.steady;
+        marks = a.turn.marks_grow;
+        registers = a.own.registers;
+      };
+      behind = a.world;
+      known = d.known;
+      does = λ kinds ok. does_step kinds (seeing p es) r s own a.makes ok;
+    }
+
+pub reaches_nothing : (kinds : Step → Bool) (p : PassState) (A : World → Type 0) → A (world_of p) → Reaches kinds p A [] p
+reaches_nothing kinds p A here =
+    record { same = refl; does = does_nothing kinds p; calls = sym (append-nil (own_calls p p.seen)); world = here }
+
+-- What a step that is made in a world comes to, and the entry that it adds to the calls of its own.
+pub record StepsTo (p : PassState) (s : Step) (B : World → Type 0) (es : List Decided) (v : World) : Type 0 where
+  pub world : B (world_behind p.table.config v (event_of p s))
+  pub answer : Option Answer
+  pub decides : answer_decided p.table.config v.now (event_of p s) ≡ answer
+  pub entry : (k : ℕ) → p.seat ≡ Caller k → entry_of k (flight_of v.now p.seat).op answer ≡ es
+
+pub record IsCallers (p : PassState) : Type 0 where
+  pub number : ℕ
+  pub is : p.seat ≡ Caller number
+
+own_adds : (p : PassState) (k : ℕ) → p.seat ≡ Caller k → (seen others : List Event) (s : Step) (es : List Decided)
+    → AreOfOthers (p.seat ∷ []) others
+    → (a : Option Answer) → answer_decided p.table.config (left p.table.config (seen ++ others)).now (event_of p s) ≡ a
+    → entry_of k (flight_of (left p.table.config (seen ++ others)).now p.seat).op a ≡ es
+    → own_calls p (seen ++ others ++ event_of p s ∷ []) ≡ own_calls p seen ++ es
+own_adds p k is seen others s es of_others a answer entry =
+    subst
+    (λ (x : Seat). AreOfOthers (x ∷ []) others
+    → answer_decided p.table.config (left p.table.config (seen ++ others)).now (record { seat = x; step = s }) ≡ a
+    → entry_of k (flight_of (left p.table.config (seen ++ others)).now x).op a ≡ es
+    → own_calls (record p { seat = x }) (seen ++ others ++ record { seat = x; step = s } ∷ []) ≡ own_calls
+    (record p { seat = x }) seen ++ es)
+    (sym is)
+    (λ o d e.
+    own_step_adds p.table.config k seen others s (flight_of (left p.table.config (seen ++ others)).now (Caller k)).op a o refl d
+    ∙ ap (λ (l : List Decided). own_calls (record p { seat = Caller k }) seen ++ l) e)
+    of_others answer entry
+
+-- what is known of the world in which the holder makes a step, where it had come to such a one
+abbrev pub GoesOn : (p : PassState) (A : World → Type 0) (C : World → Type 0) → Type 0
+GoesOn p A C =
+    (w v : World) → A w → IsAsLeft p.seat w v → Known p.table.config v.now → AreOfPages p.table.config.pages v.now.words → C v
+
+-- One step further.
+pub reaches_on : (kinds : Step → Bool) (p q r : PassState) (A B : World → Type 0) (ds es : List Decided) (s : Step)
+    → Reaches kinds p A ds q
+    → Acts q s r → Has q.seats q.seat → IsHistory r.table.config r.seen → kinds s ≡ true → IsCallers p → GoesOn p A (StepsTo p s B es)
+    → Reaches kinds p B (ds ++ es) r
+reaches_on kinds p q r A B ds es s reached acts own history allowed caller next =
+    let c : Config = p.table.config in
+    let m : MadeIn p q.seen s r =
+    made_in p q.seen s r (subst (λ (x : PassState). Acts x s r) reached.same acts)
+    (subst (λ (x : PassState). Has x.seats x.seat) reached.same own) history in
+    let v : World = left c (q.seen ++ m.others) in
+    let on : StepsTo p s B es v = next (left c q.seen) v reached.world m.kept m.known (histories_keep_lengths c (q.seen ++ m.others)) in
+    let seen : r.seen ≡ q.seen ++ m.others ++ event_of p s ∷ [] = ap (λ (x : PassState). x.seen) m.same in
+    record {
+      same = m.same ∙ ap (λ (l : List Event). seeing p l) (sym seen);
+      does = does_then kinds p q r reached.does (subst (λ (x : PassState). Does kinds x r) (sym reached.same) (m.does kinds allowed));
+      calls = ap (λ (l : List Event). own_calls p l) seen
+          ∙ own_adds p caller.number caller.is q.seen m.others s es m.of_others on.answer on.decides (on.entry caller.number caller.is)
+          ∙ ap (λ (l : List Decided). l ++ es) reached.calls ∙ append_assoc (own_calls p p.seen) ds es;
+      world = subst B (sym m.behind ∙ ap (λ (x : PassState). world_of x) m.same ∙ ap (λ (l : List Event). left c l) (sym seen)) on.world;
+    }
+
+-- a step that decides nothing
+pub reaches_still : (kinds : Step → Bool) (p q r : PassState) (A B : World → Type 0) (ds : List Decided) (s : Step)
+    → Reaches kinds p A ds q
+    → Acts q s r → Has q.seats q.seat → IsHistory r.table.config r.seen → kinds s ≡ true → IsCallers p → may_decide s ≡ false
+    → GoesOn p A (λ v. B (world_behind p.table.config v (event_of p s))) → Reaches kinds p B ds r
+reaches_still kinds p q r A B ds s reached acts own history allowed caller idle next =
+    subst (λ (l : List Decided). Reaches kinds p B l r) (append-nil ds)
+    (reaches_on kinds p q r A B ds [] s reached acts own history allowed caller
+    (λ w v a kept known pages. record {
+      world = next w v a kept known pages;
+      answer = None;
+      decides = decides_nothing p.table.config v.now p.seat s idle;
+      entry = λ k is. refl;
+    }))

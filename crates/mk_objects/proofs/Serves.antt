@@ -1,0 +1,249 @@
+-- The turn's holder serves its New, step by step.
+use Rattle.std.proofs.Common.{◌≡◌, ◌≢◌, ℕ, ◌+◌, ◌<◌, true, false, List, [], length, refl, sym, ◌∙◌, ap, subst, inl, inr, ◌⊎◌, arith}
+use Rattle.std.specs.Prelude.{Option, Some, slice_index_or}
+use Rattle.std.proofs.lemmas.Bool.{cases_eq}
+use Rattle.mk_never.specs.declared.operations.Op.{Op}
+use Rattle.mk_geom.specs.declared.pages.Page.{Page}
+use Rattle.mk_geom.specs.declared.pages.Place.{Place}
+use Rattle.mk_geom.specs.Storages.{free_page}
+use Rattle.mk_core.specs.declared.config.Config.{Config}
+use Rattle.mk_core.specs.declared.events.Seat.{Seat}
+use Rattle.mk_core.specs.declared.events.Step.TheVariants as step
+use Rattle.mk_core.specs.declared.seats.Flight.{Flight}
+use Rattle.mk_core.specs.declared.seats.Object.{Object}
+use Rattle.mk_core.specs.declared.seats.Placing.{Placing}
+use Rattle.mk_core.specs.declared.seats.Placing.TheVariants.{Unplaced}
+use Rattle.mk_core.specs.Bits.{has_bit}
+use Rattle.mk_core.specs.Frames.{Steady}
+use Rattle.mk_core.specs.History.{World, IsHistory, left}
+use Rattle.mk_core.specs.Moments.{Moment, flight_of}
+use Rattle.mk_core.specs.NewPlaces.{bits_made, header_made, is_undecided_new, object_made, pages_made, place_in, place_on_pages}
+use Rattle.mk_core.specs.ObjectHeaders.{IsSized}
+use Rattle.mk_core.specs.TurnConditions.{is_used_once, place_now}
+use Rattle.mk_core.specs.Words.{header_at, phase_of, used_at}
+use Rattle.mk_core.proofs.Lengths.{histories_keep_lengths}
+use Rattle.mk_core.proofs.ObjectHeaders.{made_is_mapped, made_shows, part_not_free}
+use Rattle.mk_core.proofs.Sizes.{pages_some, small_pages}
+use Rattle.mk_core.proofs.WordBits.{no_bit}
+use Rattle.mk_protocol.proofs.Known.{known_left}
+use Rattle.mk_layout.proofs.Fits.{FitsInBlock, FitsOnFreePages, fits}
+use Rattle.mk_layout.proofs.Holders.{made_sized}
+use Rattle.mk_layout.proofs.Readings.{free_unused}
+use Rattle.mk_layout.specs.Terrain.{object_now, scene_of}
+use Rattle.mk_protocol.specs.Ground.{ground_of}
+use Rattle.mk_core.specs.Moments.{is_phase}
+use Rattle.mk_invariant.proofs.Histories.{histories_keep_the_invariant}
+use Rattle.mk_words.specs.Seats.{Has}
+use Rattle.mk_words.specs.States.{PassState, call_of, now_of, world_of}
+use Rattle.mk_words.specs.Steps.{IsEnabledTo}
+use Rattle.mk_words.specs.TurnSteps.{Acts, IsTurn}
+use Rattle.mk_objects.specs.Looking.{is_acting}
+use Rattle.mk_objects.specs.Placing.{GoesTo, HasCarved, IsOutOfStop, MayTake, is_placing, object_for}
+use Rattle.mk_objects.specs.Serving.{Carving, IsReady, Serving}
+use Rattle.mk_objects.specs.Unchanged.{IsAsLeft}
+use Rattle.mk_objects.proofs.FoundPlaces.{found_clear}
+use Rattle.mk_objects.proofs.Granting.{carving_marked, carving_unmarked, serving_marks}
+use Rattle.mk_objects.proofs.Looks.{acting_caller, acting_now}
+use Rattle.mk_objects.proofs.MayAct.{IsActing, may_carve, may_mark_place, new_is_acting}
+use Rattle.mk_objects.proofs.Reaching.{IsCallers, reaches_nothing, reaches_still}
+use Rattle.mk_objects.proofs.Serving.{carving_carves, carving_left, carving_more, ready_carved, serving_left}
+use Rattle.mk_objects.proofs.Unchanged.{acting_has_call}
+
+-- What is known of the place before the first step that serves.
+pub record KnowsPlace (p : PassState) (place : Place) : Type 0 where
+  pub acting : IsActing p.table.config (now_of p) p.seat
+  pub caller : IsCallers p
+  pub sized : IsSized (object_for p)
+  pub serving : Serving p.table.config p.seat (object_for p) place (world_of p) (world_of p)
+  pub fit : place_on_pages p.table.config.resident (now_of p).words.pages (object_for p) ≡ Some place
+  pub unused : header_at (now_of p).words place.page ≡ 0 → used_at (now_of p).words place.page ≡ 0
+  pub within : place.page < p.table.config.pages
+  pub fits : FitsOnFreePages p.table.config.resident (now_of p).words.pages (object_for p) place ⊎ FitsInBlock
+      (now_of p).words.pages (object_for p) place
+
+fit_of : (c : Config) (m : Moment) (f : Flight) (place : Place) → is_undecided_new f ≡ true → m.seats.holding.placing ≡ Unplaced
+    → place_now c m f ≡ Some place → place_on_pages c.resident m.words.pages (object_made c f.op) ≡ Some place
+fit_of c m f place new at placed = sym (ap
+    (λ (x : Placing). place_in c.resident m.words.pages (object_made c f.op) x) at) ∙ sym (under new) ∙ placed
+  where
+    under : is_undecided_new f ≡ true → place_now c m f ≡ place_in c.resident m.words.pages (object_made c f.op) m.seats.holding.placing
+    under is = rw is refl
+
+within_of : (limit : ℕ) (pages : List Page) (o : Object) (place : Place) (n : ℕ) → IsSized o → length pages ≡ n
+    → FitsOnFreePages limit pages o place ⊎ FitsInBlock pages o place → place.page < n
+within_of limit pages o place n sized len (inl f) = let some = pages_some o sized in let w = f.within in omega arith
+within_of limit pages o place n sized len (inr b) = let w = b.within in omega arith
+
+pub knows_place : (p : PassState) (o : Option Op) (place : Place) → IsTurn p o → IsHistory p.table.config p.seen
+    → GoesTo p place → KnowsPlace p place
+knows_place p o place turn h goes =
+    let c : Config = p.table.config in
+    let known = known_left c p.seen h.within_limits h.enabled in
+    let new = goes.unplaced.new in
+    let acts = new_is_acting (call_of p) new in
+    let sized = made_sized c (now_of p) p.seat h.within_limits known new in
+    let lengths = (histories_keep_lengths c p.seen).pages in
+    let fit = fit_of c (now_of p) (call_of p) place new goes.unplaced.placing goes.goes in
+    let found = fits c.resident (now_of p).words.pages (object_for p) place sized fit in
+    let order = (histories_keep_the_invariant c p.seen h).order in
+    record {
+      acting = acting_now p o turn acts;
+      caller = acting_caller p acts;
+      sized = sized;
+      serving = record {
+        call = refl;
+        object = refl;
+        steady = refl;
+        placed = goes.goes;
+        once = ap is_used_once goes.unplaced.placing;
+        used = refl;
+        pages = lengths;
+      };
+      fit = fit;
+      unused = λ z.
+          free_unused (scene_of c (object_now c (now_of p)) (is_phase (now_of p).words 4) (now_of p).words.marks
+          (ground_of (world_of p))) place.page order.laid.scene z;
+      within = within_of c.resident (now_of p).words.pages (object_for p) place c.pages sized lengths found;
+      fits = found;
+    }
+
+-- Where its page has no header, all its pages have none.
+pub free_pages_of : (p : PassState) (place : Place) → KnowsPlace p place → header_at (now_of p).words place.page ≡ 0
+    → FitsOnFreePages p.table.config.resident (now_of p).words.pages (object_for p) place
+free_pages_of p place k z = elim k.fits [
+  | inl free ↦ free
+  | inr block ↦
+      let some = pages_some (object_for p) k.sized in
+      absurd (part_not_free (object_for p) 0 (header_made (object_for p) 0)
+      (made_shows (object_for p) 0 k.sized (omega arith)) (sym block.header ∙ z))
+]
+
+pub block_of : (p : PassState) (place : Place) → KnowsPlace p place → header_at (now_of p).words place.page ≢ 0
+    → FitsInBlock (now_of p).words.pages (object_for p) place
+block_of p place k some = elim k.fits [
+  | inl free ↦
+      let many = pages_some (object_for p) k.sized in
+      let zero : place.page + 0 ≡ place.page = omega arith in
+      absurd (some (sym (ap (λ i. header_at (now_of p).words i) zero) ∙ free.free 0 (omega arith)))
+  | inr block ↦ block
+]
+
+-- The cell of the place isn't used.
+pub place_unused : (p : PassState) (place : Place) → KnowsPlace p place
+    → has_bit (used_at (now_of p).words place.page) place.index ≡ false
+place_unused p place k = elim (cases_eq (header_at (now_of p).words place.page) 0) [
+  | inl z ↦ no_bit (used_at (now_of p).words place.page) place.index (k.unused z)
+  | inr some ↦ found_clear p.table.config.resident (now_of p).words.pages (object_for p) place k.sized k.fit some
+]
+
+phase_kept : (s : Seat) (o : Object) (place : Place) (c : Config) (w u v : World) → Serving c s o place w u
+    → IsAsLeft s u v → phase_of v.now.words ≡ phase_of w.now.words
+phase_kept s o place c w u v at kept = ap (λ (x : Steady). x.phase) kept.steady ∙ ap (λ (x : Steady). x.phase) at.steady
+
+pub out_of_stop : (m n : Moment) → phase_of n.words ≡ phase_of m.words → IsOutOfStop m → IsOutOfStop n
+out_of_stop m n same (inl none) = inl (same ∙ none)
+out_of_stop m n same (inr one) = inr (same ∙ one)
+
+pub served_acting : (p : PassState) (place : Place) (v : World) → KnowsPlace p place
+    → Serving p.table.config p.seat (object_for p) place (world_of p) v
+    → IsActing p.table.config v.now p.seat
+served_acting p place v k at = record { there = k.acting.there; acts = ap (λ (f : Flight). is_acting f.stage) at.call ∙ k.acting.acts }
+
+pub served_new : (p : PassState) (place : Place) (v : World) → GoesTo p place
+    → Serving p.table.config p.seat (object_for p) place (world_of p) v
+    → is_undecided_new (flight_of v.now p.seat) ≡ true
+served_new p place v goes at = ap (λ (f : Flight). is_undecided_new f) at.call ∙ goes.unplaced.new
+
+-- `mark`
+module _ (p : PassState) (place : Place) (goes : GoesTo p place) (k : KnowsPlace p place)
+    (free : header_at (now_of p).words place.page ≡ 0) where
+  frees : FitsOnFreePages p.table.config.resident (now_of p).words.pages (object_for p) place
+  frees = free_pages_of p place k free
+
+  pub mark_may : phase_of (now_of p).words ≡ 1 → IsEnabledTo p (step.Mark place.page (bits_made (object_for p)))
+  mark_may one =
+      may_mark_place p.table.config (now_of p) p.seat k.acting place.page (bits_made (object_for p)) k.within one
+      (serving_marks p.table.config p.seat (object_for p) place (world_of p) (world_of p) k.serving one free)
+
+  free_now : (w v : World) → IsAsLeft p.seat (world_of p) v → (d : ℕ) → d < pages_made (object_for p)
+      → header_at v.now.words (place.page + d) ≡ 0
+  free_now w v kept d lt = ap (λ (x : Steady). (slice_index_or x.pages (place.page + d) free_page).header) kept.steady ∙ frees.free d lt
+
+  pub marks_first : (q : PassState) → phase_of (now_of p).words ≡ 1
+      → Acts p (step.Mark place.page (bits_made (object_for p))) q → Has p.seats p.seat
+      → IsHistory q.table.config q.seen → HasCarved p place 0 q
+  marks_first q one a own history =
+      reaches_still is_placing p p q (λ w. w ≡ world_of p) (λ w. Carving p.table.config p.seat (object_for p) place (world_of p) w 0) []
+      (step.Mark place.page (bits_made (object_for p)))
+      (reaches_nothing is_placing p (λ w. w ≡ world_of p) refl) a own history refl k.caller refl
+      (λ w v here kept known pages.
+      let kept : IsAsLeft p.seat (world_of p) v = subst (λ (x : World). IsAsLeft p.seat x v) here kept in
+      let serving = serving_left p.table.config p.seat (object_for p) place (world_of p) (world_of p) v k.serving kept in
+      let call = acting_has_call p.table.config v.now p.seat known.orderly.flights (served_acting p place v k serving) in
+      let some = pages_some (object_for p) k.sized in
+      carving_marked p.table.config p.seat (object_for p) place (world_of p) v serving call (served_new p place v goes serving)
+      (ap (λ (x : Steady). x.phase) kept.steady ∙ one) (free_now w v kept) some
+      (let marks = pages.marks in let within = k.within in omega arith))
+
+  pub marks_none : phase_of (now_of p).words ≢ 1 → HasCarved p place 0 p
+  marks_none other =
+      reaches_nothing is_placing p (λ w. Carving p.table.config p.seat (object_for p) place (world_of p) w 0)
+      (carving_unmarked p.table.config p.seat (object_for p) place (world_of p) (world_of p) k.serving (none goes.unplaced.phase)
+      (λ d lt. frees.free d lt))
+    where
+      none : IsOutOfStop (now_of p) → phase_of (now_of p).words ≡ 0
+      none (inl zero) = zero
+      none (inr one) = absurd (other one)
+
+  -- `head`
+  pub head_may : (q : PassState) (n : ℕ) → HasCarved p place n q → n < pages_made (object_for p)
+      → IsEnabledTo q (step.Head (place.page + n) (header_made (object_for p) n))
+  head_may q n reached lt =
+      let w : World = left p.table.config q.seen in
+      let ends = frees.within in
+      let lengths = k.serving.pages in
+      subst (λ (x : PassState). IsEnabledTo x (step.Head (place.page + n) (header_made (object_for p) n))) (sym reached.same)
+      (may_carve p.table.config w.now p.seat (served_acting p place w k reached.world.serving) (place.page + n)
+      (header_made (object_for p) n)
+      (omega arith)
+      (out_of_stop (now_of p) w.now (ap (λ (x : Steady). x.phase) reached.world.serving.steady) goes.unplaced.phase)
+      (made_is_mapped (object_for p) n k.sized lt)
+      (carving_carves p.table.config p.seat (object_for p) place (world_of p) w n k.sized reached.world lt))
+
+  pub heads_on : (q r : PassState) (n : ℕ) → HasCarved p place n q → n < pages_made (object_for p)
+      → Acts q (step.Head (place.page + n) (header_made (object_for p) n)) r → Has q.seats q.seat → IsHistory r.table.config r.seen
+      → HasCarved p place (n + 1) r
+  heads_on q r n reached lt a own history =
+      let ends = frees.within in
+      let lengths = k.serving.pages in
+      reaches_still is_placing p q r (λ w. Carving p.table.config p.seat (object_for p) place (world_of p) w n)
+      (λ w. Carving p.table.config p.seat (object_for p) place (world_of p) w (n + 1)) []
+      (step.Head (place.page + n) (header_made (object_for p) n))
+      reached a own history refl k.caller refl
+      (λ w v here kept known pages.
+      let on = carving_left p.table.config p.seat (object_for p) place (world_of p) w v n here kept in
+      let call = acting_has_call p.table.config v.now p.seat known.orderly.flights (served_acting p place v k on.serving) in
+      carving_more p.table.config p.seat (object_for p) place (world_of p) v n on call (served_new p place v goes on.serving)
+      (out_of_stop (now_of p) v.now (ap (λ (x : Steady). x.phase) on.serving.steady) goes.unplaced.phase) lt (omega arith))
+
+  pub carved_all : (q : PassState) → HasCarved p place (pages_made (object_for p)) q → MayTake p place q
+  carved_all q reached =
+      record {
+        same = reached.same;
+        does = reached.does;
+        calls = reached.calls;
+        world = ready_carved p.table.config p.seat (object_for p) place (world_of p) (left p.table.config q.seen) reached.world;
+      }
+
+-- A block is ready.
+pub block_ready : (p : PassState) (place : Place) → KnowsPlace p place → header_at (now_of p).words place.page ≢ 0 → MayTake p place p
+block_ready p place k some =
+    reaches_nothing is_placing p (IsReady p.table.config p.seat (object_for p) place (world_of p)) (record {
+      serving = k.serving;
+      stand = λ d lt.
+          let block = block_of p place k some in
+          let one = small_pages (object_for p) block.small in
+          let here : place.page + d ≡ place.page = omega arith in
+          let zero : 0 ≡ d = omega arith in
+          ap (λ i. header_at (now_of p).words i) here ∙ block.header ∙ ap (λ i. header_made (object_for p) i) zero;
+    })

@@ -1,0 +1,244 @@
+-- A New while it is served: how far its pages are, step by step.
+use Rattle.std.proofs.Common.{◌≡◌, ◌≢◌, ℕ, ◌+◌, ◌-◌, ◌<◌, ◌^◌, ◌%◌, true, false, List, length, refl, sym, ap, ◌∙◌, inl, inr, arith}
+use Rattle.std.specs.Prelude.{not, ◌==◌, Option, Some, slice_index, slice_index_or, slice_set}
+use Rattle.std.proofs.lemmas.Bool.{and_from, cases_eq, cases_lt, eq-eqb, ne_eqb, le-leb, lt-ltb}
+use Rattle.std.proofs.lemmas.List.{get_or-set_same, get_or-set_other, length-set, set_past}
+use Rattle.mk_geom.specs.declared.pages.Page.{Page}
+use Rattle.mk_geom.specs.declared.pages.Place.{Place}
+use Rattle.mk_geom.specs.Storages.{free_page}
+use Rattle.mk_core.specs.declared.config.Config.{Config}
+use Rattle.mk_core.specs.declared.events.Seat.{Seat}
+use Rattle.mk_core.specs.declared.events.Step.TheVariants as step
+use Rattle.mk_core.specs.declared.seats.Flight.{Flight}
+use Rattle.mk_core.specs.declared.seats.Holding.{Holding}
+use Rattle.mk_core.specs.declared.seats.Object.{Object}
+use Rattle.mk_core.specs.declared.seats.Placing.{Placing}
+use Rattle.mk_core.specs.declared.seats.Placing.TheVariants.{Unplaced, Chosen, Used, Granted}
+use Rattle.mk_core.specs.Bits.{has_bit}
+use Rattle.mk_core.specs.Effects.{chosen, taken}
+use Rattle.mk_core.specs.Frames.{Steady, steady_of}
+use Rattle.mk_core.specs.History.{World, world_behind}
+use Rattle.mk_core.specs.Moments.{Moment, flight_of, is_phase}
+use Rattle.mk_core.specs.NewPlaces.{bits_made, header_made, is_next_header, is_undecided_new, object_made, pages_made, place_in, stands}
+use Rattle.mk_core.specs.ObjectHeaders.{IsSized}
+use Rattle.mk_core.specs.TurnConditions.{carves, is_marked_first, is_used_once, place_now, takes_cell}
+use Rattle.mk_core.specs.Words.{Words, header_at, used_at}
+use Rattle.mk_core.proofs.ObjectHeaders.{made_shows, part_not_free}
+use Rattle.mk_frames.proofs.Tests.{all_below_from, or_on, without_on}
+use Rattle.mk_objects.specs.Placing.{IsOutOfStop}
+use Rattle.mk_objects.specs.Serving.{Carving, IsReady, Serving}
+use Rattle.mk_objects.specs.Unchanged.{IsAsLeft}
+use Rattle.mk_objects.proofs.MayAct.{off_four}
+use Rattle.mk_objects.proofs.Unchanged.{HasCall, OfCaller, call_behind}
+
+-- What others do leaves it so.
+
+place_same : (c : Config) (u v : World) (f : Flight) → v.now.seats.holding ≡ u.now.seats.holding → v.now.words.pages ≡ u.now.words.pages
+    → place_now c v.now f ≡ place_now c u.now f
+place_same c u v f holding pages =
+    ap (λ (h : Holding). place_now c (record v.now { seats = record v.now.seats { holding = h } }) f) holding
+    ∙ ap (λ (ps : List Page). place_now c (record u.now { words = record u.now.words { pages = ps } }) f) pages
+
+pub serving_left : (c : Config) (s : Seat) (o : Object) (place : Place) (w u v : World) → Serving c s o place w u
+    → IsAsLeft s u v → Serving c s o place w v
+serving_left c s o place w u v at left =
+    let pages : v.now.words.pages ≡ u.now.words.pages = ap (λ (x : Steady). x.pages) left.steady in
+    record {
+      call = left.call ∙ at.call;
+      object = ap (λ (f : Flight). object_made c f.op) left.call ∙ at.object;
+      steady = left.steady ∙ at.steady ∙ ap (λ (ps : List Page). record (steady_of w) { pages = ps }) (sym pages);
+      placed = place_same c u v (flight_of v.now s) left.holding pages ∙ ap (λ (f : Flight). place_now c u.now f) left.call ∙ at.placed;
+      once = ap (λ (h : Holding). is_used_once h.placing) left.holding ∙ at.once;
+      used = ap (λ (ps : List Page). (slice_index_or ps place.page free_page).used) pages ∙ at.used;
+      pages = ap (λ (ps : List Page). length ps) pages ∙ at.pages;
+    }
+
+marked_left : (o : Object) (place : Place) (s : Seat) (u v : World) → IsAsLeft s u v → is_marked_first u.now.words o place ≡ true
+    → is_marked_first v.now.words o place ≡ true
+marked_left o place s u v left h =
+    let phase : (v.now.words.phase % 8) ≡ (u.now.words.phase % 8) = ap (λ (x : Steady). x.phase) left.steady in
+    or_on (not (is_phase u.now.words 1)) _ (not (is_phase v.now.words 1)) _
+    (λ e. ap (λ n. not (n == 1)) phase ∙ e)
+    (without_on (bits_made o) (slice_index u.now.words.marks place.page) (slice_index v.now.words.marks place.page)
+    (left.marks place.page)) h
+
+pub carving_left : (c : Config) (s : Seat) (o : Object) (place : Place) (w u v : World) (n : ℕ)
+    → Carving c s o place w u n → IsAsLeft s u v
+    → Carving c s o place w v n
+carving_left c s o place w u v n at left =
+    let pages : v.now.words.pages ≡ u.now.words.pages = ap (λ (x : Steady). x.pages) left.steady in
+    let header : (p : ℕ) → header_at v.now.words p ≡ header_at u.now.words p = λ p. ap (λ (ps : List Page).
+    (slice_index_or ps p free_page).header) pages in
+    record {
+      serving = serving_left c s o place w u v at.serving left;
+      stand = λ d lt. header (place.page + d) ∙ at.stand d lt;
+      free = λ d le lt. header (place.page + d) ∙ at.free d le lt;
+      marked = marked_left o place s u v left at.marked;
+    }
+
+-- The first step that serves fixes the place.
+
+chosen_place : (resident : ℕ) (pages : List Page) (o : Object) (placing : Placing) (place : Place)
+    → place_in resident pages o placing ≡ Some place
+    → is_used_once placing ≡ false → chosen placing (Some place) ≡ Chosen place
+chosen_place resident pages o Unplaced place h once = refl
+chosen_place resident pages o (Chosen x) place h once = cc
+chosen_place resident pages o (Used x) place h once = cc
+chosen_place resident pages o Granted place h once = cc
+
+pub new_placed : (c : Config) (m : Moment) (f : Flight) (place : Place) → is_undecided_new f ≡ true → place_now c m f ≡ Some place
+    → is_used_once m.seats.holding.placing ≡ false → chosen m.seats.holding.placing (place_now c m f) ≡ Chosen place
+new_placed c m f place new placed once =
+    ap (λ (x : Option Place). chosen m.seats.holding.placing x) placed
+    ∙ chosen_place c.resident m.words.pages (object_made c f.op) m.seats.holding.placing place (sym (under new) ∙ placed) once
+  where
+    under : is_undecided_new f ≡ true → place_now c m f ≡ place_in c.resident m.words.pages (object_made c f.op) m.seats.holding.placing
+    under is = rw is refl
+
+pub chosen_now : (c : Config) (m : Moment) (f : Flight) (place : Place) → is_undecided_new f ≡ true
+    → m.seats.holding.placing ≡ Chosen place
+    → place_now c m f ≡ Some place
+chosen_now c m f place new is = rw (new, is) refl
+
+-- A header is stored, and no other word of the pages changes.
+
+header_set : (ps : List Page) (p q : ℕ) (x : Page) → q ≢ p
+    → (slice_index_or (slice_set ps p x) q free_page).header ≡ (slice_index_or ps q free_page).header
+header_set ps p q x ne = ap (λ (y : Page). y.header) (get_or-set_other ps p q x free_page ne)
+
+header_here : (ps : List Page) (p : ℕ) (x : Page) → p < length ps → (slice_index_or (slice_set ps p x) p free_page).header ≡ x.header
+header_here ps p x lt = ap (λ (y : Page). y.header) (get_or-set_same ps p x free_page lt)
+
+used_kept : (ps : List Page) (p q h : ℕ)
+    → (slice_index_or (slice_set ps p
+    (record { header = h; used = (slice_index_or ps p free_page).used })) q free_page).used ≡
+    (slice_index_or ps q free_page).used
+used_kept ps p q h = elim (cases_eq q p) [
+  | inl e ↦ elim (cases_lt p (length ps)) [
+    | inl lt ↦
+        let x : Page = record { header = h; used = (slice_index_or ps p free_page).used } in
+        ap (λ i. (slice_index_or (slice_set ps p x) i free_page).used) e ∙ ap (λ (y : Page). y.used) (get_or-set_same ps p x free_page lt)
+        ∙ ap (λ i. (slice_index_or ps i free_page).used) (sym e)
+    | inr past ↦ ap (λ (ys : List Page). (slice_index_or ys q free_page).used) (set_past ps p _ past)
+  ]
+  | inr ne ↦ ap (λ (y : Page). y.used) (get_or-set_other ps p q _ free_page ne)
+]
+
+-- the next page gets its header
+pub carving_more : (c : Config) (s : Seat) (o : Object) (place : Place) (w v : World) (n : ℕ)
+    → Carving c s o place w v n → HasCall c v.now s
+    → is_undecided_new (flight_of v.now s) ≡ true → IsOutOfStop v.now → n < pages_made o → place.page + n < c.pages
+    → Carving c s o place w (world_behind c v (record { seat = s; step = step.Head (place.page + n) (header_made o n) })) (n + 1)
+carving_more c s o place w v n at (OfCaller k lt) new low within room =
+    let p = place.page + n in
+    let call = call_behind c v.now k (step.Head p (header_made o n)) lt in
+    let there : p < length v.now.words.pages = omega (arith, at.serving.pages) in
+    let placing = new_placed c v.now (flight_of v.now s) place new at.serving.placed at.serving.once in
+    let u : World = world_behind c v (record { seat = s; step = step.Head p (header_made o n) }) in
+    let fixed : u.now.seats.holding.placing ≡ Chosen place = rw (off_four v.now low) placing in
+    record {
+      serving = record {
+        call = call ∙ at.serving.call;
+        object = ap (λ (f : Flight). object_made c f.op) call ∙ at.serving.object;
+        steady = ap (λ (x : Steady). record x { pages = u.now.words.pages }) at.serving.steady;
+        placed = chosen_now c u.now (flight_of u.now s) place (ap is_undecided_new call ∙ new) fixed;
+        once = ap is_used_once fixed;
+        used = used_kept v.now.words.pages p place.page (header_made o n) ∙ at.serving.used;
+        pages = length-set v.now.words.pages p _ ∙ at.serving.pages;
+      };
+      stand = λ d le. elim (cases_eq d n) [
+        | inl e ↦ ap (λ i. header_at u.now.words (place.page + i)) e ∙ header_here v.now.words.pages p _ there
+            ∙ ap (λ i. header_made o i) (sym e)
+        | inr ne ↦ header_set v.now.words.pages p (place.page + d) _ (λ e. ne (omega arith)) ∙ at.stand d (omega arith)
+      ];
+      free = λ d le lt. header_set v.now.words.pages p (place.page + d) _ (λ e. absurd (omega arith)) ∙ at.free d (omega arith) lt;
+      marked = at.marked;
+    }
+
+-- so it may come next
+
+next_is : (w : Words) (first count : ℕ) (wanted : ℕ → ℕ) (n : ℕ) → n < count → header_at w (first + n) ≢ wanted n
+    → ((d : ℕ) → d < n → header_at w (first + d) ≡ wanted d) → is_next_header w first count wanted (first + n) (wanted n) ≡ true
+next_is w first count wanted n near not_yet before =
+    let e : first + n - first ≡ n = omega arith in
+    rw e
+    (and_from _ _
+    (and_from _ _
+    (and_from _ _ (and_from _ _ (le-leb first (first + n) (omega arith)) (lt-ltb n count near))
+    (ap not (ne_eqb (header_at w (first + n)) (wanted n) not_yet)))
+    (all_below_from n (stands w first wanted) (λ d lt. eq-eqb (header_at w (first + d)) (wanted d) (before d lt))))
+    (eq-eqb (wanted n) (wanted n) refl))
+
+pub carving_carves : (c : Config) (s : Seat) (o : Object) (place : Place) (w v : World) (n : ℕ) → IsSized o → Carving c s o place w v n
+    → n < pages_made o
+    → carves v.now.words (object_made c (flight_of v.now s).op) (place_now c v.now (flight_of v.now s))
+    (place.page + n) (header_made o n) ≡ true
+carving_carves c s o place w v n sized at within =
+    ap (λ (x : Object). carves v.now.words x (place_now c v.now (flight_of v.now s)) (place.page + n) (header_made o n)) at.serving.object
+    ∙ ap (λ (x : Option Place). carves v.now.words o x (place.page + n) (header_made o n)) at.serving.placed
+    ∙ and_from _ _
+    (next_is v.now.words place.page (pages_made o) (header_made o) n within
+    (λ e. part_not_free o n (header_made o n) (made_shows o n sized within) (sym e ∙ at.free n (omega arith) within))
+    at.stand)
+    at.marked
+
+pub ready_left : (c : Config) (s : Seat) (o : Object) (place : Place) (w u v : World) → IsReady c s o place w u → IsAsLeft s u v
+    → IsReady c s o place w v
+ready_left c s o place w u v at left =
+    let pages : v.now.words.pages ≡ u.now.words.pages = ap (λ (x : Steady). x.pages) left.steady in
+    record {
+      serving = serving_left c s o place w u v at.serving left;
+      stand = λ d lt. ap (λ (ps : List Page). (slice_index_or ps (place.page + d) free_page).header) pages ∙ at.stand d lt;
+    }
+
+pub ready_carved : (c : Config) (s : Seat) (o : Object) (place : Place) (w v : World)
+    → Carving c s o place w v (pages_made o) → IsReady c s o place w v
+ready_carved c s o place w v at = record { serving = at.serving; stand = at.stand }
+
+pub ready_takes : (c : Config) (s : Seat) (o : Object) (place : Place) (w v : World) (used : ℕ) → IsReady c s o place w v
+    → used_at w.now.words place.page ≡ used → has_bit used place.index ≡ false
+    → takes_cell v.now.words (object_made c (flight_of v.now s).op) (place_now c v.now (flight_of v.now s)) place.page
+    (used + 2 ^ place.index) ≡ true
+ready_takes c s o place w v used at known unused =
+    let same : used_at v.now.words place.page ≡ used = at.serving.used ∙ known in
+    let value = used + 2 ^ place.index in
+    ap (λ (x : Object). takes_cell v.now.words x (place_now c v.now (flight_of v.now s)) place.page value) at.serving.object
+    ∙ ap (λ (x : Option Place). takes_cell v.now.words o x place.page value) at.serving.placed
+    ∙ and_from _ _
+    (and_from _ _ (and_from _ _ (eq-eqb place.page place.page refl)
+    (all_below_from (pages_made o) (stands v.now.words place.page (header_made o))
+    (λ d lt. eq-eqb (header_at v.now.words (place.page + d)) (header_made o d) (at.stand d lt))))
+    (ap (λ n. not (has_bit n place.index)) same ∙ ap not unused))
+    (eq-eqb value _ (ap (λ n. n + 2 ^ place.index) (sym same)))
+
+-- and then it is.
+pub record IsTakenAt (c : Config) (s : Seat) (o : Object) (place : Place) (w v : World) : Type 0 where
+  pub call : flight_of v.now s ≡ flight_of w.now s
+  pub object : object_made c (flight_of v.now s).op ≡ o
+  pub steady : steady_of v ≡ record (steady_of w) { pages = v.now.words.pages }
+  pub placing : v.now.seats.holding.placing ≡ Used place
+
+pub taken_left : (c : Config) (s : Seat) (o : Object) (place : Place) (w u v : World) → IsTakenAt c s o place w u → IsAsLeft s u v
+    → IsTakenAt c s o place w v
+taken_left c s o place w u v at left =
+    let pages : v.now.words.pages ≡ u.now.words.pages = ap (λ (x : Steady). x.pages) left.steady in
+    record {
+      call = left.call ∙ at.call;
+      object = ap (λ (f : Flight). object_made c f.op) left.call ∙ at.object;
+      steady = left.steady ∙ at.steady ∙ ap (λ (ps : List Page). record (steady_of w) { pages = ps }) (sym pages);
+      placing = ap (λ (h : Holding). h.placing) left.holding ∙ at.placing;
+    }
+
+pub taken_behind : (c : Config) (s : Seat) (o : Object) (place : Place) (w v : World) (p value : ℕ)
+    → Serving c s o place w v → HasCall c v.now s
+    → IsOutOfStop v.now → IsTakenAt c s o place w (world_behind c v (record { seat = s; step = step.Used p value }))
+taken_behind c s o place w v p value at (OfCaller k lt) low =
+    let call = call_behind c v.now k (step.Used p value) lt in
+    let u : World = world_behind c v (record { seat = s; step = step.Used p value }) in
+    record {
+      call = call ∙ at.call;
+      object = ap (λ (f : Flight). object_made c f.op) call ∙ at.object;
+      steady = ap (λ (x : Steady). record x { pages = u.now.words.pages }) at.steady;
+      placing = let took : taken v.now.seats.holding.placing (place_now c v.now (flight_of v.now s)) ≡ Used place =
+          ap (λ (x : Option Place). taken v.now.seats.holding.placing x) at.placed in rw (off_four v.now low) took;
+    }

@@ -1,0 +1,117 @@
+-- What stays as it was: behind looks, and one part after the other.
+use Rattle.std.proofs.Common.{◌≡◌, ℕ, ◌<◌, true, length, refl, sym, subst, ◌∙◌}
+use Rattle.std.proofs.lemmas.List.{get_or-set_same}
+use Rattle.std.proofs.lemmas.Bool.{ltb-true}
+use Rattle.mk_core.specs.declared.config.Config.{Config}
+use Rattle.mk_core.specs.declared.events.Seat.{Seat}
+use Rattle.mk_core.specs.declared.events.Seat.TheVariants.{Caller, Host, Marker}
+use Rattle.mk_core.specs.declared.events.Step.{Step}
+use Rattle.mk_core.specs.declared.events.Step.TheVariants as step
+use Rattle.mk_core.specs.declared.events.Word.{Word}
+use Rattle.mk_core.specs.declared.events.Word.TheVariants as word
+use Rattle.mk_core.specs.Accesses.{found}
+use Rattle.mk_core.specs.Calls.{at_rest}
+use Rattle.mk_core.specs.Effects.{moment_behind, progress}
+use Rattle.mk_core.specs.History.{World, world_behind}
+use Rattle.mk_core.specs.Moments.{Moment, flight_of}
+use Rattle.mk_core.specs.Order.{seat_exists}
+use Rattle.mk_protocol.proofs.Growth.{grows_same, grows_joined}
+use Rattle.mk_objects.specs.Looking.{is_acting, is_steady_word}
+use Rattle.mk_objects.specs.Unchanged.{IsAsLeft}
+use Rattle.mk_objects.proofs.MayAct.{IsActing}
+
+pub left_same : (s : Seat) (w : World) → IsAsLeft s w w
+left_same s w = record { call = refl; holding = refl; steady = refl; marks = grows_same w.now.words.marks; registers = λ k r is lt. refl }
+
+pub left_joined : (s : Seat) (w u v : World) → IsAsLeft s w u → IsAsLeft s u v → IsAsLeft s w v
+left_joined s w u v a b =
+    record {
+      call = b.call ∙ a.call;
+      holding = b.holding ∙ a.holding;
+      steady = b.steady ∙ a.steady;
+      marks = grows_joined w.now.words.marks u.now.words.marks v.now.words.marks a.marks b.marks;
+      registers = λ k r is lt. b.registers k r is lt ∙ a.registers k r is lt;
+    }
+
+-- Behind a step of its own a caller's call is what the step makes of it.
+pub call_behind : (c : Config) (m : Moment) (k : ℕ) (x : Step) → k < length m.seats.flights
+    → flight_of (moment_behind c m (record { seat = Caller k; step = x })) (Caller k)
+    ≡ (progress c m (flight_of m (Caller k)) (found c m (record { seat = Caller k; step = x })) x).flight
+call_behind c m k x lt = get_or-set_same m.seats.flights k
+    (progress c m (flight_of m (Caller k)) (found c m (record { seat = Caller k; step = x })) x).flight at_rest lt
+
+-- A seat that is acting has a call.
+pub data HasCall (c : Config) (m : Moment) : Seat → Type 0 where
+  OfCaller : (k : ℕ) → k < length m.seats.flights → HasCall c m (Caller k)
+
+pub acting_has_call : (c : Config) (m : Moment) (s : Seat) → length m.seats.flights ≡ c.callers → IsActing c m s → HasCall c m s
+acting_has_call c m s all at = by s at.there at.acts
+  where
+    by : (s : Seat) → seat_exists c s ≡ true → is_acting (flight_of m s).stage ≡ true → HasCall c m s
+    by (Caller k) there acts = OfCaller k (subst (λ n. k < n) (sym all) (ltb-true k c.callers there))
+    by (Marker k) there acts = cc
+    by Host there acts = cc
+
+-- Looks at steady words and at the phase leave all as it was.
+
+pub data IsPlain : Word → Type 0 where
+  OfHead : (p : ℕ) → IsPlain (word.Head p)
+  OfUsed : (p : ℕ) → IsPlain (word.Used p)
+  OfHeld : IsPlain word.Held
+  OfFresh : IsPlain word.Fresh
+  OfPhase : IsPlain word.Phase
+
+pub steady_is_plain : (x : Word) → is_steady_word x ≡ true → IsPlain x
+steady_is_plain (word.Head p) h = OfHead p
+steady_is_plain (word.Used p) h = OfUsed p
+steady_is_plain word.Held h = OfHeld
+steady_is_plain word.Fresh h = OfFresh
+steady_is_plain _ h = cc
+
+pub look_leaves : (c : Config) (w : World) (s : Seat) (x : Word) → HasCall c w.now s → IsPlain x
+    → IsAsLeft s w (world_behind c w (record { seat = s; step = step.Look x }))
+look_leaves c w s x (OfCaller k lt) (OfHead p) =
+    record {
+      call = call_behind c w.now k (step.Look
+          (word.Head p)) lt;
+      holding = refl;
+      steady = refl;
+      marks = grows_same w.now.words.marks;
+      registers = λ j r is lt. refl;
+    }
+look_leaves c w s x (OfCaller k lt) (OfUsed p) =
+    record {
+      call = call_behind c w.now k (step.Look
+          (word.Used p)) lt;
+      holding = refl;
+      steady = refl;
+      marks = grows_same w.now.words.marks;
+      registers = λ j r is lt. refl;
+    }
+look_leaves c w s x (OfCaller k lt) OfHeld =
+    record {
+      call = call_behind c w.now k
+          (step.Look word.Held) lt;
+      holding = refl;
+      steady = refl;
+      marks = grows_same w.now.words.marks;
+      registers = λ j r is lt. refl;
+    }
+look_leaves c w s x (OfCaller k lt) OfFresh =
+    record {
+      call = call_behind c w.now k
+          (step.Look word.Fresh) lt;
+      holding = refl;
+      steady = refl;
+      marks = grows_same w.now.words.marks;
+      registers = λ j r is lt. refl;
+    }
+look_leaves c w s x (OfCaller k lt) OfPhase =
+    record {
+      call = call_behind c w.now k
+          (step.Look word.Phase) lt;
+      holding = refl;
+      steady = refl;
+      marks = grows_same w.now.words.marks;
+      registers = λ j r is lt. refl;
+    }

@@ -1,0 +1,5 @@
+use Rattle.mk_objects.proofs.CarvedPages.{IsCarvedTo}
+use Rattle.mk_objects.proofs.placing.carve.Given as goal
+
+abbrev pub invariant-loop-distance : goal.invariant-loop-distance
+invariant-loop-distance l = IsCarvedTo l.fn.turn l.turn l.place l.distance

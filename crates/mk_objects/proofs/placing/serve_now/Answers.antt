@@ -1,0 +1,11 @@
+use Rattle.mk_words.specs.States.{PassState}
+use Rattle.mk_objects.proofs.JoinedLooks.{granted_behind_looks, looks_joined}
+use Rattle.mk_objects.proofs.placing.serve_now.Goals as goal
+
+pub returns-clause-granted : goal.returns-clause-granted
+returns-clause-granted c =
+    let p : PassState = c.args.turn.now.pass in
+    let q : PassState = c.look_at_phase-marking.new.turn.pass in
+    granted_behind_looks p q c.serve.new.turn.pass c.args.place
+    (looks_joined p c.look_at-held.new.turn.pass q c.look_at-held.ensures.looks c.look_at_phase-marking.ensures.looks)
+    c.serve.ensures.granted

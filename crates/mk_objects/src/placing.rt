@@ -1,0 +1,170 @@
+//! Placing the object of a New.
+ghost use Rattle.std.specs.Prelude.{◌≡◌, ◌==◌, Some, true, false, length};
+ghost use Rattle.mk_never.specs.declared.operations.Op.{Op};
+ghost use Rattle.mk_core.specs.Calls.{has_type};
+ghost use Rattle.mk_core.specs.NewPlaces.{object_made};
+ghost use Rattle.mk_core.specs.Words.{header_at, page_of, phase_of};
+ghost use Rattle.mk_words.specs.States.{now_of};
+ghost use Rattle.mk_objects.specs.Placing.{GoesTo, HasCarved, HeldIsExact, MayTake, IsUnplaced, IsPlaced, FitsNowhere, IsGranted, object_for};
+ghost use Rattle.mk_objects.specs.Shapes.{object_shaped};
+
+use crate::looking::{fill, look_at, look_at_phase};
+use crate::objects::{Shape, shape_of};
+use mk_books::{Book, first_fit};
+use mk_core::{Tally, Word};
+use mk_geom::{Page, Place};
+use mk_never::Op;
+use mk_words::{Turn, Words};
+
+/// Marks the cells of the place's first page, where a cycle marks.
+fn mark_first(words: &Words, turn: &mut Turn, shape: Shape, place: Place, marking: bool)
+    requires one_table { turn.old.pass.table ≡ words.now }
+    requires shape { object_shaped shape ≡ object_for turn.old.pass }
+    requires goes { GoesTo turn.old.pass place }
+    requires free { header_at (now_of turn.old.pass).words place.page ≡ 0 }
+    requires marking { marking ≡ (phase_of (now_of turn.old.pass).words == 1) }
+    ensures op { turn.new.op ≡ turn.old.op }
+    ensures carved { HasCarved turn.old.pass place 0 turn.new.pass }
+{
+    turn.is_in_order();
+    if marking {
+        turn.mark(words, place.page, shape.bits());
+        turn.is_in_order();
+    }
+}
+
+/// Makes the free pages of the place a block, or a run.
+fn carve(words: &Words, turn: &mut Turn, shape: Shape, place: Place, marking: bool)
+    requires one_table { turn.old.pass.table ≡ words.now }
+    requires shape { object_shaped shape ≡ object_for turn.old.pass }
+    requires goes { GoesTo turn.old.pass place }
+    requires free { header_at (now_of turn.old.pass).words place.page ≡ 0 }
+    requires marking { marking ≡ (phase_of (now_of turn.old.pass).words == 1) }
+    ensures op { turn.new.op ≡ turn.old.op }
+    ensures ready { MayTake turn.old.pass place turn.new.pass }
+{
+    turn.is_in_order();
+    let pages = shape.pages();
+    mark_first(words, turn, shape, place, marking);
+    for distance in 0..pages {
+        turn.is_in_order();
+        turn.head(words, place.page + distance, shape.header_word(distance));
+        turn.is_in_order();
+    }
+}
+
+/// Makes the place's page ready, where it is free.
+fn make_ready(words: &Words, turn: &mut Turn, shape: Shape, place: Place, page: Page, marking: bool)
+    requires one_table { turn.old.pass.table ≡ words.now }
+    requires shape { object_shaped shape ≡ object_for turn.old.pass }
+    requires goes { GoesTo turn.old.pass place }
+    requires page { page ≡ page_of (now_of turn.old.pass).words place.page }
+    requires marking { marking ≡ (phase_of (now_of turn.old.pass).words == 1) }
+    ensures op { turn.new.op ≡ turn.old.op }
+    ensures ready { MayTake turn.old.pass place turn.new.pass }
+{
+    turn.is_in_order();
+    if page.header == 0 {
+        carve(words, turn, shape, place, marking);
+    }
+}
+
+/// Gives the object its place.
+fn serve(
+    words: &Words,
+    turn: &mut Turn,
+    shape: Shape,
+    place: Place,
+    page: Page,
+    marking: bool,
+    held: u64,
+)
+    requires one_table { turn.old.pass.table ≡ words.now }
+    requires shape { object_shaped shape ≡ object_for turn.old.pass }
+    requires goes { GoesTo turn.old.pass place }
+    requires page { page ≡ page_of (now_of turn.old.pass).words place.page }
+    requires marking { marking ≡ (phase_of (now_of turn.old.pass).words == 1) }
+    requires held { held ≡ (now_of turn.old.pass).words.held }
+    requires exact { HeldIsExact turn.old.pass }
+    ensures op { turn.new.op ≡ turn.old.op }
+    ensures granted { IsGranted turn.old.pass place turn.new.pass }
+    ensures held { HeldIsExact turn.new.pass }
+{
+    turn.is_in_order();
+    make_ready(words, turn, shape, place, page, marking);
+    turn.is_in_order();
+    turn.used(words, place.page, page.used | 1 << place.index);
+    turn.is_in_order();
+    turn.grant(words);
+    turn.is_in_order();
+    turn.tally(words, Tally::Held, held + shape.storage());
+    turn.is_in_order();
+}
+
+/// Gives the object its place, with what two looks more tell.
+fn serve_now(words: &Words, turn: &mut Turn, shape: Shape, place: Place, page: Page)
+    requires one_table { turn.old.pass.table ≡ words.now }
+    requires shape { object_shaped shape ≡ object_for turn.old.pass }
+    requires goes { GoesTo turn.old.pass place }
+    requires page { page ≡ page_of (now_of turn.old.pass).words place.page }
+    requires exact { HeldIsExact turn.old.pass }
+    ensures op { turn.new.op ≡ turn.old.op }
+    ensures granted { IsGranted turn.old.pass place turn.new.pass }
+    ensures held { HeldIsExact turn.new.pass }
+{
+    let held = look_at(words, turn, Word::Held);
+    let marking = look_at_phase(words, turn) == 1;
+    serve(words, turn, shape, place, page, marking, held);
+}
+
+/// The shape of the object that the operation makes.
+fn shape_made(words: &Words, op: Op) -> Shape
+    requires { has_type words.now.config op ≡ true }
+    ensures { object_shaped result ≡ object_made words.now.config op }
+{
+    match op {
+        Op::New { ty, .. } => shape_of(words.types().kinds(ty)),
+        _ => Shape {
+            words: 0,
+            leaf: true,
+        },
+    }
+}
+
+/// The shape of the object that a turn for this operation makes.
+fn shape_asked(words: &Words, op: Option<Op>) -> Shape
+    requires { (o : Op) → op ≡ Some o → has_type words.now.config o ≡ true }
+    ensures { (o : Op) → op ≡ Some o → object_shaped result ≡ object_made words.now.config o }
+{
+    match op {
+        Some(op) => shape_made(words, op),
+        None => Shape {
+            words: 0,
+            leaf: true,
+        },
+    }
+}
+
+/// Grants the object of a New at its place, or answers false where nothing fits. The book is filled by looks.
+pub fn place_object(words: &Words, turn: &mut Turn, book: &mut Book) -> bool
+    requires one_table { turn.old.pass.table ≡ words.now }
+    requires unplaced { IsUnplaced turn.old.pass }
+    requires exact { HeldIsExact turn.old.pass }
+    requires book { length book.old ≡ turn.old.pass.table.config.pages }
+    ensures op { turn.new.op ≡ turn.old.op }
+    ensures book { length book.new ≡ length book.old }
+    ensures placed { result ≡ true → IsPlaced turn.old.pass turn.new.pass }
+    ensures nowhere { result ≡ false → FitsNowhere turn.old.pass turn.new.pass }
+{
+    turn.is_in_order();
+    fill(words, turn, book);
+    let shape = shape_asked(words, turn.op());
+    match first_fit(book.pages(), words.resident(), shape.words, shape.leaf) {
+        None => false,
+        Some(place) => {
+            let page = book.pages()[place.page as usize];
+            serve_now(words, turn, shape, place, page);
+            true
+        }
+    }
+}

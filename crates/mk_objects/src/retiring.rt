@@ -1,0 +1,94 @@
+//! Freeing the object of a Free.
+ghost use Rattle.std.specs.Prelude.{◌≡◌, ℕ, ◌<◌, ◌==◌, ◌||◌, not, true, false, Some};
+ghost use Rattle.mk_core.specs.NewPlaces.{is_undecided_free, target};
+ghost use Rattle.mk_words.specs.States.{call_of, now_of};
+ghost use Rattle.mk_core.specs.Cells.{header_in, heads_run, is_freed};
+ghost use Rattle.mk_core.specs.Moments.{others_are_held};
+ghost use Rattle.mk_objects.specs.Placing.{IsOutOfStop, OnlyLooks};
+ghost use Rattle.mk_core.specs.declared.events.Word.TheVariants as word;
+ghost use Rattle.mk_core.specs.Words.{named_word};
+ghost use Rattle.mk_objects.specs.Retiring.{HasFreed, HasLoaded, HasSeen, IsFreeAt, IsUnloaded, loaded_free, value_of};
+
+use crate::looking::look_at;
+use mk_core::Word;
+use mk_geom::{Cell, lookup};
+use mk_words::{Turn, Words};
+
+/// The address of the heap's first word, and how many a page takes.
+const HEAP_START: u64 = 65536;
+
+const PAGE_BYTES: u64 = 512;
+
+/// The low half of a quarantine word has the freed bits, and the high half the snapshot.
+const HALF_WORD: u64 = 4294967296;
+
+/// Loads the register of a Free. Null decides it.
+fn load_freed(words: &Words, turn: &mut Turn, register: u8) -> u64
+    requires one_table { turn.old.pass.table ≡ words.now }
+    requires unloaded { IsUnloaded turn.old.pass register }
+    ensures op { turn.new.op ≡ turn.old.op }
+    ensures loaded { HasLoaded turn.old.pass register result turn.new.pass }
+    ensures keeps { (result == 0) ≡ false → value_of turn.new.pass register ≡ value_of turn.old.pass register }
+{
+    turn.is_in_order();
+    let value = turn.reg_load(words, register);
+    turn.is_in_order();
+    value
+}
+
+/// The cell that the loaded register of a Free points into.
+fn find_cell(words: &Words, turn: &mut Turn, value: u64) -> Cell
+    requires one_table { turn.old.pass.table ≡ words.now }
+    requires undecided { is_undecided_free (call_of turn.old.pass) ≡ true }
+    requires value { (call_of turn.old.pass).p ≡ value }
+    ensures op { turn.new.op ≡ turn.old.op }
+    ensures looks { OnlyLooks turn.old.pass turn.new.pass }
+    ensures cell { target turn.old.pass.table.config.pages (now_of turn.old.pass).words (call_of turn.old.pass) ≡ Some result }
+    ensures within { result.page < turn.old.pass.table.config.pages }
+    ensures index { result.index < 32 }
+    ensures keeps { (r : ℕ) → r < 8 → value_of turn.new.pass r ≡ value_of turn.old.pass r }
+{
+    turn.is_in_order();
+    let page = (value - HEAP_START) / PAGE_BYTES;
+    let header = look_at(words, turn, Word::Head(page));
+    lookup(words.pages(), header, value).unwrap_or(Cell { page: 0, index: 0 })
+}
+
+/// Looks at the quarantine word of the page of a Free's target. Where the target is freed already, that decides the
+/// Free.
+fn look_at_quarantine(words: &Words, turn: &mut Turn, register: u8, value: u64, cell: Cell) -> u64
+    requires one_table { turn.old.pass.table ≡ words.now }
+    requires free { IsFreeAt turn.old.pass register (loaded_free register value) }
+    requires some { (value == 0) ≡ false }
+    requires cell { target turn.old.pass.table.config.pages (now_of turn.old.pass).words (call_of turn.old.pass) ≡ Some cell }
+    requires within { cell.page < turn.old.pass.table.config.pages }
+    ensures op { turn.new.op ≡ turn.old.op }
+    ensures seen { HasSeen turn.old.pass cell turn.new.pass }
+    ensures finds { result ≡ named_word (now_of turn.old.pass).words (word.Quar cell.page) }
+{
+    turn.is_in_order();
+    let found = turn.look(words, Word::Quar(cell.page));
+    turn.is_in_order();
+    found
+}
+
+/// Quarantines the target of a Free, which isn't freed yet. A run's needs all other gates held.
+fn quarantine(words: &Words, turn: &mut Turn, register: u8, value: u64, cell: Cell, quar: u64)
+    requires one_table { turn.old.pass.table ≡ words.now }
+    requires free { IsFreeAt turn.old.pass register (loaded_free register value) }
+    requires some { (value == 0) ≡ false }
+    requires cell { target turn.old.pass.table.config.pages (now_of turn.old.pass).words (call_of turn.old.pass) ≡ Some cell }
+    requires within { cell.page < turn.old.pass.table.config.pages }
+    requires index { cell.index < 32 }
+    requires clear { is_freed (now_of turn.old.pass).words cell ≡ false }
+    requires quar { quar ≡ named_word (now_of turn.old.pass).words (word.Quar cell.page) }
+    requires phase { IsOutOfStop (now_of turn.old.pass) }
+    requires gates { (not (heads_run (header_in (now_of turn.old.pass).words cell.page)) || others_are_held turn.old.pass.table.config.callers (now_of turn.old.pass).words turn.old.pass.seat) ≡ true }
+    ensures op { turn.new.op ≡ turn.old.op }
+    ensures freed { HasFreed turn.old.pass cell turn.new.pass }
+{
+    turn.is_in_order();
+    let freed = quar % HALF_WORD | 1 << cell.index;
+    turn.quar(words, cell.page, HALF_WORD * (quar / HALF_WORD) + freed);
+    turn.is_in_order();
+}
