@@ -1,1 +1,2 @@
+pub mod AppliedPlacement
 pub mod Promises
