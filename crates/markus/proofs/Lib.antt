@@ -1,6 +1,2 @@
-pub mod NameCounts
-pub mod NarrowPrograms
-pub mod PlainOps
 pub mod PrintedTexts
-pub mod Runs
-pub mod Stands
+pub mod Summaries

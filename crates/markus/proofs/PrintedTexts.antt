@@ -1,5 +1,5 @@
 -- The texts of the scripts, one behind the other, are all that a run prints.
-use Rattle.std.proofs.Common.{◌≡◌, ℕ, ◌+◌, ◌<◌, suc, List, [], ◌∷◌, ◌++◌, length, refl, ap, ◌∙◌, arith}
+use Rattle.std.proofs.Common.{◌≡◌, ℕ, ◌+◌, ◌<◌, suc, List, [], ◌∷◌, ◌++◌, length, false, refl, ap, ◌∙◌, arith}
 use Rattle.std.specs.List.{flat_map, range_with_len}
 use Rattle.std.specs.Prelude.{slice_index_or}
 use Rattle.mk_core.specs.declared.events.Event.{Event}
@@ -8,6 +8,10 @@ use Rattle.mk_check.specs.declared.text.Text.{Text}
 use Rattle.mk_check.specs.Declarations.{config_of}
 use Rattle.mk_check.specs.Output.{text_behind, output}
 use Rattle.mk_replay.specs.Replays.{AreTextsOf}
+use Rattle.mk_run.specs.declared.outcomes.Outcome.{Outcome}
+use Rattle.mk_run.specs.Running.{IsRunOf}
+use Rattle.mk_run.specs.Headline.{StandsInOneHistory, cycles_go_on}
+use Rattle.mk_run.proofs.Headline.{runs_stand_in_one_history, runs_print_their_texts}
 
 -- pieces that are those of their places
 pieces : {X A : Type 0} (f : X → List A) (g : ℕ → List A) (a : ℕ) (xs : List X)
@@ -25,3 +29,12 @@ texts_are_printed program es texts are =
     let text_of = text_behind program (config_of program 8) es in
     pieces (λ text. text.bytes.items) text_of 0 texts (λ k d less. (are.each k d less).text ∙ ap text_of (omega arith))
     ∙ ap (λ n. flat_map text_of (range_with_len 0 n)) are.count
+
+-- The texts of a run are what its scripts print of one history.
+pub run_is_printed : (program : List Item) (markers : ℕ) (outcome : Outcome) (bytes : List ℕ)
+    → IsRunOf (cycles_go_on markers) program markers outcome
+    → bytes ≡ flat_map (λ (text : Text). text.bytes.items) outcome.texts.items
+    → StandsInOneHistory program markers (output program) bytes
+run_is_printed program markers outcome bytes runs are =
+    runs_stand_in_one_history program markers outcome (output program) bytes runs
+    (are ∙ runs_print_their_texts (cycles_go_on markers) program markers outcome runs)

@@ -1,6 +1,6 @@
 pub mod Commands
-pub mod Narrow
+pub mod Given
 pub mod Outputs
-pub mod Plain
-pub mod RunText
 pub mod Statuses
+pub mod Summary
+pub mod SummedTexts

@@ -1,5 +1,5 @@
--- What a command writes on an input, and the status that it ends with where nothing fails.
-use Rattle.std.specs.Prelude.{◌≡◌, ℕ, List, [], if◌then◌else◌, Option, Some, None, IfSome, Ok as Accepted, Err as Refused, ◌⊎◌}
+-- What a command writes, and the status that it ends with where nothing fails.
+use Rattle.std.specs.Prelude.{◌≡◌, ℕ, ◌==◌, ◌&&◌, not, List, [], if◌then◌else◌, Option, Some, None, IfSome, Ok as Accepted, Err as Refused, ◌⊎◌}
 use Rattle.std.specs.declared.result.Result.{Result}
 use lib.Chars.{codes}
 use Rattle.mk_script.specs.declared.items.Item.{Item}
@@ -14,27 +14,36 @@ use Rattle.mk_check.specs.Declarations.{config_of}
 use Rattle.mk_check.specs.Output.{output as output_behind}
 use Rattle.mk_core.specs.History.{AreEnabled}
 use Rattle.mk_theorems.specs.Promises.{KeepsAllPromises}
+use Rattle.mk_run.specs.Headline.{StandsInOneHistory}
 use Rattle.mk_replay.specs.declared.schedule.Entry.{Entry}
 use Rattle.mk_replay.specs.declared.replaying.ReplayStop.{ReplayStop}
 use Rattle.mk_replay.specs.declared.replaying.ReplayStop.TheVariants as replay
 use Rattle.mk_replay.specs.Schedules.{replay_of}
 use Rattle.mk_replay.specs.Replays.{history_of, refusal_of}
+use Rattle.mk_gen.specs.Generated.{generated}
 use Rattle.markus.specs.declared.commands.Command.{Command}
-use Rattle.markus.specs.declared.commands.Command.TheVariants.{Run, Check, Print, Replay}
+use Rattle.markus.specs.declared.commands.Command.TheVariants as asked
+use Rattle.markus.specs.declared.commands.TextCommand.{TextCommand}
+use Rattle.markus.specs.declared.commands.TextCommand.TheVariants.{Run, Check, Print, Replay}
+use Rattle.markus.specs.declared.commands.Options.{Options}
+use Rattle.markus.specs.declared.commands.Request.{Request}
 use Rattle.markus.specs.declared.statuses.Status.{Status}
 use Rattle.markus.specs.declared.statuses.Status.TheVariants.{Ok, NoMemory, Text, IllTyped, Limit, NotEnabled, NotBuilt}
 use Rattle.markus.specs.Commands.{command_of}
-use Rattle.markus.specs.Narrow.{is_narrow}
-use Rattle.markus.specs.RunText.{IsRunText}
+use Rattle.markus.specs.Summary.{summary}
+
+-- Scripts run without a report on what was kept so far.
+abbrev pub status_of_options : Options → Status
+status_of_options o = if o.why then NotBuilt else Ok
 
 -- where a program is well typed, this status; else that of its least ill-typed line
 abbrev pub typed_or : Option TypingFault → Status → Status
 typed_or None status = status
 typed_or (Some fault) status = IllTyped fault.line fault.kind
 
--- A program that isn't of the narrow form isn't run yet. To be printed it needn't be well typed.
-abbrev pub status_of_program : Command → List Item → Status
-status_of_program Run program = typed_or (first_typing_fault program) (if is_narrow program then Ok else NotBuilt)
+-- To be printed a program needn't be well typed.
+abbrev pub status_of_program : TextCommand → List Item → Status
+status_of_program (Run options) program = typed_or (first_typing_fault program) (status_of_options options)
 status_of_program Check program = typed_or (first_typing_fault program) Ok
 status_of_program Print program = Ok
 status_of_program Replay program = typed_or (first_typing_fault program) Ok
@@ -44,7 +53,7 @@ status_of_text_stop (stop.Text line kind) = Text line kind
 status_of_text_stop (stop.Limit line which found) = Limit line which found
 status_of_text_stop stop.NoMemory = NoMemory
 
-abbrev pub status_of_text : Command → Result (List Item) TextStop → Status
+abbrev pub status_of_text : TextCommand → Result (List Item) TextStop → Status
 status_of_text command (Accepted program) = status_of_program command program
 status_of_text command (Refused stop) = status_of_text_stop stop
 
@@ -67,18 +76,19 @@ status_of_replay (Accepted parts) = status_of_schedule parts.0 parts.1
 status_of_replay (Refused stop) = status_of_text_stop stop
 
 -- the status of a command on an input, where nothing fails
-abbrev pub status_on : Command → List ℕ → Status
+abbrev pub status_on : TextCommand → List ℕ → Status
 status_on Replay input = status_of_replay (replay_of input)
 status_on command input = status_of_text command (program_of input)
 
-abbrev pub IsOutputOf : Command → List Item → List ℕ → Type 0
-IsOutputOf Run program output = IsRunText program output
+-- With `run` the program's replies stand in one history of its heap, and what its scripts print of it is written.
+abbrev pub IsOutputOf : TextCommand → List Item → List ℕ → Type 0
+IsOutputOf (Run options) program output = StandsInOneHistory program options.markers (output_behind program) output
 IsOutputOf Check program output = output ≡ codes "ok\n"
 IsOutputOf Print program output = output ≡ canonical_text program
 IsOutputOf Replay program output = ⊥
 
 -- what a command on a program writes on one that it accepts
-pub record IsOutputOnProgram (command : Command) (input output : List ℕ) : Type 0 where
+pub record IsOutputOnProgram (command : TextCommand) (input output : List ℕ) : Type 0 where
   pub program : List Item
   pub is_text : program_of input ≡ Accepted program
   pub accepted : status_of_program command program ≡ Ok
@@ -95,23 +105,45 @@ pub record IsOutputOnSchedule (input output : List ℕ) : Type 0 where
   pub output_is : output ≡ output_behind program (config_of program 8) (history_of program schedule)
 
 -- what a command writes on an input that it accepts
-abbrev pub IsOutput : Command → List ℕ → List ℕ → Type 0
+abbrev pub IsOutput : TextCommand → List ℕ → List ℕ → Type 0
 IsOutput Replay input output = IsOutputOnSchedule input output
 IsOutput command input output = IsOutputOnProgram command input output
 
--- An input was read from the source to its end, and W holds of what the words' command writes on it. Where the source
--- doesn't tell its bytes, there is such an input.
+-- An input was read from the source to its end, and this is what the command writes on it. Where the source doesn't
+-- tell its bytes, there is such an input.
+pub record IsOutputOnSource (command : TextCommand) (old new : Option (List ℕ)) (output : List ℕ) : Type 0 where
+  pub input : List ℕ
+  pub read : IfSome old (λ left. (input ≡ left) × (new ≡ Some []))
+  pub is_output : IsOutput command input output
+
+-- What `gen` writes: the generated program's replies stand in one history of its heap, and it is summed up. Nothing is
+-- read.
+pub record IsOutputOfRequest (request : Request) (old new : Option (List ℕ)) (output : List ℕ) : Type 0 where
+  pub unread : new ≡ old
+  pub output_is :
+      let program = generated request.start request.count in
+      StandsInOneHistory program request.markers (summary program) output
+
+abbrev pub Answers : Command → Option (List ℕ) → Option (List ℕ) → List ℕ → Type 0
+Answers (asked.OnText on_text) old new output = IsOutputOnSource on_text old new output
+Answers (asked.Gen request) old new output = IsOutputOfRequest request old new output
+Answers asked.Trace old new output = ⊥
+
+-- W holds of what the words' command writes, where the source had one list of bytes left, and then the other.
 pub record HasAnswered (words : List (List ℕ)) (old new : Option (List ℕ)) (W : List ℕ → Type 0) : Type 0 where
   pub command : Command
-  pub input : List ℕ
   pub output : List ℕ
   pub named : command_of words ≡ Some command
-  pub read : IfSome old (λ left. (input ≡ left) × (new ≡ Some []))
-  pub answers : IsOutput command input output
+  pub answers : Answers command old new output
   pub written : W output
 
--- The command's status on the input, or no memory
+-- The command's status on what is left of the source, or no memory.
+abbrev pub IsStatusOf : Command → Option (List ℕ) → Status → Type 0
+IsStatusOf (asked.OnText on_text) (Some input) status = (status ≡ NoMemory) ⊎ (status ≡ status_on on_text input)
+IsStatusOf (asked.OnText on_text) None status = Unit {0}
+IsStatusOf (asked.Gen request) left status = (status ≡ NoMemory) ⊎ (status ≡ Ok)
+IsStatusOf asked.Trace left status = status ≡ NotBuilt
+
 abbrev pub IsStatusOn : Option Command → Option (List ℕ) → Status → Type 0
-IsStatusOn (Some command) (Some input) status = (status ≡ NoMemory) ⊎ (status ≡ status_on command input)
-IsStatusOn None input status = Unit {0}
-IsStatusOn (Some command) None status = Unit {0}
+IsStatusOn (Some command) left status = IsStatusOf command left status
+IsStatusOn None left status = Unit {0}

@@ -88,6 +88,19 @@ IsBeforeWriting (Limit line which found) = Unit {0}
 IsBeforeWriting (NotEnabled line event condition) = Unit {0}
 IsBeforeWriting NotBuilt = Unit {0}
 
+-- the statuses that a text may have, but for Ok
+abbrev pub IsOfText : Status → Type 0
+IsOfText Ok = ⊥
+IsOfText NoMemory = Unit {0}
+IsOfText Usage = ⊥
+IsOfText ReadFault = ⊥
+IsOfText WriteFault = ⊥
+IsOfText (Text line kind) = Unit {0}
+IsOfText (IllTyped line fault) = Unit {0}
+IsOfText (Limit line which found) = Unit {0}
+IsOfText (NotEnabled line event condition) = Unit {0}
+IsOfText NotBuilt = Unit {0}
+
 -- the statuses that say what is wrong with a text
 abbrev pub IsRefusal : Status → Type 0
 IsRefusal Ok = ⊥

@@ -1,12 +1,20 @@
-//! What the words ask for.
-ghost use Rattle.std.specs.Prelude.{◌≡◌, map, string_bytes};
-ghost use Rattle.markus.specs.Commands.{command_of};
+//! What the program does.
 
 /// What the program does.
 #[derive(Clone, Copy, Debug, PartialEq, Eq)]
 pub enum Command {
+    /// Does something with the text that it reads.
+    OnText(TextCommand),
+    /// Runs a generated program, and sums up.
+    Gen(Request),
+    /// Plays a trace.
+    Trace,
+}
+
+#[derive(Clone, Copy, Debug, PartialEq, Eq)]
+pub enum TextCommand {
     /// Runs the scripts of a text.
-    Run,
+    Run(Options),
     /// Says whether a text's program is well typed.
     Check,
     /// Prints the canonical text of a text's program.
@@ -15,23 +23,20 @@ pub enum Command {
     Replay,
 }
 
-/// The command of the words behind the program's name; none where they are of no form.
-pub fn command_in(words: &[String]) -> Option<Command>
-    ensures { result ≡ command_of (map (λ word. string_bytes word) words.now) }
-{
-    let [word] = words else {
-        return None;
-    };
-    let word = word.as_str();
-    if word == "run" {
-        Some(Command::Run)
-    } else if word == "check" {
-        Some(Command::Check)
-    } else if word == "print" {
-        Some(Command::Print)
-    } else if word == "replay" {
-        Some(Command::Replay)
-    } else {
-        None
-    }
+/// How scripts are run.
+#[derive(Clone, Copy, Debug, PartialEq, Eq)]
+pub struct Options {
+    pub markers: u64,
+    /// Cycles mark by a sweep over the heap.
+    pub sweep: bool,
+    /// What the last cycle kept is printed, and why.
+    pub why: bool,
+}
+
+/// Which program is generated, and how it is run.
+#[derive(Clone, Copy, Debug, PartialEq, Eq)]
+pub struct Request {
+    pub start: u64,
+    pub count: u64,
+    pub markers: u64,
 }

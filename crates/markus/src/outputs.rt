@@ -1,31 +1,95 @@
-//! What a command writes on a text, or why it refuses the text.
-ghost use Rattle.std.specs.Prelude.{◌≡◌, ◌⊎◌, Ok, IfOk, IfErr, OnOk};
+//! What a command writes, or why it is refused.
+ghost use Rattle.std.specs.Prelude.{◌≡◌, ◌≢◌, ◌≤◌, ◌⊎◌, Ok, Err, false, IfOk, IfErr, OnOk};
+ghost use Rattle.mk_io.specs.Bytes.{TakesAll};
+ghost use Rattle.mk_io.specs.Faults.{Rose};
 ghost use Rattle.mk_script.specs.Grammar.{program_of};
-ghost use Rattle.mk_script.specs.declared.items.Item.{Item};
-ghost use Rattle.markus.specs.Outputs.{IsOutput, IsOutputOf, status_on, status_of_program, status_of_text};
-ghost use Rattle.markus.specs.Statuses.{IsBeforeWriting};
+ghost use Rattle.markus.specs.Commands.{AreWithin, IsWithin};
+ghost use Rattle.markus.specs.Outputs.{Answers, IsOutput, IsOutputOf, IsStatusOf, status_on, status_of_program, status_of_text};
+ghost use Rattle.markus.specs.Statuses.{IsBeforeWriting, IsOfText};
 
-use crate::commands::Command;
-use crate::narrow::is_narrow;
+use crate::commands::{Command, Options, TextCommand};
+use crate::generating::summed;
 use crate::refusals::{text_refusal, type_refusal};
 use crate::replays::replayed;
-use crate::running::run_script;
+use crate::running::printed;
 use crate::statuses::Status;
 use mk_check::check;
-use mk_script::{Program, parse, print};
+use mk_io::{ReadStop, Source, read_all};
+use mk_run::Pace;
+use mk_script::{Program, Which, parse, print};
 use std::alloc::Global;
+use std::sync::Wait;
+use std::thread::Threads;
 
-/// What a command writes on a text, whole. A text that it refuses has the status that says why.
-pub fn output_of(alloc: Global, command: Command, text: &[u8]) -> Result<Vec<u8>, Status>
-    ensures ok { IfOk result (λ output. IsOutput command text.now output.items) }
-    ensures refused { IfErr result (λ status. (status ≡ Status.NoMemory) ⊎ (status ≡ status_on command text.now)) }
+/// What a command writes, whole. Where it is refused the status says why.
+pub fn output_of<S: Source, P: Pace + Sync, R: Threads + Wait + Sync>(
+    rt: &R,
+    alloc: Global,
+    command: Command,
+    source: &mut S,
+    pace: &P,
+) -> Result<Vec<u8>, Status>
+    requires { IsWithin command }
+    ensures ok { IfOk result (λ output. Answers command (S.left source.old) (S.left source.new) output.items) }
+    ensures accepted { OnOk result (IsStatusOf command (S.left source.old) Status.Ok) }
+    ensures refused { IfErr result (λ status. status ≢ Status.ReadFault → IsStatusOf command (S.left source.old) status) }
     ensures before_writing { IfErr result (λ status. IsBeforeWriting status) }
+    ensures not_usage { IfErr result (λ status. status ≢ Status.Usage) }
+    ensures read_fault { result ≡ Err Status.ReadFault → Rose (S.faults source.old) (S.faults source.new) }
+    ensures sound { result ≡ Err Status.ReadFault → S.never_fails source.old ≡ false }
+    ensures read_whole { result ≢ Err Status.ReadFault → S.faults source.new ≡ S.faults source.old }
 {
     match command {
-        Command::Run => run(alloc, read(alloc, text)?),
-        Command::Check => accept(alloc, read(alloc, text)?),
-        Command::Print => canonical(alloc, read(alloc, text)?),
-        Command::Replay => replayed(alloc, text),
+        Command::OnText(command) => {
+            let text = input_of(alloc, source)?;
+            output_on(rt, alloc, command, &text, pace)
+        }
+        Command::Gen(request) => summed(rt, alloc, request, pace),
+        Command::Trace => Err(Status::NotBuilt),
+    }
+}
+
+/// All bytes up to the end of input.
+fn input_of<S: Source>(alloc: Global, source: &mut S) -> Result<Vec<u8>, Status>
+    ensures all { IfOk result (λ bytes. TakesAll (S.left source.old) (S.left source.new) bytes.items) }
+    ensures refused { IfErr result (λ status. status ≢ Status.ReadFault
+        → (command : TextCommand) → IsStatusOf (Command.OnText command) (S.left source.old) status) }
+    ensures before_writing { IfErr result (λ status. IsBeforeWriting status) }
+    ensures not_usage { IfErr result (λ status. status ≢ Status.Usage) }
+    ensures read_fault { result ≡ Err Status.ReadFault → Rose (S.faults source.old) (S.faults source.new) }
+    ensures sound { result ≡ Err Status.ReadFault → S.never_fails source.old ≡ false }
+    ensures read_whole { result ≢ Err Status.ReadFault → S.faults source.new ≡ S.faults source.old }
+{
+    read_all(alloc, source).map_err(|stop| match stop {
+        ReadStop::ReadFault => Status::ReadFault,
+        ReadStop::TooLong => Status::Limit {
+            line: 0,
+            which: Which::Bytes,
+            found: 1_048_577,
+        },
+        ReadStop::NoMemory => Status::NoMemory,
+    })
+}
+
+/// What a command writes on a text, whole. A text that it refuses has the status that says why.
+fn output_on<P: Pace + Sync, R: Threads + Wait + Sync>(
+    rt: &R,
+    alloc: Global,
+    command: TextCommand,
+    text: &[u8],
+    pace: &P,
+) -> Result<Vec<u8>, Status>
+    requires { AreWithin command }
+    ensures ok { IfOk result (λ output. IsOutput command text.now output.items) }
+    ensures accepted { OnOk result (status_on command text.now ≡ Status.Ok) }
+    ensures refused { IfErr result (λ status. (status ≡ Status.NoMemory) ⊎ (status ≡ status_on command text.now)) }
+    ensures of_text { IfErr result (λ status. IsOfText status) }
+{
+    match command {
+        TextCommand::Run(options) => run(rt, alloc, options, read(alloc, text)?, pace),
+        TextCommand::Check => accept(alloc, read(alloc, text)?),
+        TextCommand::Print => canonical(alloc, read(alloc, text)?),
+        TextCommand::Replay => replayed(alloc, text),
     }
 }
 
@@ -33,8 +97,8 @@ pub fn output_of(alloc: Global, command: Command, text: &[u8]) -> Result<Vec<u8>
 fn read(alloc: Global, text: &[u8]) -> Result<Program, Status>
     ensures program { IfOk result (λ program. program_of text.now ≡ Ok program) }
     ensures refused { IfErr result (λ status. (status ≡ Status.NoMemory)
-        ⊎ ((command : Command) → status ≡ status_of_text command (program_of text.now))) }
-    ensures before_writing { IfErr result (λ status. IsBeforeWriting status) }
+        ⊎ ((command : TextCommand) → status ≡ status_of_text command (program_of text.now))) }
+    ensures of_text { IfErr result (λ status. IsOfText status) }
 {
     match parse(alloc, text) {
         Ok(program) => Ok(program),
@@ -44,7 +108,7 @@ fn read(alloc: Global, text: &[u8]) -> Result<Program, Status>
 
 /// The canonical text of a program.
 fn canonical(alloc: Global, program: Program) -> Result<Vec<u8>, Status>
-    ensures ok { IfOk result (λ output. IsOutputOf Command.Print program output.items) }
+    ensures ok { IfOk result (λ output. IsOutputOf TextCommand.Print program output.items) }
     ensures refused { IfErr result (λ status. status ≡ Status.NoMemory) }
 {
     print(alloc, &program).map_err(|_| Status::NoMemory)
@@ -52,10 +116,11 @@ fn canonical(alloc: Global, program: Program) -> Result<Vec<u8>, Status>
 
 /// The line that says that a program is well typed.
 fn accept(alloc: Global, program: Program) -> Result<Vec<u8>, Status>
-    ensures ok { IfOk result (λ output. IsOutputOf Command.Check program output.items) }
-    ensures accepted { OnOk result (status_of_program Command.Check program ≡ Status.Ok) }
-    ensures refused { IfErr result (λ status. (status ≡ Status.NoMemory) ⊎ (status ≡ status_of_program Command.Check program)) }
-    ensures before_writing { IfErr result (λ status. IsBeforeWriting status) }
+    ensures ok { IfOk result (λ output. IsOutputOf TextCommand.Check program output.items) }
+    ensures accepted { OnOk result (status_of_program TextCommand.Check program ≡ Status.Ok) }
+    ensures refused { IfErr result (λ status. (status ≡ Status.NoMemory)
+        ⊎ (status ≡ status_of_program TextCommand.Check program)) }
+    ensures of_text { IfErr result (λ status. IsOfText status) }
 {
     match check(alloc, program) {
         Ok(_) => b"ok\n".to_vec(alloc).map_err(|_| Status::NoMemory),
@@ -63,19 +128,30 @@ fn accept(alloc: Global, program: Program) -> Result<Vec<u8>, Status>
     }
 }
 
-/// What a program's script prints.
-fn run(alloc: Global, program: Program) -> Result<Vec<u8>, Status>
-    ensures ok { IfOk result (λ output. IsOutputOf Command.Run program output.items) }
-    ensures accepted { OnOk result (status_of_program Command.Run program ≡ Status.Ok) }
-    ensures refused { IfErr result (λ status. (status ≡ Status.NoMemory) ⊎ (status ≡ status_of_program Command.Run program)) }
-    ensures before_writing { IfErr result (λ status. IsBeforeWriting status) }
+/// What a program's scripts print.
+fn run<P: Pace + Sync, R: Threads + Wait + Sync>(
+    rt: &R,
+    alloc: Global,
+    options: Options,
+    program: Program,
+    pace: &P,
+) -> Result<Vec<u8>, Status>
+    requires { options.markers ≤ 8 }
+    ensures ok { IfOk result (λ output. IsOutputOf (TextCommand.Run options) program output.items) }
+    ensures accepted { OnOk result (status_of_program (TextCommand.Run options) program ≡ Status.Ok) }
+    ensures refused { IfErr result (λ status. (status ≡ Status.NoMemory)
+        ⊎ (status ≡ status_of_program (TextCommand.Run options) program)) }
+    ensures of_text { IfErr result (λ status. IsOfText status) }
 {
     let checked = match check(alloc, program) {
         Ok(checked) => checked,
         Err(stop) => return Err(type_refusal(stop)),
     };
-    if !is_narrow(checked.program().items()) {
+    if options.why {
         return Err(Status::NotBuilt);
     }
-    run_script(alloc, &checked).map_err(|_| Status::NoMemory)
+    match printed(rt, alloc, &checked, options.markers, options.sweep, pace) {
+        Ok(output) => Ok(output),
+        Err(_) => Err(Status::NoMemory),
+    }
 }

@@ -1,19 +1,18 @@
 //! What a schedule makes of the scripts before it.
 ghost use Rattle.std.specs.Prelude.{◌≡◌, ◌⊎◌, IfOk, IfErr, OnOk};
-ghost use Rattle.std.specs.List.{flat_map};
 ghost use Rattle.mk_core.specs.History.{AreEnabled};
 ghost use Rattle.mk_check.specs.Declarations.{config_of};
 ghost use Rattle.mk_check.specs.Output.{output};
 ghost use Rattle.mk_replay.specs.Replays.{history_of};
 ghost use Rattle.mk_theorems.specs.Promises.{KeepsAllPromises};
 ghost use Rattle.markus.specs.Outputs.{IsOutputOnSchedule, status_on, status_of_schedule};
-ghost use Rattle.markus.specs.Statuses.{IsBeforeWriting};
+ghost use Rattle.markus.specs.Statuses.{IsOfText};
 
-use crate::commands::Command;
+use crate::commands::TextCommand;
 use crate::refusals::{replay_refusal, text_refusal, type_refusal};
 use crate::statuses::Status;
-use mk_check::{Text, check};
-use mk_never::NoMemory;
+use crate::texts::joined;
+use mk_check::check;
 use mk_replay::{Schedule, parse_replay, replay};
 use mk_script::Program;
 use std::alloc::Global;
@@ -21,8 +20,8 @@ use std::alloc::Global;
 /// What `replay` writes on a text, whole.
 pub fn replayed(alloc: Global, text: &[u8]) -> Result<Vec<u8>, Status>
     ensures ok { IfOk result (λ output. IsOutputOnSchedule text.now output.items) }
-    ensures refused { IfErr result (λ status. (status ≡ Status.NoMemory) ⊎ (status ≡ status_on Command.Replay text.now)) }
-    ensures before_writing { IfErr result (λ status. IsBeforeWriting status) }
+    ensures refused { IfErr result (λ status. (status ≡ Status.NoMemory) ⊎ (status ≡ status_on TextCommand.Replay text.now)) }
+    ensures of_text { IfErr result (λ status. IsOfText status) }
 {
     match parse_replay(alloc, text) {
         Ok((program, schedule)) => run(alloc, program, &schedule),
@@ -38,7 +37,7 @@ fn run(alloc: Global, program: Program, schedule: &Schedule) -> Result<Vec<u8>, 
     ensures promises { OnOk result (KeepsAllPromises (config_of program 8) (history_of program schedule.now)) }
     ensures accepted { OnOk result (status_of_schedule program schedule.now ≡ Status.Ok) }
     ensures refused { IfErr result (λ status. (status ≡ Status.NoMemory) ⊎ (status ≡ status_of_schedule program schedule.now)) }
-    ensures before_writing { IfErr result (λ status. IsBeforeWriting status) }
+    ensures of_text { IfErr result (λ status. IsOfText status) }
 {
     let checked = match check(alloc, program) {
         Ok(checked) => checked,
@@ -49,17 +48,4 @@ fn run(alloc: Global, program: Program, schedule: &Schedule) -> Result<Vec<u8>, 
         Err(stop) => return Err(replay_refusal(stop)),
     };
     joined(alloc, &texts).map_err(|_| Status::NoMemory)
-}
-
-/// The texts, one behind the other.
-fn joined(alloc: Global, texts: &[Text]) -> Result<Vec<u8>, NoMemory>
-    ensures { IfOk result (λ bytes. bytes.items ≡ flat_map (λ text. text.bytes.items) texts.now) }
-{
-    let mut bytes = Vec::new(alloc);
-    for text in texts {
-        if bytes.extend_from_slice(&text.bytes).is_err() {
-            return Err(NoMemory);
-        }
-    }
-    Ok(bytes)
 }

@@ -1,40 +1,53 @@
-//! A script on the plain heap.
-ghost use Rattle.std.specs.Prelude.{◌≡◌, true, IfOk};
-ghost use Rattle.mk_check.specs.Declarations.{pages_of};
-ghost use Rattle.mk_check.specs.Typing.{IsWellTyped};
-ghost use Rattle.markus.specs.Narrow.{is_narrow, object_words};
-ghost use Rattle.markus.specs.Plain.{wiped};
-ghost use Rattle.markus.specs.RunText.{IsRunText};
+//! The run of a program on the heap.
+ghost use Rattle.std.specs.Prelude.{◌≤◌, IfOk};
+ghost use Rattle.mk_check.specs.Output.{output};
+ghost use Rattle.mk_run.specs.Headline.{StandsInOneHistory, cycles_go_on};
+ghost use Rattle.mk_run.specs.Running.{IsRunOf};
 
-use crate::plain::Plain;
-use mk_check::{Checked, Feed};
+use crate::texts::joined;
+use mk_check::Checked;
+use mk_engines::{MostlyEngine, StopEngine};
 use mk_never::NoMemory;
+use mk_run::{Outcome, Pace, run_all};
+use mk_sweep::SweepEngine;
 use std::alloc::Global;
+use std::sync::Wait;
+use std::thread::Threads;
 
-/// The heap that the program's script begins on.
-fn plain_heap(alloc: Global, checked: &Checked) -> Result<Plain, NoMemory>
-    requires { is_narrow checked.now ≡ true }
-    ensures { IfOk result (λ plain. plain ≡ wiped (pages_of checked.now) (object_words checked.now)) }
+/// The run of a program's scripts, each on a thread of its own. With markers a cycle goes on beside them; without, it is
+/// made in the stop, by tracing or by a sweep.
+pub fn outcome_of<P: Pace + Sync, R: Threads + Wait + Sync>(
+    rt: &R,
+    alloc: Global,
+    program: &Checked,
+    markers: u64,
+    sweep: bool,
+    pace: &P,
+) -> Result<Outcome, NoMemory>
+    requires { markers ≤ 8 }
+    ensures { IfOk result (IsRunOf (cycles_go_on markers) program.now markers) }
 {
-    let config = checked.config(alloc, 0)?;
-    let words = config.types.kinds(0).len() as u64;
-    Plain::new(alloc, config.pages, words)
+    if markers > 0 {
+        run_all::<MostlyEngine, P, R>(rt, alloc, program, markers, pace)
+    } else if sweep {
+        run_all::<SweepEngine, P, R>(rt, alloc, program, markers, pace)
+    } else {
+        run_all::<StopEngine, P, R>(rt, alloc, program, markers, pace)
+    }
 }
 
-/// The text of the program's one script.
-pub fn run_script(alloc: Global, checked: &Checked) -> Result<Vec<u8>, NoMemory>
-    requires narrow { is_narrow checked.now ≡ true }
-    requires well_typed { IsWellTyped checked.now }
-    ensures { IfOk result (λ text. IsRunText checked.now text.items) }
+/// What a program's scripts print, each run to its end.
+pub fn printed<P: Pace + Sync, R: Threads + Wait + Sync>(
+    rt: &R,
+    alloc: Global,
+    program: &Checked,
+    markers: u64,
+    sweep: bool,
+    pace: &P,
+) -> Result<Vec<u8>, NoMemory>
+    requires { markers ≤ 8 }
+    ensures { IfOk result (λ bytes. StandsInOneHistory program.now markers (output program.now) bytes.items) }
 {
-    let mut plain = plain_heap(alloc, checked)?;
-    let mut feed = Feed::start(alloc, checked, 0)?;
-    while let Some(op) = feed.op() {
-        let answer = plain.apply(op);
-        feed.answer(alloc, answer)?;
-    }
-    match feed.text().to_vec(alloc) {
-        Ok(text) => Ok(text),
-        Err(_) => Err(NoMemory),
-    }
+    let outcome = outcome_of(rt, alloc, program, markers, sweep, pace)?;
+    joined(alloc, &outcome.texts)
 }

@@ -12,17 +12,21 @@ mod walks;
 use crate::statuses::Status;
 use crate::top::markus;
 use mk_io::{MemSink, MemSource};
+use mk_run::NoPace;
 use std::alloc::{AllocError, Global};
+use std::sync::Wait;
 use std::test::Fail;
+use std::thread::Threads;
 use texts::behind;
 
 const FIRST_RUN: &[u8] = b"heap 1 1\ntype A n*32\nscript s\nptr p A\nnum n\nnew p A\nconst n 7\n\
     setn p 1 n\nconst n 0\ngetn n p 1\nprint n\n";
 
 /// Commands, the lines of a text with `/` for a newline, and what is written, or the line that is told. They are: the first
-/// script; a refused load; a full heap; a loop of two rounds and a branch; a script of as many instructions as one may
-/// execute; a canonical text; a schedule with a load of a global before the store and one behind, that ends within a call
-/// of `s`; and a program that isn't of the narrow form.
+/// script; a refused load; a full heap; a loop of two rounds and a branch; a dangling load; a load from a freed run; a second
+/// free; scripts without instructions; options; a script of as many instructions as one may execute; a canonical text; a
+/// schedule with a load of a global before the store and one behind, that ends within a call of `s`; the smallest generated
+/// program; and what isn't built yet.
 const RUNS: &str = "\
 run | heap 1 1/type A n*32/script s/ptr p A/num n/new p A/const n 7/setn p 1 n/const n 0/\
     getn n p 1/print n/ -> script s/7/
@@ -30,6 +34,16 @@ run | heap 1 1/type A n*2/script s/ptr p A/num n/const n 5/getn n p 0/print n/ -
 run | heap 1 1/type A n*32/script s/ptr p A/new p A/new p A/new p A/ -> script s/7: full/
 run | heap 1 1/type A n/script s/ptr p A/num n/const n 3/new p A/repeat 2/setn p 0 n/const n 0/\
     getn n p 0/if n/print n/else/new p A/end/end/ -> script s/3/3/
+run | heap 1 1/type A n*32/script s/ptr p A/num n/new p A/const n 7/setn p 1 n/free p/const n 0/\
+    getn n p 1/print n/ -> script s/7/
+run | heap 1 1/type A n*33/script s/ptr p A/num n/new p A/free p/getn n p 0/print n/ -> script s/8: fault/0/
+run | heap 1 1/type A n/script s/ptr p A/new p A/free p/free p/ -> script s/7: double/
+run | heap 1 1/type A n p:A+0/script s/ptr p A -> script s/
+run | heap 1 1/script s/script t/ -> script s/script t/
+run --markers 1 | heap 1 1/script s/ -> script s/
+run --sweep | heap 1 1/script s/ -> script s/
+run --why --sweep | heap 1 1/script s/ -> not built/
+run --markers=0 -- | heap 1 1/script s/ -> script s/
 check | heap 1 1/type A n/script s/ptr p A/num n/const n 3/new p A/repeat 2/setn p 0 n/const n 0/\
     getn n p 0/if n/print n/else/new p A/end/end/ -> ok/
 check | heap 1 1/script s/num n/print n/repeat 499999/print n/end/ -> ok/
@@ -39,9 +53,50 @@ replay | heap 1 1/type A n*2/global g A/script s/ptr p A/new p A/storeg p g/show
     c1 enter; reg; leave/c0 take; head 0 13; used 0 1; grant; tally held 2; give/\
     c0 enter; reg; setg; leave/c1  enter;  getg; reg; leave /c1 enter; reg; leave/\
     c0 enter; reg -> script s/script t/13: null/0/ptr/
-run |  heap 1 1/ type A n n n p:A+0/script s/ptr p A+0 -> not built/
-run run | heap 1 1/script s/ -> usage: markus run, check, print, replay, gen or trace/
-fly |  -> usage: markus run, check, print, replay, gen or trace/
+gen 0 48 |  -> script s0 ops 12 refused 0/script s1 ops 12 refused 0/script s2 ops 12 refused 0/\
+    script s3 ops 12 refused 0/total 48/
+gen 0 --markers 1 48 |  -> script s0 ops 12 refused 0/script s1 ops 12 refused 0/script s2 ops 12 refused 0/\
+    script s3 ops 12 refused 0/total 48/
+trace |  -> not built/
+";
+
+/// Words of no form, a row each. `run` alone and `check --` are of one.
+const WORDS: &str = "\
+fly
+run run
+run -
+run --help
+run --version
+run -h
+run --markers
+run --markers --
+run --markers 9
+run --markers 02
+run --markers=
+run --markers -1
+run --markers 1 --markers 1
+run --why --why
+run --why=
+run --sweep --markers 1
+run -- --why
+run -- --
+check --why
+check --markers 0
+print x
+replay --sweep
+gen
+gen 1
+gen 1 47
+gen 1 3000001
+gen 18446744073709551616 48
+gen 01 48
+gen 1 48 48
+gen 1 48 --why
+gen -- --markers 1 48
+trace 1
+--
+-- run
+--help
 ";
 
 /// A run: its words, its text, and how its source and its sink are cut into calls and which of these fail.
@@ -64,7 +119,11 @@ fn ample<'a>(words: &'a [&'a str], text: &'a [u8]) -> Case<'a> {
 }
 
 /// How the run of a case ends, and what it wrote.
-fn run(alloc: Global, case: &Case) -> Result<(Status, Vec<u8>), AllocError> {
+fn run<R: Threads + Wait + Sync>(
+    rt: &R,
+    alloc: Global,
+    case: &Case,
+) -> Result<(Status, Vec<u8>), AllocError> {
     let mut words = Vec::new(alloc);
     for word in case.words {
         words.push(String::from_str(alloc, word)?)?;
@@ -74,12 +133,12 @@ fn run(alloc: Global, case: &Case) -> Result<(Status, Vec<u8>), AllocError> {
     let (chunk, fails) = case.sink;
     let mut sink = MemSink::new(alloc, chunk.max(1), fails.to_vec(alloc)?);
     sink.reserve(4096).map_err(|_| AllocError)?;
-    let status = markus(alloc, &words, &mut source, &mut sink);
+    let status = markus(rt, alloc, &words, &mut source, &mut sink, &NoPace);
     Ok((status, sink.bytes().to_vec(alloc)?))
 }
 
 /// Whether a row of `RUNS` goes as it says.
-fn goes(alloc: Global, row: &str) -> Result<bool, Fail> {
+fn goes<R: Threads + Wait + Sync>(rt: &R, alloc: Global, row: &str) -> Result<bool, Fail> {
     let Some((asked, text)) = row.split_once(" | ") else {
         return Ok(false);
     };
@@ -89,7 +148,7 @@ fn goes(alloc: Global, row: &str) -> Result<bool, Fail> {
     let words: Vec<&str> = asked.split(' ').collect(alloc)?;
     let text = behind(alloc, "", text)?;
     let ending = behind(alloc, "", ending)?;
-    let (status, written) = run(alloc, &ample(words.as_slice(), text.as_bytes()))?;
+    let (status, written) = run(rt, alloc, &ample(words.as_slice(), text.as_bytes()))?;
     let told = status.text(alloc).map_err(|_| AllocError)?;
     let found = if told.is_empty() { &written } else { &told };
     Ok(found.as_slice() == ending.as_bytes() && (told.is_empty() || written.is_empty()))
@@ -98,20 +157,30 @@ fn goes(alloc: Global, row: &str) -> Result<bool, Fail> {
 #[test]
 fn runs_end_as_they_should(rt: HostRuntime) -> Result<(), Fail> {
     for row in RUNS.lines() {
-        assert!(rt; goes(rt.alloc(), row)?, "{row}");
+        assert!(rt; goes(&rt, rt.alloc(), row)?, "{row}");
     }
-    let (status, written) = run(rt.alloc(), &ample(&[], b""))?;
-    assert_eq!(rt; status, Status::Usage);
-    assert!(rt; written.is_empty());
-
     let bytewise = Case {
         source: (1, &[]),
         sink: (1, &[]),
         ..ample(&["run"], FIRST_RUN)
     };
-    let (status, written) = run(rt.alloc(), &bytewise)?;
+    let (status, written) = run(&rt, rt.alloc(), &bytewise)?;
     assert_eq!(rt; status, Status::Ok);
     assert_eq!(rt; written.as_slice(), b"script s\n7\n".as_slice());
+    Ok(())
+}
+
+#[test]
+fn words_of_no_form_are_refused(rt: HostRuntime) -> Result<(), Fail> {
+    let (status, written) = run(&rt, rt.alloc(), &ample(&[], b""))?;
+    assert_eq!(rt; status, Status::Usage);
+    assert!(rt; written.is_empty());
+    for row in WORDS.lines() {
+        let words: Vec<&str> = row.split(' ').collect(rt.alloc())?;
+        let (status, written) = run(&rt, rt.alloc(), &ample(words.as_slice(), FIRST_RUN))?;
+        assert_eq!(rt; status, Status::Usage, "{row}");
+        assert!(rt; written.is_empty(), "{row}");
+    }
     Ok(())
 }
 
@@ -129,7 +198,7 @@ fn a_write_may_fail_at_each_call(rt: HostRuntime) -> Result<(), Fail> {
             sink: (4, &fails),
             ..ample(&["run"], FIRST_RUN)
         };
-        let (status, written) = run(rt.alloc(), &case)?;
+        let (status, written) = run(&rt, rt.alloc(), &case)?;
         assert_eq!(rt; status, expected, "call {call}");
         assert_eq!(rt; written.as_slice(), text.as_bytes(), "call {call}");
     }
@@ -145,7 +214,7 @@ fn a_read_may_fail_at_each_call(rt: HostRuntime) -> Result<(), Fail> {
             source: (16, &fails),
             ..ample(&["run"], FIRST_RUN)
         };
-        let (status, written) = run(rt.alloc(), &case)?;
+        let (status, written) = run(&rt, rt.alloc(), &case)?;
         let (expected, text): (Status, &[u8]) = if call <= 8 {
             (Status::ReadFault, b"")
         } else {

@@ -6,27 +6,35 @@ ghost use Rattle.markus.specs.Commands.{command_of};
 ghost use Rattle.markus.specs.Outputs.{HasAnswered, IsStatusOn};
 ghost use Rattle.markus.specs.Statuses.{IsBeforeWriting, IsRefusal};
 
-use crate::commands::command_in;
 use crate::outputs::output_of;
 use crate::statuses::Status;
-use mk_io::{Failed, ReadStop, Sink, Source, read_all, write_all};
-use mk_script::Which;
+use crate::words::command_in;
+use mk_io::{Failed, Sink, Source, write_all};
+use mk_run::Pace;
 use std::alloc::Global;
+use std::sync::Wait;
+use std::thread::Threads;
 
-/// Does all that the program does. With the one word `run`, `check`, `print` or `replay` it reads a text
-/// from the source and writes to the sink what its script prints, the line `ok`, its canonical text, or
-/// what its scripts have printed when the schedule behind it ends. The whole output is made before the
-/// first write.
+/// Does all that the program does. With the word `run`, `check`, `print` or `replay` it reads a text from the source, and
+/// writes to the sink what its scripts print, the line `ok`, its canonical text, or what its scripts have printed when
+/// the schedule behind it ends. With `gen START COUNT` it reads nothing, runs the program that is generated, and sums up.
+/// The whole output is made before the first write.
 ///
-/// Where the source doesn't tell its bytes, or the sink what it took, the clauses on these say
-/// nothing, as with standard input and output.
-pub fn markus<S: Source, K: Sink>(
+/// Each script runs on a thread of its own, and the pace is told of each of its memory instructions.
+///
+/// Where the source doesn't tell its bytes, or the sink what it took, the clauses on these say nothing, as with standard
+/// input and output.
+pub fn markus<S: Source, K: Sink, P: Pace + Sync, R: Threads + Wait + Sync>(
+    rt: &R,
     alloc: Global,
     words: &[String],
     source: &mut S,
     sink: &mut K,
+    pace: &P,
 ) -> Status
-    // What was read to its end is a text that the command accepts, and what it writes on it was written.
+    // What the command writes was written: on the text that was read to its end, which it accepts, or, with `gen`, of the
+    // program that it generates. With `run` and `gen` the replies of the program's scripts stand in one history of a heap
+    // that never reuses storage, each script's operations there once and in order.
     ensures ok { result ≡ Status.Ok →
         HasAnswered (map (λ word. string_bytes word) words.now) (S.left source.old) (S.left source.new) (Appends (K.taken sink.old) (K.taken sink.new)) }
     ensures part { result ≡ Status.WriteFault →
@@ -57,19 +65,7 @@ pub fn markus<S: Source, K: Sink>(
     let Some(command) = command_in(words) else {
         return Status::Usage;
     };
-    let text = match read_all(alloc, source) {
-        Ok(text) => text,
-        Err(ReadStop::ReadFault) => return Status::ReadFault,
-        Err(ReadStop::TooLong) => {
-            return Status::Limit {
-                line: 0,
-                which: Which::Bytes,
-                found: 1_048_577,
-            };
-        }
-        Err(ReadStop::NoMemory) => return Status::NoMemory,
-    };
-    let output = match output_of(alloc, command, &text) {
+    let output = match output_of(rt, alloc, command, source, pace) {
         Ok(output) => output,
         Err(status) => return status,
     };

@@ -1,5 +1,5 @@
 -- The stop and the giving back, joined.
-use Rattle.std.proofs.Common.{◌≡◌, ℕ, ◌<◌, true, ap, subst, ◌∙◌}
+use Rattle.std.proofs.Common.{◌≡◌, ℕ, ◌<◌, true, sym, ap, subst, ◌∙◌}
 use Rattle.std.specs.Prelude.{not}
 use Rattle.std.proofs.lemmas.Bool.{not-true}
 use Rattle.mk_core.specs.declared.config.Config.{Config}
@@ -7,14 +7,19 @@ use Rattle.mk_core.specs.Frames.{Steady}
 use Rattle.mk_core.specs.Moments.{is_held, none_is_held}
 use Rattle.mk_core.proofs.AllBelow.{all_below-at}
 use Rattle.mk_words.specs.States.{WordsState, PassState, now_of}
+use Rattle.mk_cycle.specs.declared.finishing.Released.{Released}
 use Rattle.mk_cycle.specs.EngineLaw.{IsFreeForCycle, IsAtPhase}
+use Rattle.mk_cycle.specs.FinishCycle.{HasReleased}
 use Rattle.mk_cycle.specs.Freeing.{Frees, FreesNone, IsSettledPage}
 use Rattle.mk_cycle.specs.GivingAll.{GivesAllBack}
 use Rattle.mk_cycle.specs.Holding.{HoldsGates}
+use Rattle.mk_cycle.specs.ReleasedPages.{released_below}
 use Rattle.mk_cycle.specs.Releasing.{ReleasesUnmarked}
 use Rattle.mk_cycle.proofs.BeginSteps.{all_from}
+use Rattle.mk_cycle.proofs.CountedPages.{told_alike_below}
 use Rattle.mk_cycle.proofs.FreeingSteps.{freed_phase, frees_then}
 use Rattle.mk_cycle.proofs.KeptInParts.{free_then}
+use Rattle.mk_cycle.proofs.ReleasedCounts.{told_from, told_to}
 
 pub held_phase : (p q : PassState) (n : ℕ) → HoldsGates p q → IsAtPhase p n → IsAtPhase q n
 held_phase p q n k at = ap (λ (s : Steady). s.phase) k.keeps.steady ∙ at
@@ -50,3 +55,12 @@ gives_all_back p h r o q holds releases opens frees none settled =
       gates = none_held_then p.table.config.callers o q frees (subst (λ (c : Config). none_is_held c.callers (now_of o).words ≡ true) same none);
       settled = settled;
     }
+
+-- What is counted behind the gates' opening is what was released up to there, and still is behind the giving back.
+pub all_told : (p h r o k q : PassState) (n : ℕ) (counted : Released) → HoldsGates p h → FreesNone r o → Frees o k → Frees k q
+    → HasReleased h r (released_below (now_of r).words n) → counted ≡ released_below (now_of o).words n → HasReleased p q counted
+all_told p h r o k q n counted holds opens counts frees told is =
+    subst (λ (x : Released). HasReleased p q x) (sym (is ∙ told_alike_below r o opens n))
+    (told_to p r q _ (ap (λ (s : Steady). s.allocations) ((frees_then r k q (frees_then r o k opens.frees counts) frees).keeps.steady))
+    (told_from p h r _ (ap (λ (x : PassState). x.table.config) holds.keeps.call.pass)
+    (ap (λ (s : Steady). s.allocations) holds.keeps.steady) told))

@@ -55,7 +55,7 @@ pub gates_then : (p q r : PassState) → q ≡ record p { seen = q.seen } → Ke
 gates_then p q r is a b j lt =
     b j (subst (λ (c : Config). j < c.callers) (sym (same_config p q is)) lt) ∙ a j lt
 
-held_so : (a b : ℕ) → (a ≡ 2 → b ≡ 2) → (a ≢ 2 → b ≢ 2) → (b == 2) ≡ (a == 2)
+pub held_so : (a b : ℕ) → (a ≡ 2 → b ≡ 2) → (a ≢ 2 → b ≢ 2) → (b == 2) ≡ (a == 2)
 held_so a b held free = elim (cases_eq a 2) [
   | inl e ↦ eq-eqb b 2 (held e) ∙ sym (eq-eqb a 2 e)
   | inr ne ↦ ne_eqb b 2 (free ne) ∙ sym (ne_eqb a 2 ne)

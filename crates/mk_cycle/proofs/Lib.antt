@@ -17,3 +17,11 @@ pub mod SettledPages
 pub mod ReleasedCells
 pub mod EndSteps
 pub mod GivingAll
+pub mod SumsBelow
+pub mod CellCounts
+pub mod NewlyReleased
+pub mod ReleasedCounts
+pub mod CountedPages
+pub mod TallySteps
+pub mod HeldPages
+pub mod FinishedCycles

@@ -6,7 +6,7 @@ use Rattle.std.proofs.lemmas.List.Sums.{count_by-le-length}
 use Rattle.mk_core.specs.declared.config.Config.{Config}
 use Rattle.mk_core.specs.declared.events.Step.{Step}
 use Rattle.mk_core.specs.declared.events.Step.TheVariants as step
-use Rattle.mk_core.specs.Allocations.{with_released}
+use Rattle.mk_core.specs.Allocations.{fresh_words_of, with_released}
 use Rattle.mk_core.specs.Frames.{Steady, steady_of}
 use Rattle.mk_core.specs.History.{World}
 use Rattle.mk_core.specs.Moments.{others_are_held}
@@ -24,6 +24,7 @@ use Rattle.mk_cycle.proofs.BeginSteps.{counts_then}
 use Rattle.mk_cycle.proofs.CleaningSteps.{calm_keeps}
 use Rattle.mk_cycle.proofs.KeptInParts.{calls_then, free_then, same_config}
 use Rattle.mk_cycle.proofs.MayAct.{may_act}
+use Rattle.mk_cycle.proofs.ReleasedCounts.{fresh_words_stay}
 
 -- One is added to the phase.
 phase_more : (n markers phase : ℕ) → n % 8 ≡ phase → phase < 7 → n / 8 ≡ markers → markers ≤ 8 → (n + 1) % 2 ^ 64 % 8 ≡ phase + 1
@@ -81,4 +82,9 @@ releases_unmarked p b d q t free marks tb close td release tq =
       counts =
           counts_then p b q same_b marks.keeps.counts
           (counts_then b d q (same_config b d one.0.call.pass) one.0.counts two.counts);
+      fresh =
+          subst (λ (e : Config). fresh_words_of e (world_of q).allocations ≡ fresh_words_of e (world_of d).allocations) same_d
+          (fresh_words_stay d q td tq one.1 release)
+          ∙ ap (λ (s : Steady). fresh_words_of c s.allocations) (one.0.steady)
+          ∙ ap (λ (s : Steady). fresh_words_of c s.allocations) marks.keeps.steady;
     }

@@ -51,3 +51,9 @@ gives_back (step.Quar p v) = true
 gives_back (step.Head p v) = true
 gives_back (step.Tally n v) = true
 gives_back _ = false
+
+-- behind an `end`: the tallies are set
+abbrev pub sets_tallies : Step → Bool
+sets_tallies (step.Look x) = true
+sets_tallies (step.Tally n v) = true
+sets_tallies _ = false

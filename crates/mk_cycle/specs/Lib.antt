@@ -7,3 +7,6 @@ pub mod Holding
 pub mod Releasing
 pub mod Freeing
 pub mod GivingAll
+pub mod FinishCycle
+pub mod ReleasedPages
+pub mod Tallying

@@ -1,7 +1,7 @@
 -- What is made in the stop: the marks are closed, and what is unmarked is released.
 use Rattle.std.specs.Prelude.{◌≡◌, map}
 use Rattle.mk_core.specs.declared.events.Step.TheVariants as step
-use Rattle.mk_core.specs.Allocations.{with_released}
+use Rattle.mk_core.specs.Allocations.{fresh_words_of, with_released}
 use Rattle.mk_core.specs.Frames.{steady_of, CountsAreLeft}
 use Rattle.mk_core.specs.Words.{Words}
 use Rattle.mk_words.specs.States.{PassState, world_of}
@@ -30,3 +30,5 @@ pub record ReleasesUnmarked (p q : PassState) : Type 0 where
         allocations = map (with_released p.table.config (words_released makes)) (world_of p).allocations;
       }
   pub counts : CountsAreLeft p.table.config p.seen q.seen
+  pub fresh : fresh_words_of p.table.config (world_of q).allocations
+      ≡ fresh_words_of p.table.config (world_of p).allocations

@@ -1,38 +1,59 @@
 //! The stop of a cycle, and what comes behind it up to the `end`.
-ghost use Rattle.std.specs.Prelude.{◌≡◌};
+ghost use Rattle.std.specs.Prelude.{◌≡◌, true};
+ghost use Rattle.mk_core.specs.Moments.{none_is_held};
+ghost use Rattle.mk_words.specs.States.{now_of};
 ghost use Rattle.mk_cycle.specs.EngineLaw.{IsFreeForCycle, IsAtPhase};
+ghost use Rattle.mk_cycle.specs.FinishCycle.{HasReleased};
+ghost use Rattle.mk_cycle.specs.Freeing.{FreesNone};
 ghost use Rattle.mk_cycle.specs.GivingAll.{GivesAllBack};
 
+use crate::counting::count_released;
 use crate::engine::Engine;
+use crate::finishing::Released;
 use crate::holding::hold_gates;
 use crate::releasing::release_unmarked;
 use crate::settling::settle_pages;
-use mk_words::{Turn, Words};
+use mk_words::{Stopped, Turn, Words};
 use std::sync::Wait;
 use std::thread::Threads;
 
+/// Opens the gates of all other callers. Nothing is given back yet.
+fn open_gates(words: &Words, stop: Stopped) -> Turn
+    requires one_table { stop.pass.table ≡ words.now }
+    requires free { IsFreeForCycle stop.pass }
+    requires phase { IsAtPhase stop.pass 4 }
+    ensures op { result.op ≡ stop.op }
+    ensures opens { FreesNone stop.pass result.pass }
+    ensures gates { none_is_held stop.pass.table.config.callers (now_of result.pass).words ≡ true }
+{
+    stop.is_in_order();
+    let turn = stop.open_all(words);
+    turn.is_in_order();
+    turn
+}
+
 /// Stops all other callers, closes the marks, releases what is unmarked, opens the gates, and gives back what was
-/// released.
+/// released, with the count of it.
 pub(crate) fn give_all_back<E: Engine, R: Threads + Wait + Sync>(
     rt: &R,
     words: &Words,
     mut turn: Turn,
     engine: &mut E,
-) -> Turn
+) -> (Turn, Released)
     requires one_table { turn.pass.table ≡ words.now }
     requires made_for { E.made_for engine.old ≡ words.now.config.pages }
     requires phase { IsAtPhase turn.pass 1 }
     requires free { IsFreeForCycle turn.pass }
-    ensures op { result.op ≡ turn.op }
+    ensures op { result.0.op ≡ turn.op }
     ensures made_for { E.made_for engine.new ≡ E.made_for engine.old }
-    ensures gives { GivesAllBack turn.pass result.pass }
+    ensures gives { GivesAllBack turn.pass result.0.pass }
+    ensures told { HasReleased turn.pass result.0.pass result.1 }
 {
     hold_gates(rt, &mut turn, words);
     let mut stop = turn.stopped();
     release_unmarked(rt, words, &mut stop, engine);
-    stop.is_in_order();
-    let mut turn = stop.open_all(words);
-    turn.is_in_order();
+    let mut turn = open_gates(words, stop);
+    let released = count_released(&mut turn, words);
     settle_pages(&mut turn, words);
-    turn
+    (turn, released)
 }

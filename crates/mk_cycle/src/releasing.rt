@@ -1,5 +1,8 @@
 //! The stop of a cycle: the marks are closed, and what is unmarked is released.
 ghost use Rattle.std.specs.Prelude.{◌≡◌, ℕ};
+ghost use Rattle.mk_words.specs.States.{now_of};
+ghost use Rattle.mk_cycle.specs.ReleasedPages.{released_below};
+ghost use Rattle.mk_cycle.specs.FinishCycle.{HasReleased};
 ghost use Rattle.mk_cycle.specs.Freeing.{HasFreeCells};
 ghost use Rattle.mk_cycle.specs.EngineLaw.{IsFreeForCycle, IsAtPhase};
 ghost use Rattle.mk_cycle.specs.Releasing.{ReleasesUnmarked};
@@ -24,6 +27,7 @@ pub(crate) fn release_unmarked<E: Engine, R: Threads + Wait + Sync>(
     ensures made_for { E.made_for engine.new ≡ E.made_for engine.old }
     ensures releases { ReleasesUnmarked stop.old.pass stop.new.pass }
     ensures cells { (page : ℕ) → HasFreeCells stop.new.pass page }
+    ensures told { HasReleased stop.old.pass stop.new.pass (released_below (now_of stop.new.pass).words words.now.config.pages) }
 {
     stop.is_in_order();
     engine.close_marks(rt, words, stop);

@@ -1,19 +1,28 @@
 -- What the client's calls ask.
-use Rattle.std.proofs.Common.{◌≡◌, ℕ, ◌+◌, ◌*◌, ◌<◌, List, length, refl, sym, ◌∙◌, ap, subst, arith}
+use Rattle.std.proofs.Common.{◌≡◌, ℕ, ◌+◌, ◌*◌, ◌<◌, ◌≤◌, Bool, true, false, List, [], ◌∷◌, ◌++◌, length, refl, sym, ◌∙◌, ap, subst, arith}
+use Rattle.std.specs.Prelude.{◌||◌}
 use Rattle.std.proofs.lemmas.List.{length-replicate}
+use Rattle.std.proofs.lemmas.List.Folds.{list_any-append}
 use Rattle.mk_never.specs.declared.operations.Op.TheVariants as op
 use Rattle.mk_never.specs.declared.values.Value.TheVariants.{Null}
 use Rattle.mk_never.proofs.Later.{calls_stay}
 use Rattle.mk_core.specs.declared.config.Config.{Config}
 use Rattle.mk_core.specs.declared.events.Event.{Event}
+use Rattle.mk_core.specs.declared.events.Seat.{Seat}
 use Rattle.mk_core.specs.declared.events.Seat.TheVariants.{Caller}
+use Rattle.mk_core.specs.declared.events.Step.TheVariants as step
+use Rattle.mk_core.specs.Config.{IsWithinLimits}
 use Rattle.mk_core.specs.Accesses.{caller_number}
 use Rattle.mk_core.specs.Decided.{asked}
 use Rattle.mk_core.specs.History.{calls, never_behind, never_first}
-use Rattle.mk_words.specs.States.{WordsState, PassState}
+use Rattle.mk_words.specs.Seats.{Has, has_over, is_over}
+use Rattle.mk_words.specs.States.{WordsState, PassState, event_of}
+use Rattle.mk_words.specs.Steps.{Makes}
+use Rattle.mk_words.proofs.Seats.{has_right}
 use Rattle.mk_caller.specs.States.{CallerState, Admits, at_home}
 use Rattle.mk_heap.specs.Clients.{IsPassOf}
-use Rattle.mk_heap.specs.Hosts.{HostState, first_host, pass_for, with_caller_made}
+use Rattle.mk_heap.specs.Ending.{SaysOver}
+use Rattle.mk_heap.specs.Hosts.{AllAreJoined, HostState, first_host, pass_for, with_caller_made, with_joined, with_seen}
 
 -- Each caller has eight registers, whatever happened.
 registers_are : (c : Config) (es : List Event) → length (never_behind c es).registers ≡ 8 * c.callers
@@ -44,3 +53,61 @@ behind_one h g w first is = (
   ap (λ (x : HostState). x.callers) is ∙ ap (λ (x : HostState). x.callers + 1) first,
   ap (λ (x : HostState). x.pass.table) is ∙ ap (λ (x : HostState). x.pass.table) first,
 )
+
+-- its pass behind a call
+pub pass_of_later : (p q : PassState) → q ≡ record p { seen = q.seen } → IsPassOf p.table p → IsPassOf q.table q
+pass_of_later p q is of =
+    subst (λ (r : PassState). IsPassOf r.table r) (sym is)
+    (record { number = of.number; exists = of.exists; table = refl; seat = of.seat; seats = of.seats })
+
+-- the first caller
+pub pass_of_first : (h : HostState) (x : CallerState) (w : WordsState) → h ≡ first_host w → IsWithinLimits w.config
+    → x ≡ at_home (pass_for h (Caller h.callers)) → IsPassOf x.pass.table x.pass
+pass_of_first h x w first limits is =
+    let none : h.callers ≡ 0 = ap (λ (g : HostState). g.callers) first in
+    let some : 1 ≤ w.config.callers = limits.callers.0 in
+    pass_of_next h x w is (ap (λ (g : HostState). g.pass.table) first) (omega arith)
+
+-- Where one caller was made, and no marker, all are joined when it is, whatever was seen since.
+pub one_is_joined : (w : WordsState) (first made h joined over : HostState) (p : PassState) (seen later : List Event)
+    → first ≡ first_host w → made ≡ with_caller_made first → h ≡ with_seen made h.pass.seen
+    → p.seats ≡ Caller first.callers ∷ [] → joined ≡ with_joined h p seen → over ≡ with_seen joined later
+    → AllAreJoined over
+one_is_joined w first made h joined over p seen later is_first is_made is seats is_joined is_over =
+    let begun : h ≡ with_seen (with_caller_made (first_host w)) h.pass.seen =
+    is ∙ ap (λ (g : HostState). with_seen g h.pass.seen)
+    (is_made ∙ ap (λ (g : HostState). with_caller_made g) is_first) in
+    let callers : h.callers ≡ 1 = ap (λ (g : HostState). g.callers) begun in
+    let markers : h.markers ≡ 0 = ap (λ (g : HostState). g.markers) begun in
+    let has : Has p.seats (Caller 0) =
+    subst (λ (l : List Seat). Has l (Caller 0))
+    (sym (seats ∙ ap (λ (g : HostState). Caller g.callers ∷ []) is_first)) refl in
+    subst (λ (g : HostState). AllAreJoined g) (sym (is_over ∙ ap (λ (g : HostState). with_seen g later) is_joined))
+    (record {
+      callers = λ k lt.
+          let zeroth : k ≡ 0 = omega arith in
+          has_right h.pass.seats p.seats (Caller k) (subst (λ (i : ℕ). Has p.seats (Caller i)) (sym zeroth) has);
+      markers = λ k lt. absurd (omega arith);
+    })
+
+-- Behind a call that says so, an `over` is among what was seen.
+
+over_before : (xs ys : List Event) → has_over xs ≡ true → has_over (xs ++ ys) ≡ true
+over_before xs ys h = list_any-append (λ (e : Event). is_over e.step) xs ys ∙ ap (λ (b : Bool). b || has_over ys) h
+
+over_last : (p q : PassState) → Makes p step.Over q → has_over q.seen ≡ true
+over_last p q m =
+    let es : List Event = p.seen ++ m.others in
+    ap (λ (r : PassState). has_over r.seen) m.is
+    ∙ list_any-append (λ (e : Event). is_over e.step) es (event_of p step.Over ∷ [])
+    ∙ either (has_over es)
+  where
+    either : (b : Bool) → (b || true) ≡ true
+    either true = refl
+    either false = refl
+
+pub has_said_over : (p q : PassState) → SaysOver p q → has_over q.seen ≡ true
+has_said_over p q o =
+    ap (λ (r : PassState). has_over r.seen) o.gives.is
+    ∙ over_before (o.said.seen ++ o.gives.others) (event_of o.said step.Give ∷ [])
+    (over_before o.said.seen o.gives.others (over_last o.idle o.said o.says))

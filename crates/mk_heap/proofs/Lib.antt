@@ -1,9 +1,11 @@
-pub mod Counting
 pub mod Joining
 pub mod HostsKept
 pub mod Quarantine
 pub mod Ended
-pub mod Waiting
+pub mod MovedHosts
 pub mod Telling
 pub mod MarkersKept
 pub mod ClientSteps
+pub mod BeforeOver
+pub mod IdleTurns
+pub mod Overs

@@ -1,6 +1,5 @@
 -- What the host asks where it tells a word: a look decides nothing, and the turn may be given back behind it.
-use Rattle.std.proofs.Common.{◌≡◌, ℕ, ◌+◌, false, List, [], ◌∷◌, ◌++◌, refl, sym, ◌∙◌, ap, subst, append-nil, arith}
-use Rattle.std.specs.Prelude.{None}
+use Rattle.std.proofs.Common.{◌≡◌, ◌+◌, false, List, [], ◌∷◌, ◌++◌, refl, sym, ◌∙◌, ap, subst, append-nil, arith}
 use Rattle.std.proofs.lemmas.Bool.{ne_eqb}
 use Rattle.mk_core.specs.declared.config.Config.{Config}
 use Rattle.mk_core.specs.declared.events.Event.{Event}
@@ -20,8 +19,6 @@ use Rattle.mk_words.specs.States.{PassState, now_of}
 use Rattle.mk_words.specs.Steps.{IsAdmittedTo}
 use Rattle.mk_words.specs.TurnSteps.{Acts}
 use Rattle.mk_words.proofs.Tallies.{counts_tidy_more}
-use Rattle.mk_heap.specs.Turns.{TakesTurn}
-use Rattle.mk_heap.proofs.Waiting.{MovesOn, waits_move, moves_more}
 
 -- No step of the host's decides a call.
 pub look_admitted : (p : PassState) (x : Word) → p.seat ≡ Host → IsHistory p.table.config p.seen → IsAdmittedTo p (step.Look x)
@@ -72,7 +69,3 @@ pub given_no_turn : (p q : PassState) → Acts p step.Give q → host_has_turn q
 given_no_turn p q a =
     ne_eqb (now_of q).words.turn (1 + q.table.config.callers)
     (λ e. let zero : (now_of q).words.turn ≡ 0 = ap (λ (w : World). w.now.words.turn) a.world in absurd (omega arith))
-
-pub turn_moves : (p q : PassState) → TakesTurn p q → MovesOn p q
-turn_moves p q t =
-    moves_more p t.waited q (step.Take None) (waits_move p t.waited t.waits) t.takes.makes

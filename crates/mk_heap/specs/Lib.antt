@@ -2,3 +2,4 @@ pub mod Hosts
 pub mod Reports
 pub mod Turns
 pub mod Clients
+pub mod Ending

@@ -1,14 +1,18 @@
-//! A client: a heap from first to last, of which nothing is asked but its configuration.
+//! Clients: heaps from first to last, of which nothing is asked but their configuration.
 ghost use Rattle.std.specs.Prelude.{◌≡◌, ◌<◌, ◌≤◌, IfOk, true};
 ghost use Rattle.mk_core.specs.Config.{IsWithinLimits};
+ghost use Rattle.mk_words.specs.Seats.{has_over};
 ghost use Rattle.mk_heap.specs.Clients.{IsPassOf};
 ghost use Rattle.mk_heap.specs.Reports.{history_of, config_of, IsWhole, HasCounts};
 
 use crate::{Heap, Report};
 use mk_caller::Caller;
 use mk_core::Config;
+use mk_cycle::{Bench, Engine};
 use mk_never::NoMemory;
 use std::alloc::Global;
+use std::sync::Wait;
+use std::thread::Threads;
 
 /// Clears a register, if the caller's gate isn't held.
 fn clear(caller: &mut Caller, d: u8)
@@ -37,5 +41,28 @@ pub(crate) fn two_callers(alloc: Global, config: &Config) -> Result<Report, NoMe
     clear(&mut second, 7);
     host.join_caller(&heap, second.finish());
     host.join_caller(&heap, first.finish());
+    Ok(heap.close(host))
+}
+
+/// A caller makes a call, a cycle is made beside it, and it makes another; when it is joined, all is over.
+pub(crate) fn cycle_beside_a_caller<E: Engine, R: Threads + Wait + Sync>(
+    rt: &R,
+    alloc: Global,
+    config: &Config,
+) -> Result<Report, NoMemory>
+    requires limits { IsWithinLimits config.now }
+    ensures config { IfOk result (λ report. config_of report ≡ config.now) }
+    ensures whole { IfOk result (λ report. IsWhole config.now (history_of report)) }
+    ensures counts { IfOk result (λ report. HasCounts config.now (history_of report) report) }
+    ensures over { IfOk result (λ report. has_over (history_of report) ≡ true) }
+{
+    let (heap, mut host) = Heap::new(alloc, config)?;
+    let mut bench: Bench<E> = Bench::new(alloc, config.pages)?;
+    let mut caller = host.caller(&heap);
+    clear(&mut caller, 0);
+    host.cycle(rt, &heap, &mut bench);
+    clear(&mut caller, 0);
+    host.join_caller(&heap, caller.finish());
+    host.over(rt, &heap, &mut bench);
     Ok(heap.close(host))
 }

@@ -44,6 +44,13 @@ impl Heap {
         ))
     }
 
+    /// Its words, for callers and markers that are made of the passes that the host handed out.
+    pub fn words(&self) -> &Words
+        ensures { result.now ≡ self.now }
+    {
+        &self.words
+    }
+
     /// Ends the heap. All that happened to it is what the host has seen.
     pub fn close(self, host: Host) -> Report
         requires one_table { host.pass.table ≡ self }

@@ -10,10 +10,10 @@ ghost use Rattle.mk_heap.specs.Hosts.{pass_for, with_caller_made, with_marker_ma
 ghost use Rattle.mk_heap.specs.Turns.{is_register, Tells};
 
 use crate::heaps::Heap;
-use crate::turns::take_turn;
 use mk_caller::Caller;
 use mk_core::{Seat, Word};
 use mk_marker::Marker;
+use mk_waiting::take_turn;
 use mk_words::{Pass, Words};
 use std::marker::Model;
 use std::sync::Wait;
@@ -66,6 +66,7 @@ impl Host {
         ensures host { self.new ≡ with_joined self.old pass self.new.pass.seen }
         ensures own { Grows self.old.pass.seats self.old.pass.seen self.new.pass.seen }
         ensures came { Grows pass.seats pass.seen self.new.pass.seen }
+        ensures overs { has_over self.new.pass.seen ≡ has_over self.old.pass.seen }
     {
         match &mut self.pass {
             Some(home) => {
@@ -106,6 +107,7 @@ impl Host {
         ensures host { self.new ≡ with_joined self.old pass self.new.pass.seen }
         ensures own { Grows self.old.pass.seats self.old.pass.seen self.new.pass.seen }
         ensures came { Grows pass.seats pass.seen self.new.pass.seen }
+        ensures overs { has_over self.new.pass.seen ≡ has_over self.old.pass.seen }
     {
         match &mut self.pass {
             Some(home) => {
@@ -125,12 +127,13 @@ impl Host {
         requires no_register { is_register x ≡ false }
         ensures host { self.new ≡ with_seen self.old self.new.pass.seen }
         ensures tells { Tells self.old.pass x result self.new.pass }
+        ensures overs { has_over self.new.pass.seen ≡ has_over self.old.pass.seen }
     {
         let words = &heap.words;
         match self.pass.take() {
             Some(home) => {
                 home.is_in_order();
-                let mut turn = take_turn(rt, words, home);
+                let mut turn = take_turn(rt, words, home, None);
                 turn.is_in_order();
                 let found = turn.look(words, x);
                 turn.is_in_order();

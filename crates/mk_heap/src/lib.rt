@@ -2,10 +2,10 @@
 #![tactic(auto)]
 
 mod clients;
+mod ending;
 mod heaps;
 mod hosts;
 mod reports;
-mod turns;
 
 pub use heaps::Heap;
 pub use hosts::Host;

@@ -1,5 +1,5 @@
 -- A Free whose register is null or points to a first word is admitted, whatever its step.
-use Rattle.std.proofs.Common.{◌≡◌, ℕ, ◌+◌, ◌*◌, ◌<◌, true, List, [], ◌∷◌, ◌++◌, length, replicate, refl, sym, ◌∙◌, ap, subst, arith, append-nil}
+use Rattle.std.proofs.Common.{◌≡◌, ℕ, ◌*◌, ◌<◌, List, [], ◌∷◌, ◌++◌, refl, sym, ◌∙◌, ap, subst, arith, append-nil}
 use Rattle.std.specs.Prelude.{Option, Some, None}
 use Rattle.std.proofs.lemmas.List.{length-replicate, map-append}
 use Rattle.mk_never.specs.declared.operations.Op.{Op}
@@ -7,16 +7,14 @@ use Rattle.mk_never.specs.declared.operations.Op.TheVariants as op
 use Rattle.mk_never.specs.declared.values.Value.{Value}
 use Rattle.mk_never.specs.declared.values.Value.TheVariants.{Null}
 use Rattle.mk_never.specs.Admitted.{AreAdmitted, IsAdmitted, IsBase}
-use Rattle.mk_never.specs.NeverHeap.{Call, NeverState, after_calls, register_at}
+use Rattle.mk_never.specs.NeverHeap.{Call, after_calls, register_at}
 use Rattle.mk_never.proofs.Later.{calls_stay}
 use Rattle.mk_never.proofs.Parts.{admitted_join}
 use Rattle.mk_core.specs.declared.config.Config.{Config}
 use Rattle.mk_core.specs.declared.events.Answer.{Answer}
 use Rattle.mk_core.specs.declared.events.Event.{Event}
-use Rattle.mk_core.specs.declared.events.Seat.{Seat}
 use Rattle.mk_core.specs.declared.events.Seat.TheVariants.{Caller}
 use Rattle.mk_core.specs.declared.events.Step.{Step}
-use Rattle.mk_core.specs.declared.seats.Flight.{Flight}
 use Rattle.mk_core.specs.Decided.{Decided, asked, entry_of}
 use Rattle.mk_core.specs.Effects.{answer_decided}
 use Rattle.mk_core.specs.Growing.{AreOfOthers}

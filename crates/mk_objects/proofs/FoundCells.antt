@@ -1,6 +1,6 @@
 -- The cell that the register of a Free points into, by a look at its page's header.
-use Rattle.std.proofs.Common.{◌≡◌, ◌≢◌, ℕ, ◌+◌, ◌*◌, ◌-◌, ◌/◌, ◌<◌, ◌≤◌, Bool, true, false, refl, sym, ap, subst, ◌∙◌, inl, inr, arith}
-use Rattle.std.specs.Prelude.{◌&&◌, nat_le, nat_lt, Option, Some, None, slice_index_or, option_and_then, if◌then◌else◌}
+use Rattle.std.proofs.Common.{◌≡◌, ℕ, ◌+◌, ◌*◌, ◌<◌, ◌≤◌, true, sym, ap, subst, ◌∙◌, inl, inr, arith}
+use Rattle.std.specs.Prelude.{nat_le, nat_lt, Option, Some, None, option_and_then}
 use Rattle.std.proofs.lemmas.Bool.{and_parts, cases_Bool, leb-true, ltb-true, cond-false}
 use Rattle.mk_geom.specs.declared.addresses.Cell.{Cell}
 use Rattle.mk_geom.specs.declared.headers.Header.{Header}
@@ -11,7 +11,7 @@ use Rattle.mk_core.specs.declared.events.Seat.{Seat}
 use Rattle.mk_core.specs.declared.events.Seat.TheVariants.{Caller}
 use Rattle.mk_core.specs.declared.seats.Flight.{Flight}
 use Rattle.mk_core.specs.Cells.{pointed_cell}
-use Rattle.mk_core.specs.History.{IsHistory, left, never_behind}
+use Rattle.mk_core.specs.History.{IsHistory, never_behind}
 use Rattle.mk_core.specs.Moments.{flight_of}
 use Rattle.mk_core.specs.Allocations.{cell_of_allocation, placed_at}
 use Rattle.mk_core.specs.NewPlaces.{is_undecided_free, target}
@@ -34,7 +34,6 @@ use Rattle.mk_layout.specs.SettledPages.{StandsUsed}
 use Rattle.mk_invariant.proofs.Theorems.{allocations_stand}
 use Rattle.mk_objects.proofs.Looks.{acting_caller}
 use Rattle.mk_objects.proofs.MayAct.{free_is_acting}
-use Rattle.mk_objects.proofs.Reaching.{IsCallers}
 
 -- what points into a cell is an address of the heap
 pub record InHeap (pages u : ℕ) : Type 0 where
@@ -80,7 +79,7 @@ pub record IsPointed (p : PassState) (u : ℕ) : Type 0 where
   pub within : cell.page < p.table.config.pages
   pub index : cell.index < 32
 
-target_of : (pages : ℕ) (w : Words) (f : Flight) (cell : Cell) → is_undecided_free f ≡ true → pointed_cell pages w.pages f.p ≡ Some cell
+pub target_of : (pages : ℕ) (w : Words) (f : Flight) (cell : Cell) → is_undecided_free f ≡ true → pointed_cell pages w.pages f.p ≡ Some cell
     → target pages w f ≡ Some cell
 target_of pages w f cell free is = rw free is
 

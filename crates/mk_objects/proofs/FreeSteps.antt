@@ -1,26 +1,22 @@
 -- The target of a Free is quarantined.
-use Rattle.std.proofs.Common.{◌≡◌, ◌≢◌, ℕ, ◌+◌, ◌-◌, ◌*◌, ◌/◌, ◌%◌, ◌<◌, ◌≤◌, ◌^◌, min, Bool, true, false, List, [], ◌∷◌, ◌++◌, length, map, refl, sym, ap, subst, ◌∙◌, inl, inr, ◌⊎◌, arith}
-use Rattle.std.specs.Prelude.{◌&&◌, ◌||◌, not, ◌==◌, nat_lt, Option, Some, None, if◌then◌else◌, slice_index, slice_index_or, slice_set}
-use Rattle.std.proofs.lemmas.Bool.{and_from, eq-eqb, lt-ltb, ltb-true}
+use Rattle.std.proofs.Common.{◌≡◌, ℕ, ◌+◌, ◌-◌, ◌*◌, ◌/◌, ◌%◌, ◌<◌, ◌^◌, min, true, false, List, [], length, map, refl, sym, ap, subst, ◌∙◌, arith}
+use Rattle.std.specs.Prelude.{◌&&◌, ◌||◌, not, Option, Some, None, is_some, if◌then◌else◌, slice_index, slice_set}
+use Rattle.std.proofs.lemmas.Bool.{and_from, eq-eqb}
 use Rattle.std.proofs.lemmas.List.{set-get_or}
 use Rattle.mk_geom.specs.declared.addresses.Cell.{Cell}
 use Rattle.mk_geom.specs.declared.pages.Page.{Page}
 use Rattle.mk_geom.specs.PageUses.{or_else}
 use Rattle.mk_core.specs.declared.config.Config.{Config}
-use Rattle.mk_core.specs.declared.events.Answer.{Answer}
 use Rattle.mk_core.specs.declared.events.Answer.TheVariants as answer
-use Rattle.mk_core.specs.declared.events.Event.{Event}
 use Rattle.mk_core.specs.declared.events.Seat.{Seat}
 use Rattle.mk_core.specs.declared.events.Seat.TheVariants.{Caller}
-use Rattle.mk_core.specs.declared.events.Step.{Step}
 use Rattle.mk_core.specs.declared.events.Step.TheVariants as step
 use Rattle.mk_core.specs.declared.seats.Flight.{Flight}
 use Rattle.mk_core.specs.declared.seats.Holding.{Holding}
-use Rattle.mk_core.specs.declared.seats.RunPages.{RunPages}
 use Rattle.mk_core.specs.declared.seats.Stage.TheVariants as stage
 use Rattle.mk_core.specs.Allocations.{PlacedAllocation, freed_where_it_stands}
 use Rattle.mk_core.specs.Bits.{has_bit}
-use Rattle.mk_core.specs.Cells.{is_freed, pointed_cell}
+use Rattle.mk_core.specs.Cells.{is_freed}
 use Rattle.mk_core.specs.Effects.{answer_decided, progress_freed, run_of_cell, words_freed}
 use Rattle.mk_core.specs.Frames.{Steady, steady_of}
 use Rattle.mk_core.specs.History.{World, world_behind}
@@ -45,12 +41,14 @@ use Rattle.mk_words.specs.Seats.{Has}
 use Rattle.mk_words.specs.States.{PassState, call_of, now_of, world_of}
 use Rattle.mk_words.specs.Steps.{IsEnabledTo}
 use Rattle.mk_words.specs.TurnSteps.{Acts, IsTurn}
-use Rattle.mk_objects.specs.Placing.{IsOutOfStop, Reaches, entry_for}
+use Rattle.mk_objects.specs.Placing.{IsOutOfStop, entry_for}
 use Rattle.mk_objects.specs.Retiring.{HasFreed, IsFreedAt, is_freeing}
 use Rattle.mk_objects.specs.Unchanged.{IsAsLeft}
 use Rattle.mk_objects.proofs.Looks.{acting_caller, acting_now}
 use Rattle.mk_objects.proofs.MayAct.{free_is_acting, may_free, off_four}
-use Rattle.mk_objects.proofs.Reaching.{reaches_nothing, reaches_on}
+use Rattle.mk_objects.proofs.FreedOnce.{frees_now}
+use Rattle.mk_objects.proofs.Reaching.{made_in, reaches_nothing, reaches_on}
+use Rattle.mk_objects.specs.Dues.{FreesOnce}
 use Rattle.mk_objects.proofs.Serves.{out_of_stop}
 use Rattle.mk_objects.proofs.Takes.{one_bit_more}
 use Rattle.mk_objects.proofs.SeenDoubles.{freed_same, target_same}
@@ -73,8 +71,22 @@ freed_target c m f cell value low at clear is =
     ∙ ap (λ b. if not b && frees m.words (Some cell) cell.page (freed_word m.words cell) then Some cell else None) (off_four m low)
     ∙ ap (λ b. if b then Some cell else None) (frees_it m.words cell clear)
 
+freed_left : (c : Config) (s : Seat) (cell : Cell) (value : ℕ) (w v : World) → IsAsLeft s w v → IsOutOfStop v.now
+    → target c.pages w.now.words (flight_of w.now s) ≡ Some cell → is_freed w.now.words cell ≡ false → value ≡ freed_word w.now.words cell
+    → cell_freed c.pages v.now.words (flight_of v.now s) cell.page value ≡ Some cell
+freed_left c s cell value w v kept low at clear is =
+    let pages : v.now.words.pages ≡ w.now.words.pages = ap (λ (x : Steady). x.pages) kept.steady in
+    let freeds : v.now.words.freed ≡ w.now.words.freed = ap (λ (x : Steady). x.freed) kept.steady in
+    let snapshots : v.now.words.snapshot ≡ w.now.words.snapshot = ap (λ (x : Steady). x.snapshot) kept.steady in
+    let there : target c.pages v.now.words (flight_of v.now s) ≡ Some cell =
+    ap (λ (g : Flight). target c.pages v.now.words g) kept.call ∙ target_same c.pages w.now.words v.now.words (flight_of w.now s) pages ∙ at in
+    let word : freed_word w.now.words cell ≡ freed_word v.now.words cell =
+    sym (ap (λ (xs : List ℕ). quarantine_word (slice_index xs cell.page + 2 ^ cell.index) (slice_index v.now.words.snapshot cell.page)) freeds
+    ∙ ap (λ (xs : List ℕ). quarantine_word (slice_index w.now.words.freed cell.page + 2 ^ cell.index) (slice_index xs cell.page)) snapshots) in
+    freed_target c v.now (flight_of v.now s) cell value low there (freed_same w.now.words v.now.words cell freeds ∙ clear) (is ∙ word)
+
 -- Both halves of the word are apart.
-low_half : (f s : ℕ) → f < 2 ^ 32 → quarantine_word f s % 2 ^ 32 ≡ f
+pub low_half : (f s : ℕ) → f < 2 ^ 32 → quarantine_word f s % 2 ^ 32 ≡ f
 low_half f s lt = omega arith
 
 high_half : (f s : ℕ) → f < 2 ^ 32 → quarantine_word f s / 2 ^ 32 ≡ s
@@ -90,13 +102,7 @@ quar_behind c k cell value w v lt kept low at clear is small =
     let freeds : v.now.words.freed ≡ w.now.words.freed = ap (λ (x : Steady). x.freed) kept.steady in
     let snapshots : v.now.words.snapshot ≡ w.now.words.snapshot = ap (λ (x : Steady). x.snapshot) kept.steady in
     let f : Flight = flight_of v.now (Caller k) in
-    let there : target c.pages v.now.words f ≡ Some cell =
-    ap (λ (g : Flight). target c.pages v.now.words g) kept.call ∙ target_same c.pages w.now.words v.now.words (flight_of w.now (Caller k)) pages ∙ at in
-    let word : freed_word w.now.words cell ≡ freed_word v.now.words cell =
-    sym (ap (λ (xs : List ℕ). quarantine_word (slice_index xs cell.page + 2 ^ cell.index) (slice_index v.now.words.snapshot cell.page)) freeds
-    ∙ ap (λ (xs : List ℕ). quarantine_word (slice_index w.now.words.freed cell.page + 2 ^ cell.index) (slice_index xs cell.page)) snapshots) in
-    let frees : cell_freed c.pages v.now.words f cell.page value ≡ Some cell =
-    freed_target c v.now f cell value low there (freed_same w.now.words v.now.words cell freeds ∙ clear) (is ∙ word) in
+    let frees : cell_freed c.pages v.now.words f cell.page value ≡ Some cell = freed_left c (Caller k) cell value w v kept low at clear is in
     let u : World = world_behind c v (record { seat = Caller k; step = step.Quar cell.page value }) in
     let n : ℕ = slice_index w.now.words.freed cell.page + 2 ^ cell.index in
     let freed : u.now.words.freed ≡ slice_set w.now.words.freed cell.page n =
@@ -126,6 +132,7 @@ quar_behind c k cell value w v lt kept low at clear is small =
         steady = ap (λ (xs : List PlacedAllocation). record (steady_of v) { freed = u.now.words.freed; snapshot = u.now.words.snapshot; fresh_words = u.now.fresh_words; allocations = xs }) allocations
             ∙ ap (λ (x : Steady). record x { freed = u.now.words.freed; snapshot = u.now.words.snapshot; fresh_words = u.now.fresh_words; allocations = map (freed_where_it_stands w.now.words (Some cell)) w.allocations }) kept.steady;
         registers = kept.registers;
+        gates = kept.gates;
       },
       ap (λ (x : Option Cell). (progress_freed f x).answer) frees,
     )
@@ -158,7 +165,7 @@ pub quarantine_reaches : (p q : PassState) (cell : Cell) (value : ℕ) (o : Opti
 quarantine_reaches p q cell value o turn free at clear low is small a own history =
     let caller = acting_caller p (free_is_acting (call_of p) free) in
     reaches_on is_freeing p p q (λ w. w ≡ world_of p) (IsFreedAt p.table.config p.seat cell (world_of p)) [] (entry_for p answer.Done)
-    (step.Quar cell.page value) (reaches_nothing is_freeing p (λ w. w ≡ world_of p) refl) a own history refl caller
+    (step.Quar cell.page value) (reaches_nothing is_freeing p (λ w. w ≡ world_of p) refl) a own history refl refl caller
     (λ w v first kept known pages.
     let kept : IsAsLeft p.seat (world_of p) v = subst (λ (x : World). IsAsLeft p.seat x v) first kept in
     let to = frees_at p cell value v known low p.seat caller.number caller.is kept turn.holds at clear is small in
@@ -166,10 +173,21 @@ quarantine_reaches p q cell value o turn free at clear low is small a own histor
       world = to.0;
       answer = Some answer.Done;
       decides = to.1;
+      no_full = refl;
       entry = λ k is.
           ap (λ (f : Flight). entry_of k f.op (Some answer.Done)) kept.call
           ∙ ap (λ i. entry_of i (call_of p).op (Some answer.Done)) (sym (ap caller_number is));
     })
+
+-- and frees once
+pub quarantine_once : (p q : PassState) (cell : Cell) (value : ℕ) (o : Option Op) → IsTurn p o
+    → target p.table.config.pages (now_of p).words (call_of p) ≡ Some cell → is_freed (now_of p).words cell ≡ false → IsOutOfStop (now_of p)
+    → value ≡ freed_word (now_of p).words cell
+    → Acts p (step.Quar cell.page value) q → Has p.seats p.seat → IsHistory q.table.config q.seen → FreesOnce p q
+quarantine_once p q cell value o turn at clear low is a own history =
+    frees_now p q (step.Quar cell.page value) (made_in p p.seen (step.Quar cell.page value) q a own history) history turn.holds
+    (λ v kept. ap (λ (x : Option Cell). is_some x)
+    (freed_left p.table.config p.seat cell value (world_of p) v kept (out_of_stop (now_of p) v.now (ap (λ (x : Steady). x.phase) kept.steady) low) at clear is))
 
 pub quarantine_may : (p : PassState) (cell : Cell) (value : ℕ) (o : Option Op) → IsTurn p o → is_undecided_free (call_of p) ≡ true
     → target p.table.config.pages (now_of p).words (call_of p) ≡ Some cell → is_freed (now_of p).words cell ≡ false → IsOutOfStop (now_of p)

@@ -29,6 +29,7 @@ use Rattle.mk_turns.proofs.Doing.{does_then}
 use Rattle.mk_objects.specs.Entries.{own_calls}
 use Rattle.mk_objects.specs.Placing.{GoesTo, HeldIsExact, IsGranted, IsGrantedAt, IsOutOfStop, IsUnplaced, OnlyLooks, entry_for, is_look, is_placing, object_at_place, object_for}
 use Rattle.mk_objects.specs.Unchanged.{IsAsLeft}
+use Rattle.mk_objects.proofs.Counted.{counts_then}
 use Rattle.mk_objects.proofs.Reaching.{reaches_nothing, seeing}
 use Rattle.mk_objects.proofs.Unchanged.{left_joined, left_same}
 
@@ -77,6 +78,7 @@ looks_joined p q r a b = by (subst (λ (x : PassState). OnlyLooks x r) a.same b)
           does = does_then is_look p q r a.does (subst (λ (x : PassState). Does is_look x r) (sym a.same) b.does);
           calls = b.calls ∙ append-nil (own_calls p q.seen) ∙ a.calls;
           world = left_joined p.seat (world_of p) _ _ a.world b.world;
+          counts = counts_then p.table.config p.seen q.seen r.seen a.counts b.counts;
         }
 
 -- What is granted behind looks is granted.
@@ -113,6 +115,7 @@ granted_behind_looks p q r place a b = by (subst (λ (x : PassState). IsGranted 
               ∙ append-nil (own_calls p p.seen))
               ∙ ap (λ (f : Flight). own_calls p p.seen ++ entry_of (caller_number p.seat) f.op (Some answer.Done)) a.world.call;
           world = granted_over p.table.config p.seat place (world_of p) _ _ a.world b.world;
+          counts = counts_then p.table.config p.seen q.seen r.seen a.counts b.counts;
         }
 
 -- Looks leave a New unplaced, and the tally as it is.

@@ -5,6 +5,7 @@ pub mod Granting
 pub mod FoundPlaces
 pub mod HeldMore
 pub mod OwnCalls
+pub mod Counted
 pub mod Reaching
 pub mod Looks
 pub mod JoinedLooks
@@ -21,3 +22,19 @@ pub mod FoundCells
 pub mod SeenDoubles
 pub mod FreeSteps
 pub mod FreedTold
+pub mod ListParts
+pub mod TurnEvents
+pub mod FreedOnce
+pub mod ReachedParts
+pub mod GoneRuns
+pub mod SetGates
+pub mod UnmappedRuns
+pub mod HeldFreed
+pub mod FreedObjects
+pub mod DecidedFrees
+pub mod SetTallies
+pub mod SmallFrees
+pub mod ClearedRuns
+pub mod PreparedFrees
+pub mod LargeFrees
+pub mod Retirements

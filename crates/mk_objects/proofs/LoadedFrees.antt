@@ -1,13 +1,11 @@
 -- The register of a Free is loaded.
-use Rattle.std.proofs.Common.{◌≡◌, ◌≢◌, ℕ, ◌+◌, ◌*◌, ◌<◌, Bool, true, false, List, [], ◌∷◌, ◌++◌, length, refl, sym, ap, subst, ◌∙◌, inl, inr}
-use Rattle.std.specs.Prelude.{◌==◌, Option, Some, None, if◌then◌else◌, slice_index}
-use Rattle.std.proofs.lemmas.Bool.{cases_Bool, lt-ltb, ltb-true}
-use Rattle.std.proofs.lemmas.List.{map-append}
+use Rattle.std.proofs.Common.{◌≡◌, ℕ, ◌+◌, ◌*◌, ◌/◌, ◌%◌, ◌<◌, Bool, true, false, List, [], ◌∷◌, ◌++◌, length, refl, sym, ap, subst, ◌∙◌, arith}
+use Rattle.std.specs.Prelude.{◌==◌, Option, Some, None, if◌then◌else◌}
+use Rattle.std.proofs.lemmas.Bool.{eqb-true, lt-ltb}
 use Rattle.mk_never.specs.declared.operations.Op.{Op}
 use Rattle.mk_never.specs.declared.operations.Op.TheVariants as op
 use Rattle.mk_core.specs.declared.accesses.Access.TheVariants.{Load}
 use Rattle.mk_core.specs.declared.config.Config.{Config}
-use Rattle.mk_core.specs.declared.events.Answer.{Answer}
 use Rattle.mk_core.specs.declared.events.Answer.TheVariants as answer
 use Rattle.mk_core.specs.declared.events.Event.{Event}
 use Rattle.mk_core.specs.declared.events.Seat.{Seat}
@@ -19,36 +17,39 @@ use Rattle.mk_core.specs.declared.seats.Stage.{Stage}
 use Rattle.mk_core.specs.declared.seats.Stage.TheVariants as stage
 use Rattle.mk_core.specs.Accesses.{caller_number, found, reg_access, register_met}
 use Rattle.mk_core.specs.Calls.{begun, progress_reg}
-use Rattle.mk_core.specs.Decided.{Decided, asked, entry_of}
-use Rattle.mk_core.specs.Effects.{answer_decided, moment_behind, progress}
-use Rattle.mk_core.specs.History.{IsAdmittedBehind, IsHistory, World, call_decided, calls, first_world, left, never_behind, never_first, world_behind}
-use Rattle.mk_core.specs.Layout.{AreOfPages}
-use Rattle.mk_core.specs.Moments.{Moment, flight_of}
+use Rattle.mk_core.specs.Decided.{entry_of}
+use Rattle.mk_core.specs.Effects.{answer_decided, moment_behind}
+use Rattle.mk_core.specs.History.{IsAdmittedBehind, IsHistory, World, bases_of, left, never_behind, world_behind}
+use Rattle.mk_core.specs.Moments.{Moment, flight_of, is_held}
 use Rattle.mk_core.specs.NewPlaces.{is_undecided_free}
 use Rattle.mk_core.specs.Enabled.{IsEnabled}
-use Rattle.mk_core.specs.Order.{comes_next, seat_exists}
+use Rattle.mk_core.specs.Order.{comes_next}
 use Rattle.mk_core.specs.Readings.{Holds}
 use Rattle.mk_core.specs.Words.{Words, accessed, register_word}
 use Rattle.mk_core.specs.Frames.{steady_of}
 use Rattle.mk_core.specs.declared.accesses.TableWord.TheVariants.{Named}
 use Rattle.mk_core.specs.declared.events.Word.TheVariants as word
 use Rattle.mk_core.proofs.Conditions.{meets_enabled}
-use Rattle.mk_core.proofs.Histories.{calls_more}
 use Rattle.mk_protocol.proofs.Known.{Known}
+use Rattle.mk_protocol.proofs.OthersCounts.{answers_full}
 use Rattle.mk_words.specs.CallSteps.{register_of}
 use Rattle.mk_words.specs.Seats.{Has}
 use Rattle.mk_words.specs.States.{PassState, call_of, event_of, now_of, world_of}
 use Rattle.mk_words.specs.Steps.{IsAdmittedTo, IsEnabledTo}
 use Rattle.mk_words.specs.TurnSteps.{Acts, IsTurn}
-use Rattle.mk_objects.specs.Placing.{Reaches, entry_for}
 use Rattle.mk_core.specs.Growing.{AreOfOthers}
 use Rattle.mk_core.specs.declared.events.Step.{Step}
 use Rattle.mk_never.specs.Admitted.{IsBase}
+use Rattle.mk_never.specs.declared.values.Value.{Value}
+use Rattle.mk_never.specs.declared.values.Value.TheVariants.{Null, Num, Ptr}
+use Rattle.mk_core.specs.Image.{image_of}
+use Rattle.mk_images.specs.Images.{shown}
+use Rattle.mk_invariant.proofs.Histories.{histories_keep_the_invariant}
 use Rattle.mk_never.specs.NeverHeap.{register_at}
-use Rattle.mk_objects.specs.Retiring.{CallIsAt, HasLoaded, IsFreeAt, IsUnloaded, value_of, entry_loaded, is_freeing, loaded_free}
+use Rattle.mk_objects.specs.Retiring.{CallIsAt, HasLoaded, IsFreeAt, IsUnloaded, value_of, entry_loaded, is_loading, loaded_free}
 use Rattle.mk_objects.specs.Unchanged.{IsAsLeft}
 use Rattle.mk_objects.proofs.AdmittedFrees.{free_admits, registers_kept}
-use Rattle.mk_objects.proofs.Reaching.{GoesOn, IsCallers, StepsTo, made_in, reaches_nothing, reaches_on}
+use Rattle.mk_objects.proofs.Reaching.{IsCallers, made_in, reaches_nothing, reaches_on}
 use Rattle.mk_objects.proofs.Unchanged.{call_behind}
 
 -- Any step of a Free is admitted.
@@ -171,6 +172,10 @@ loaded_entry : (k : ℕ) (o : Op) (b : Bool) → entry_of k o (if b then Some an
 loaded_entry k o true = refl
 loaded_entry k o false = refl
 
+loaded_no_full : (b : Bool) → answers_full (if b then Some answer.Done else None) ≡ false
+loaded_no_full true = refl
+loaded_no_full false = refl
+
 loaded_found : (c : Config) (m : Moment) (k r : ℕ) → flight_of m (Caller k) ≡ begun (op.Free r)
     → found c m (record { seat = Caller k; step = step.Reg }) ≡ register_word m.words k r
 loaded_found c m k r call = ap (λ (f : Flight). register_word m.words k (register_met f f.stage)) call
@@ -199,6 +204,7 @@ load_steps c k r n w v lt kept call small is =
         holding = kept.holding;
         steady = ap (λ (ws : Words). steady_of (record v { now = record v.now { words = ws } })) words ∙ kept.steady;
         registers = λ j i is lt. ap (λ (ws : Words). register_word ws j i) words ∙ kept.registers j i is lt;
+        gates = λ j. ap (λ (ws : Words). is_held ws j) words ∙ kept.gates j;
       };
       answer = ap (λ (f : Flight). (progress_reg f f.stage (found c v.now e)).answer) here
           ∙ ap (λ i. (progress_reg (begun (op.Free r)) stage.LoadP i).answer) same ∙ loads_answer r n;
@@ -225,8 +231,8 @@ pub load_reaches : (p q : PassState) (r n : ℕ) (o : Option Op) → r < 8 → I
 load_reaches p q r n o small turn u a own history is =
     let caller = unloaded_caller p r u.call in
     let here : n ≡ register_word (now_of p).words caller.number r = is ∙ ap (λ (x : Seat). register_word (now_of p).words (caller_number x) r) caller.is in
-    reaches_on is_freeing p p q (λ w. w ≡ world_of p) (CallIsAt p.seat (loaded_free r n) (world_of p)) [] (entry_loaded p n) step.Reg
-    (reaches_nothing is_freeing p (λ w. w ≡ world_of p) refl) a own history refl caller
+    reaches_on is_loading p p q (λ w. w ≡ world_of p) (CallIsAt p.seat (loaded_free r n) (world_of p)) [] (entry_loaded p n) step.Reg
+    (reaches_nothing is_loading p (λ w. w ≡ world_of p) refl) a own history refl refl caller
     (λ w v first kept known pages.
     let kept : IsAsLeft p.seat (world_of p) v = subst (λ (x : World). IsAsLeft p.seat x v) first kept in
     let to = lands p r n v small known p.seat caller.number caller.is kept turn.holds u.call here in
@@ -234,6 +240,7 @@ load_reaches p q r n o small turn u a own history is =
       world = to.0;
       answer = if n == 0 then Some answer.Done else None;
       decides = to.1;
+      no_full = loaded_no_full (n == 0);
       entry = λ k is.
           ap (λ (f : Flight). entry_of k f.op (if n == 0 then Some answer.Done else None)) kept.call
           ∙ loaded_entry k (call_of p).op (n == 0)
@@ -255,3 +262,39 @@ pub loaded_undecided : (p : PassState) (r u : ℕ) → IsFreeAt p r (loaded_free
 loaded_undecided p r u at some =
     ap (λ (f : Flight). is_undecided_free f) at.call
     ∙ ap (λ (b : Bool). is_undecided_free (record (begun (op.Free r)) { stage = if b then stage.Give else stage.Turn; p = u })) some
+
+-- A register whose word is 0 is null.
+
+null_by : (bases : List ℕ) (v : Value) → IsBase v → image_of bases v ≡ 0 → v ≡ Null
+null_by bases Null base is = refl
+null_by bases (Num n) base is = absurd base
+null_by bases (Ptr number ty offset) base is = absurd (omega arith)
+
+null_at : (c : Config) (es : List Event) (k r : ℕ) → IsHistory c es → r < 8 → flight_of (left c es).now (Caller k) ≡ begun (op.Free r)
+    → IsBase (register_at (never_behind c es) k r) → register_word (left c es).now.words k r ≡ 0 → register_at (never_behind c es) k r ≡ Null
+null_at c es k r h small call base zero =
+    let images = (histories_keep_the_invariant c es h).mirrors.images in
+    let place : (8 * k + r) / 8 ≡ k = omega arith in
+    let rest : (8 * k + r) % 8 ≡ r = omega arith in
+    let here : shown (flight_of (left c es).now (Caller ((8 * k + r) / 8))) ((8 * k + r) % 8) (register_word (left c es).now.words k r) ≡ 0 =
+    ap (λ i. shown (flight_of (left c es).now (Caller i)) ((8 * k + r) % 8) (register_word (left c es).now.words k r)) place
+    ∙ ap (λ (f : Flight). shown f ((8 * k + r) % 8) (register_word (left c es).now.words k r)) call ∙ zero in
+    null_by (bases_of (left c es).allocations) (register_at (never_behind c es) k r) base (sym (images.registers (8 * k + r)) ∙ here)
+
+pub load_null : (p : PassState) (r n : ℕ) → IsHistory p.table.config p.seen → IsUnloaded p r → n ≡ register_of p r → (n == 0) ≡ true
+    → value_of p r ≡ Null
+load_null p r n h u is none =
+    let caller = unloaded_caller p r u.call in
+    by p.seat caller.is u.call u.base (sym is ∙ eqb-true n 0 none)
+  where
+    by : (s : Seat) → s ≡ Caller (unloaded_caller p r u.call).number → flight_of (now_of p) s ≡ begun (op.Free r)
+        → IsBase (register_at (never_behind p.table.config p.seen) (caller_number s) r) → register_word (now_of p).words (caller_number s) r ≡ 0
+        → register_at (never_behind p.table.config p.seen) (caller_number s) r ≡ Null
+    by s e call base zero =
+        subst
+        (λ (x : Seat). flight_of (now_of p) x ≡ begun (op.Free r)
+        → IsBase (register_at (never_behind p.table.config p.seen) (caller_number x) r) → register_word (now_of p).words (caller_number x) r ≡ 0
+        → register_at (never_behind p.table.config p.seen) (caller_number x) r ≡ Null)
+        (sym e)
+        (λ c b z. null_at p.table.config p.seen (unloaded_caller p r u.call).number r h u.small c b z)
+        call base zero

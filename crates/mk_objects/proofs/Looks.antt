@@ -74,7 +74,7 @@ pub look_reaches : (p q : PassState) (o : Option Op) (x : Word) → IsTurn p o �
     → Has p.seats p.seat → IsHistory q.table.config q.seen → OnlyLooks p q
 look_reaches p q o x turn acts plain a own history =
     reaches_still is_look p p q (IsAsLeft p.seat (world_of p)) (IsAsLeft p.seat (world_of p)) [] (step.Look x)
-    (reaches_nothing is_look p (IsAsLeft p.seat (world_of p)) (left_same p.seat (world_of p))) a own history refl
+    (reaches_nothing is_look p (IsAsLeft p.seat (world_of p)) (left_same p.seat (world_of p))) a own history refl refl
     (acting_caller p acts) (plain_is_idle x plain) (looks_on p x (acting_now p o turn acts) plain)
 
 -- What it finds is what the word is for the holder.

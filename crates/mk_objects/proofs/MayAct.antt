@@ -1,7 +1,9 @@
 -- What the turn's holder may do, whatever the moment.
-use Rattle.std.proofs.Common.{◌≡◌, ℕ, ◌<◌, true, false, refl, ap, ◌∙◌, ◌⊎◌, inl, inr}
-use Rattle.std.specs.Prelude.{◌||◌, not, ◌==◌}
-use Rattle.std.proofs.lemmas.Bool.{lt-ltb, eq-eqb, or_left, or_right}
+use Rattle.std.proofs.Common.{◌≡◌, ℕ, ◌*◌, ◌<◌, true, false, refl, ap, ◌∙◌, ◌⊎◌, inl, inr}
+use Rattle.std.specs.Prelude.{◌||◌, not, nat_lt, ◌==◌}
+use Rattle.std.proofs.lemmas.Bool.{and_from, lt-ltb, eq-eqb, or_left, or_right}
+use Rattle.mk_geom.specs.Addresses.{address_of}
+use Rattle.mk_core.specs.Bounded.{is_some_and}
 use Rattle.mk_never.specs.declared.operations.Op.{Op}
 use Rattle.mk_never.specs.declared.operations.Op.TheVariants as op
 use Rattle.mk_geom.specs.Headers.{header_of}
@@ -16,14 +18,14 @@ use Rattle.mk_core.specs.declared.events.Word.TheVariants as word
 use Rattle.mk_core.specs.declared.seats.Stage.{Stage}
 use Rattle.mk_core.specs.declared.seats.Stage.TheVariants as stage
 use Rattle.mk_core.specs.Words.{phase_of}
-use Rattle.mk_core.specs.Cells.{is_unmapped_header}
+use Rattle.mk_core.specs.Cells.{is_released, is_unmapped_header, pointed_cell}
 use Rattle.mk_core.specs.Enabled.{IsEnabled, marker_may, holder_may}
-use Rattle.mk_core.specs.Moments.{Moment, flight_of, marker_at, is_phase, others_are_held}
-use Rattle.mk_core.specs.NewPlaces.{is_new_at, is_undecided_free, is_undecided_new, target, object_made}
+use Rattle.mk_core.specs.Moments.{Moment, flight_of, is_held, is_number_of, marker_at, is_phase, others_are_held}
+use Rattle.mk_core.specs.NewPlaces.{is_new_at, is_run_gone, is_undecided_free, is_undecided_new, target, object_made}
 use Rattle.mk_core.specs.Order.{comes_next, group_of, is_in_order, is_of_any_holder, is_open_to, may_decide, seat_exists}
 use Rattle.mk_core.specs.Ranges.{is_in_range, is_run_cell, is_word, has_gates, has_phase}
 use Rattle.mk_core.specs.StopConditions.{marks_by_hand, marks_place}
-use Rattle.mk_core.specs.TurnConditions.{carves, frees, takes_snapshot, is_used_once, place_now, takes_cell, unmaps}
+use Rattle.mk_core.specs.TurnConditions.{carves, frees, is_in_gone_run, takes_snapshot, is_used_once, place_now, takes_cell, unmaps}
 use Rattle.mk_core.specs.declared.events.Word.{Word}
 use Rattle.mk_core.specs.declared.seats.Flight.{Flight}
 use Rattle.mk_core.proofs.Conditions.{meets_enabled}
@@ -156,3 +158,33 @@ module _ (c : Config) (m : Moment) (s : Seat) (at : IsActing c m s) where
       → IsEnabled c m (record { seat = s; step = step.Grant })
   may_grant new low once =
       may_by step.Grant refl (grant_in_order c m s new) refl refl (low_phase (phase_of m.words) low) refl once
+
+  pub may_hold : (j : ℕ) → j < c.callers → is_number_of s j ≡ false → is_held m.words j ≡ false
+      → IsEnabled c m (record { seat = s; step = step.Hold j })
+  may_hold j lt other not_held =
+      may_by (step.Hold j) refl (order_of_acting c m s (step.Hold j) at.acts refl)
+      (and_from (nat_lt j c.callers) (not (is_number_of s j)) (lt-ltb j c.callers lt) (ap not other)) (ap not not_held) refl refl refl
+
+  pub may_open : (j : ℕ) → j < c.callers → is_number_of s j ≡ false → is_held m.words j ≡ true → IsOutOfStop m
+      → is_run_gone m.words m.seats.holding.freed ≡ true → IsEnabled c m (record { seat = s; step = step.Open j })
+  may_open j lt other held low gone =
+      may_by (step.Open j) refl (order_of_acting c m s (step.Open j) at.acts refl)
+      (and_from (nat_lt j c.callers) (not (is_number_of s j)) (lt-ltb j c.callers lt) (ap not other)) held
+      (ap not (off_three low)) refl gone
+    where
+      off_three : IsOutOfStop m → (phase_of m.words == 3) ≡ false
+      off_three (inl none) = ap (λ (n : ℕ). n == 3) none
+      off_three (inr one) = ap (λ (n : ℕ). n == 3) one
+
+  pub may_unmap : (p v : ℕ) → p < c.pages → IsOutOfStop m → others_are_held c.callers m.words s ≡ true
+      → unmaps m.words m.seats.holding.freed p v ≡ true → IsEnabled c m (record { seat = s; step = step.Head p v })
+  may_unmap p v within low held unmap =
+      may_by (step.Head p v) refl (order_of_acting c m s (step.Head p v) at.acts refl) (lt-ltb p c.pages within)
+      (or_right (not (is_unmapped_header (header_of v))) _ held) (low_or_more (phase_of m.words) 4 low) refl
+      (rw (off_four m low) (or_right (carves m.words (object_made c (flight_of m s).op) (place_now c m (flight_of m s)) p v) _ unmap))
+
+  pub may_wipe : (n : ℕ) → n < 64 * c.pages → is_in_gone_run m.words m.seats.holding.freed n ≡ true
+      → IsEnabled c m (record { seat = s; step = step.Wipe n })
+  may_wipe n within gone =
+      may_by (step.Wipe n) refl (order_of_acting c m s (step.Wipe n) at.acts refl) (lt-ltb n (64 * c.pages) within) refl refl refl
+      (or_right (is_some_and (is_released m.words) (pointed_cell c.pages m.words.pages (address_of n))) _ gone)

@@ -1,6 +1,7 @@
 -- The turn's holder goes on by a step.
-use Rattle.std.proofs.Common.{◌≡◌, ℕ, Bool, true, false, List, [], ◌∷◌, ◌++◌, refl, sym, ◌∙◌, ap, subst, append-nil, append_assoc}
-use Rattle.std.specs.Prelude.{Option, None}
+use Rattle.std.proofs.Common.{◌≡◌, ◌≢◌, ℕ, Bool, true, false, List, [], ◌∷◌, ◌++◌, refl, sym, ◌∙◌, ap, subst, append-nil, append_assoc, inl, inr}
+use Rattle.std.specs.Prelude.{◌==◌, Option, None}
+use Rattle.std.proofs.lemmas.Bool.{cases_eq, eq-eqb, ne_eqb}
 use Rattle.mk_core.specs.declared.config.Config.{Config}
 use Rattle.mk_core.specs.declared.events.Answer.{Answer}
 use Rattle.mk_core.specs.declared.events.Event.{Event}
@@ -9,12 +10,15 @@ use Rattle.mk_core.specs.declared.events.Seat.TheVariants.{Caller}
 use Rattle.mk_core.specs.declared.events.Step.{Step}
 use Rattle.mk_core.specs.Decided.{Decided, entry_of}
 use Rattle.mk_core.specs.Effects.{answer_decided}
+use Rattle.mk_core.specs.Cycles.{is_end}
+use Rattle.mk_core.specs.Frames.{CountsAreLeft, HoldsAll, written_of}
 use Rattle.mk_core.specs.Growing.{AreOfOthers}
 use Rattle.mk_core.specs.History.{World, IsHistory, left, world_behind}
 use Rattle.mk_core.specs.Layout.{AreOfPages}
 use Rattle.mk_core.specs.Moments.{flight_of}
 use Rattle.mk_core.proofs.Lengths.{histories_keep_lengths}
 use Rattle.mk_protocol.proofs.Known.{Known}
+use Rattle.mk_protocol.proofs.OthersCounts.{answers_full}
 use Rattle.mk_words.specs.Seats.{Has}
 use Rattle.mk_words.specs.States.{PassState, event_of, world_of}
 use Rattle.mk_words.specs.Steps.{may_decide}
@@ -26,11 +30,18 @@ use Rattle.mk_turns.proofs.Doing.{does_nothing, does_step, does_then}
 use Rattle.mk_objects.specs.Entries.{own_calls}
 use Rattle.mk_objects.specs.Placing.{Reaches}
 use Rattle.mk_objects.specs.Unchanged.{IsAsLeft}
+use Rattle.mk_objects.proofs.Counted.{counts_more, counts_then}
 use Rattle.mk_objects.proofs.OwnCalls.{own_step_adds}
 
 -- the pass, where it has seen these
 abbrev pub seeing : PassState → List Event → PassState
 seeing p es = record p { seen = es }
+
+held_so : (a b : ℕ) → (a ≡ 2 → b ≡ 2) → (a ≢ 2 → b ≢ 2) → (b == 2) ≡ (a == 2)
+held_so a b held free = elim (cases_eq a 2) [
+  | inl e ↦ eq-eqb b 2 (held e) ∙ sym (eq-eqb a 2 e)
+  | inr ne ↦ ne_eqb b 2 (free ne) ∙ sym (ne_eqb a 2 ne)
+]
 
 -- The step was made in this world, which others had left the holder its own.
 pub record MadeIn (p : PassState) (es : List Event) (s : Step) (r : PassState) : Type 0 where
@@ -38,6 +49,9 @@ pub record MadeIn (p : PassState) (es : List Event) (s : Step) (r : PassState) :
   pub of_others : AreOfOthers (p.seat ∷ []) others
   pub same : r ≡ seeing p (es ++ others ++ event_of p s ∷ [])
   pub kept : IsAsLeft p.seat (left p.table.config es) (left p.table.config (es ++ others))
+  pub stop : HoldsAll p.table.config (left p.table.config es).now p.seat
+      → written_of (left p.table.config (es ++ others)) ≡ written_of (left p.table.config es)
+  pub counts : CountsAreLeft p.table.config es (es ++ others)
   pub behind : world_of r ≡ world_behind p.table.config (left p.table.config (es ++ others)) (event_of p s)
   pub known : Known p.table.config (left p.table.config (es ++ others)).now
   pub does : (kinds : Step → Bool) → kinds s ≡ true → Does kinds (seeing p es) r
@@ -56,7 +70,10 @@ made_in p es s r a own history =
         steady = a.turn.steady;
         marks = a.turn.marks_grow;
         registers = a.own.registers;
+        gates = λ j. held_so _ _ (a.turn.held_gates j) (a.turn.other_gates j);
       };
+      stop = a.stop;
+      counts = a.counts;
       behind = a.world;
       known = d.known;
       does = λ kinds ok. does_step kinds (seeing p es) r s own a.makes ok;
@@ -64,13 +81,20 @@ made_in p es s r a own history =
 
 pub reaches_nothing : (kinds : Step → Bool) (p : PassState) (A : World → Type 0) → A (world_of p) → Reaches kinds p A [] p
 reaches_nothing kinds p A here =
-    record { same = refl; does = does_nothing kinds p; calls = sym (append-nil (own_calls p p.seen)); world = here }
+    record {
+      same = refl;
+      does = does_nothing kinds p;
+      calls = sym (append-nil (own_calls p p.seen));
+      world = here;
+      counts = record { ends = refl; fulls = refl };
+    }
 
 -- What a step that is made in a world comes to, and the entry that it adds to the calls of its own.
 pub record StepsTo (p : PassState) (s : Step) (B : World → Type 0) (es : List Decided) (v : World) : Type 0 where
   pub world : B (world_behind p.table.config v (event_of p s))
   pub answer : Option Answer
   pub decides : answer_decided p.table.config v.now (event_of p s) ≡ answer
+  pub no_full : answers_full answer ≡ false
   pub entry : (k : ℕ) → p.seat ≡ Caller k → entry_of k (flight_of v.now p.seat).op answer ≡ es
 
 pub record IsCallers (p : PassState) : Type 0 where
@@ -100,19 +124,27 @@ abbrev pub GoesOn : (p : PassState) (A : World → Type 0) (C : World → Type 0
 GoesOn p A C =
     (w v : World) → A w → IsAsLeft p.seat w v → Known p.table.config v.now → AreOfPages p.table.config.pages v.now.words → C v
 
+-- and, while all others are stopped, that they have left all words as they were
+abbrev pub GoesOnInStop : (p : PassState) (A : World → Type 0) (C : World → Type 0) → Type 0
+GoesOnInStop p A C =
+    (w v : World) → A w → IsAsLeft p.seat w v → (HoldsAll p.table.config w.now p.seat → written_of v ≡ written_of w)
+    → Known p.table.config v.now → AreOfPages p.table.config.pages v.now.words → C v
+
 -- One step further.
-pub reaches_on : (kinds : Step → Bool) (p q r : PassState) (A B : World → Type 0) (ds es : List Decided) (s : Step)
+pub reaches_in_stop : (kinds : Step → Bool) (p q r : PassState) (A B : World → Type 0) (ds es : List Decided) (s : Step)
     → Reaches kinds p A ds q
-    → Acts q s r → Has q.seats q.seat → IsHistory r.table.config r.seen → kinds s ≡ true → IsCallers p → GoesOn p A (StepsTo p s B es)
+    → Acts q s r → Has q.seats q.seat → IsHistory r.table.config r.seen → kinds s ≡ true → is_end s ≡ false → IsCallers p
+    → GoesOnInStop p A (StepsTo p s B es)
     → Reaches kinds p B (ds ++ es) r
-reaches_on kinds p q r A B ds es s reached acts own history allowed caller next =
+reaches_in_stop kinds p q r A B ds es s reached acts own history allowed no_end caller next =
     let c : Config = p.table.config in
     let m : MadeIn p q.seen s r =
     made_in p q.seen s r (subst (λ (x : PassState). Acts x s r) reached.same acts)
     (subst (λ (x : PassState). Has x.seats x.seat) reached.same own) history in
     let v : World = left c (q.seen ++ m.others) in
-    let on : StepsTo p s B es v = next (left c q.seen) v reached.world m.kept m.known (histories_keep_lengths c (q.seen ++ m.others)) in
+    let on : StepsTo p s B es v = next (left c q.seen) v reached.world m.kept m.stop m.known (histories_keep_lengths c (q.seen ++ m.others)) in
     let seen : r.seen ≡ q.seen ++ m.others ++ event_of p s ∷ [] = ap (λ (x : PassState). x.seen) m.same in
+    let one = counts_more c (q.seen ++ m.others) (event_of p s) no_end (ap answers_full on.decides ∙ on.no_full) in
     record {
       same = m.same ∙ ap (λ (l : List Event). seeing p l) (sym seen);
       does = does_then kinds p q r reached.does (subst (λ (x : PassState). Does kinds x r) (sym reached.same) (m.does kinds allowed));
@@ -120,19 +152,48 @@ reaches_on kinds p q r A B ds es s reached acts own history allowed caller next 
           ∙ own_adds p caller.number caller.is q.seen m.others s es m.of_others on.answer on.decides (on.entry caller.number caller.is)
           ∙ ap (λ (l : List Decided). l ++ es) reached.calls ∙ append_assoc (own_calls p p.seen) ds es;
       world = subst B (sym m.behind ∙ ap (λ (x : PassState). world_of x) m.same ∙ ap (λ (l : List Event). left c l) (sym seen)) on.world;
+      counts = subst (λ (l : List Event). CountsAreLeft c p.seen l) (sym seen)
+          (counts_then c p.seen (q.seen ++ m.others) (q.seen ++ m.others ++ event_of p s ∷ [])
+          (counts_then c p.seen q.seen (q.seen ++ m.others) reached.counts m.counts) one);
     }
 
--- a step that decides nothing
-pub reaches_still : (kinds : Step → Bool) (p q r : PassState) (A B : World → Type 0) (ds : List Decided) (s : Step)
+pub reaches_on : (kinds : Step → Bool) (p q r : PassState) (A B : World → Type 0) (ds es : List Decided) (s : Step)
     → Reaches kinds p A ds q
-    → Acts q s r → Has q.seats q.seat → IsHistory r.table.config r.seen → kinds s ≡ true → IsCallers p → may_decide s ≡ false
-    → GoesOn p A (λ v. B (world_behind p.table.config v (event_of p s))) → Reaches kinds p B ds r
-reaches_still kinds p q r A B ds s reached acts own history allowed caller idle next =
-    subst (λ (l : List Decided). Reaches kinds p B l r) (append-nil ds)
-    (reaches_on kinds p q r A B ds [] s reached acts own history allowed caller
-    (λ w v a kept known pages. record {
-      world = next w v a kept known pages;
+    → Acts q s r → Has q.seats q.seat → IsHistory r.table.config r.seen → kinds s ≡ true → is_end s ≡ false → IsCallers p
+    → GoesOn p A (StepsTo p s B es)
+    → Reaches kinds p B (ds ++ es) r
+reaches_on kinds p q r A B ds es s reached acts own history allowed no_end caller next =
+    reaches_in_stop kinds p q r A B ds es s reached acts own history allowed no_end caller
+    (λ w v a kept stop known pages. next w v a kept known pages)
+
+-- a step that decides nothing
+
+idle_steps : (p : PassState) (s : Step) (B : World → Type 0) (v : World) → may_decide s ≡ false
+    → B (world_behind p.table.config v (event_of p s)) → StepsTo p s B [] v
+idle_steps p s B v idle there =
+    record {
+      world = there;
       answer = None;
       decides = decides_nothing p.table.config v.now p.seat s idle;
+      no_full = refl;
       entry = λ k is. refl;
-    }))
+    }
+
+pub reaches_still_in_stop : (kinds : Step → Bool) (p q r : PassState) (A B : World → Type 0) (ds : List Decided) (s : Step)
+    → Reaches kinds p A ds q
+    → Acts q s r → Has q.seats q.seat → IsHistory r.table.config r.seen → kinds s ≡ true → is_end s ≡ false → IsCallers p
+    → may_decide s ≡ false
+    → GoesOnInStop p A (λ v. B (world_behind p.table.config v (event_of p s))) → Reaches kinds p B ds r
+reaches_still_in_stop kinds p q r A B ds s reached acts own history allowed no_end caller idle next =
+    subst (λ (l : List Decided). Reaches kinds p B l r) (append-nil ds)
+    (reaches_in_stop kinds p q r A B ds [] s reached acts own history allowed no_end caller
+    (λ w v a kept stop known pages. idle_steps p s B v idle (next w v a kept stop known pages)))
+
+pub reaches_still : (kinds : Step → Bool) (p q r : PassState) (A B : World → Type 0) (ds : List Decided) (s : Step)
+    → Reaches kinds p A ds q
+    → Acts q s r → Has q.seats q.seat → IsHistory r.table.config r.seen → kinds s ≡ true → is_end s ≡ false → IsCallers p
+    → may_decide s ≡ false
+    → GoesOn p A (λ v. B (world_behind p.table.config v (event_of p s))) → Reaches kinds p B ds r
+reaches_still kinds p q r A B ds s reached acts own history allowed no_end caller idle next =
+    reaches_still_in_stop kinds p q r A B ds s reached acts own history allowed no_end caller idle
+    (λ w v a kept stop known pages. next w v a kept known pages)

@@ -1,44 +1,41 @@
 -- The look at the quarantine word of a Free's target: where its freed bit is set, the Free is a double one.
-use Rattle.std.proofs.Common.{◌≡◌, ◌≢◌, ℕ, ◌+◌, ◌*◌, ◌<◌, ◌^◌, Bool, true, false, List, [], ◌∷◌, ◌++◌, length, refl, sym, ap, subst, ◌∙◌}
-use Rattle.std.specs.Prelude.{◌&&◌, ◌==◌, nat_lt, Option, Some, None, if◌then◌else◌, slice_index}
-use Rattle.std.proofs.lemmas.Bool.{eq-eqb, lt-ltb, ltb-true}
+use Rattle.std.proofs.Common.{◌≡◌, ℕ, ◌<◌, Bool, true, false, List, [], length, refl, sym, ap, subst, ◌∙◌}
+use Rattle.std.specs.Prelude.{◌&&◌, Option, Some, None, if◌then◌else◌, slice_index}
+use Rattle.std.proofs.lemmas.Bool.{eq-eqb}
 use Rattle.mk_never.specs.declared.operations.Op.{Op}
-use Rattle.mk_never.specs.declared.operations.Op.TheVariants as op
 use Rattle.mk_geom.specs.declared.addresses.Cell.{Cell}
 use Rattle.mk_core.specs.declared.config.Config.{Config}
-use Rattle.mk_core.specs.declared.events.Answer.{Answer}
 use Rattle.mk_core.specs.declared.events.Answer.TheVariants as answer
-use Rattle.mk_core.specs.declared.events.Event.{Event}
 use Rattle.mk_core.specs.declared.events.Seat.{Seat}
 use Rattle.mk_core.specs.declared.events.Seat.TheVariants.{Caller}
-use Rattle.mk_core.specs.declared.events.Step.{Step}
 use Rattle.mk_core.specs.declared.events.Step.TheVariants as step
 use Rattle.mk_core.specs.declared.events.Word.TheVariants as word
 use Rattle.mk_core.specs.declared.seats.Flight.{Flight}
 use Rattle.mk_core.specs.declared.seats.Progress.{Progress}
 use Rattle.mk_core.specs.declared.seats.Stage.TheVariants as stage
-use Rattle.mk_core.specs.Accesses.{caller_number, found}
+use Rattle.mk_core.specs.Accesses.{caller_number}
 use Rattle.mk_core.specs.Bits.{has_bit}
 use Rattle.mk_core.specs.Cells.{is_freed, pointed_cell}
-use Rattle.mk_core.specs.Decided.{Decided, entry_of}
-use Rattle.mk_core.specs.Effects.{answer_decided, progress, progress_look, sees_double}
-use Rattle.mk_core.specs.Frames.{Steady, steady_of}
-use Rattle.mk_core.specs.History.{IsHistory, World, left, world_behind}
-use Rattle.mk_core.specs.Moments.{Moment, flight_of}
+use Rattle.mk_core.specs.Decided.{entry_of}
+use Rattle.mk_core.specs.Effects.{answer_decided, sees_double}
+use Rattle.mk_core.specs.Frames.{Steady}
+use Rattle.mk_core.specs.History.{IsHistory, World, world_behind}
+use Rattle.mk_core.specs.Moments.{flight_of}
 use Rattle.mk_core.specs.NewPlaces.{is_undecided_free, target}
-use Rattle.mk_core.specs.Words.{Words, quarantine_word}
+use Rattle.mk_core.specs.Words.{Words}
 use Rattle.mk_geom.specs.declared.pages.Page.{Page}
 use Rattle.mk_core.specs.Readings.{Holds}
 use Rattle.mk_protocol.proofs.Known.{Known}
+use Rattle.mk_protocol.proofs.OthersCounts.{answers_full}
 use Rattle.mk_words.specs.Seats.{Has}
 use Rattle.mk_words.specs.States.{PassState, call_of, now_of, world_of}
 use Rattle.mk_words.specs.TurnSteps.{Acts, IsTurn}
-use Rattle.mk_objects.specs.Placing.{Reaches, entry_for}
 use Rattle.mk_objects.specs.Unchanged.{IsAsLeft}
 use Rattle.mk_objects.proofs.Looks.{acting_caller}
 use Rattle.mk_objects.proofs.MayAct.{free_is_acting}
 use Rattle.mk_objects.proofs.Reaching.{reaches_nothing, reaches_on}
-use Rattle.mk_objects.specs.Retiring.{CallIsAt, HasSeen, answer_seen, entry_seen, is_freeing, seen_free}
+use Rattle.mk_objects.specs.Retiring.{CallIsAt, HasSeen, answer_seen, entry_seen, is_loading, seen_free, value_of}
+use Rattle.mk_objects.proofs.LoadedFrees.{value_kept}
 use Rattle.mk_objects.proofs.Unchanged.{call_behind}
 
 pub target_same : (pages : ℕ) (w v : Words) (f : Flight) → v.pages ≡ w.pages → target pages v f ≡ target pages w f
@@ -89,9 +86,14 @@ sees_by c k cell w v lt kept at =
         holding = kept.holding;
         steady = kept.steady;
         registers = kept.registers;
+        gates = kept.gates;
       };
       answer = ap (λ b. (progress_seen (flight_of v.now (Caller k)) b).answer) seen ∙ seen_answer (flight_of v.now (Caller k)) (is_freed w.now.words cell);
     }
+
+seen_no_full : (b : Bool) → answers_full (answer_seen b) ≡ false
+seen_no_full true = refl
+seen_no_full false = refl
 
 -- at the seat of a pass
 seen_entry : (k : ℕ) (o : Op) (b : Bool) → entry_of k o (answer_seen b) ≡ (if b then entry_of k o (Some answer.Double) else [])
@@ -120,8 +122,8 @@ pub see_reaches : (p q : PassState) (cell : Cell) (o : Option Op) → IsTurn p o
 see_reaches p q cell o turn free at a own history =
     let caller = acting_caller p (free_is_acting (call_of p) free) in
     let double : Bool = is_freed (now_of p).words cell in
-    reaches_on is_freeing p p q (λ w. w ≡ world_of p) (CallIsAt p.seat (seen_free (call_of p) double) (world_of p)) [] (entry_seen p double)
-    (step.Look (word.Quar cell.page)) (reaches_nothing is_freeing p (λ w. w ≡ world_of p) refl) a own history refl caller
+    reaches_on is_loading p p q (λ w. w ≡ world_of p) (CallIsAt p.seat (seen_free (call_of p) double) (world_of p)) [] (entry_seen p double)
+    (step.Look (word.Quar cell.page)) (reaches_nothing is_loading p (λ w. w ≡ world_of p) refl) a own history refl refl caller
     (λ w v first kept known pages.
     let kept : IsAsLeft p.seat (world_of p) v = subst (λ (x : World). IsAsLeft p.seat x v) first kept in
     let to = sees p cell v known p.seat caller.number caller.is kept turn.holds at in
@@ -129,7 +131,17 @@ see_reaches p q cell o turn free at a own history =
       world = to.0;
       answer = answer_seen double;
       decides = to.1;
+      no_full = seen_no_full double;
       entry = λ k is.
           ap (λ (f : Flight). entry_of k f.op (answer_seen double)) kept.call ∙ seen_entry k (call_of p).op double
           ∙ ap (λ i. if double then entry_of i (call_of p).op (Some answer.Double) else []) (sym (ap caller_number is));
     })
+
+-- A look that finds its target unfreed decides nothing.
+pub see_keeps : (p q : PassState) (r : ℕ) (cell : Cell) (o : Option Op) → r < 8 → IsTurn p o → is_undecided_free (call_of p) ≡ true
+    → target p.table.config.pages (now_of p).words (call_of p) ≡ Some cell → is_freed (now_of p).words cell ≡ false
+    → Acts p (step.Look (word.Quar cell.page)) q → Has p.seats p.seat → IsHistory q.table.config q.seen → value_of q r ≡ value_of p r
+see_keeps p q r cell o small turn free at live a own history =
+    let caller = acting_caller p (free_is_acting (call_of p) free) in
+    value_kept p q r (step.Look (word.Quar cell.page)) caller small a own history
+    (λ v kept known. (sees p cell v known p.seat caller.number caller.is kept turn.holds at).1 ∙ ap answer_seen live)

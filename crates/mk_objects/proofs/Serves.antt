@@ -175,7 +175,7 @@ module _ (p : PassState) (place : Place) (goes : GoesTo p place) (k : KnowsPlace
   marks_first q one a own history =
       reaches_still is_placing p p q (λ w. w ≡ world_of p) (λ w. Carving p.table.config p.seat (object_for p) place (world_of p) w 0) []
       (step.Mark place.page (bits_made (object_for p)))
-      (reaches_nothing is_placing p (λ w. w ≡ world_of p) refl) a own history refl k.caller refl
+      (reaches_nothing is_placing p (λ w. w ≡ world_of p) refl) a own history refl refl k.caller refl
       (λ w v here kept known pages.
       let kept : IsAsLeft p.seat (world_of p) v = subst (λ (x : World). IsAsLeft p.seat x v) here kept in
       let serving = serving_left p.table.config p.seat (object_for p) place (world_of p) (world_of p) v k.serving kept in
@@ -219,7 +219,7 @@ module _ (p : PassState) (place : Place) (goes : GoesTo p place) (k : KnowsPlace
       reaches_still is_placing p q r (λ w. Carving p.table.config p.seat (object_for p) place (world_of p) w n)
       (λ w. Carving p.table.config p.seat (object_for p) place (world_of p) w (n + 1)) []
       (step.Head (place.page + n) (header_made (object_for p) n))
-      reached a own history refl k.caller refl
+      reached a own history refl refl k.caller refl
       (λ w v here kept known pages.
       let on = carving_left p.table.config p.seat (object_for p) place (world_of p) w v n here kept in
       let call = acting_has_call p.table.config v.now p.seat known.orderly.flights (served_acting p place v k on.serving) in
@@ -233,6 +233,7 @@ module _ (p : PassState) (place : Place) (goes : GoesTo p place) (k : KnowsPlace
         does = reached.does;
         calls = reached.calls;
         world = ready_carved p.table.config p.seat (object_for p) place (world_of p) (left p.table.config q.seen) reached.world;
+        counts = reached.counts;
       }
 
 -- A block is ready.

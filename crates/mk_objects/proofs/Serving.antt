@@ -102,11 +102,11 @@ chosen_now c m f place new is = rw (new, is) refl
 
 -- A header is stored, and no other word of the pages changes.
 
-header_set : (ps : List Page) (p q : ℕ) (x : Page) → q ≢ p
+pub header_set : (ps : List Page) (p q : ℕ) (x : Page) → q ≢ p
     → (slice_index_or (slice_set ps p x) q free_page).header ≡ (slice_index_or ps q free_page).header
 header_set ps p q x ne = ap (λ (y : Page). y.header) (get_or-set_other ps p q x free_page ne)
 
-header_here : (ps : List Page) (p : ℕ) (x : Page) → p < length ps → (slice_index_or (slice_set ps p x) p free_page).header ≡ x.header
+pub header_here : (ps : List Page) (p : ℕ) (x : Page) → p < length ps → (slice_index_or (slice_set ps p x) p free_page).header ≡ x.header
 header_here ps p x lt = ap (λ (y : Page). y.header) (get_or-set_same ps p x free_page lt)
 
 used_kept : (ps : List Page) (p q h : ℕ)
@@ -157,7 +157,7 @@ carving_more c s o place w v n at (OfCaller k lt) new low within room =
 
 -- so it may come next
 
-next_is : (w : Words) (first count : ℕ) (wanted : ℕ → ℕ) (n : ℕ) → n < count → header_at w (first + n) ≢ wanted n
+pub next_is : (w : Words) (first count : ℕ) (wanted : ℕ → ℕ) (n : ℕ) → n < count → header_at w (first + n) ≢ wanted n
     → ((d : ℕ) → d < n → header_at w (first + d) ≡ wanted d) → is_next_header w first count wanted (first + n) (wanted n) ≡ true
 next_is w first count wanted n near not_yet before =
     let e : first + n - first ≡ n = omega arith in

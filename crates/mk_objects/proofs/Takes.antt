@@ -126,7 +126,7 @@ module _ (p : PassState) (place : Place) (goes : GoesTo p place) (k : KnowsPlace
   used_on q r value reached a own history =
       reaches_still is_placing p q r (IsReady c p.seat (object_for p) place (world_of p))
       (IsTakenAt c p.seat (object_for p) place (world_of p)) []
-      (step.Used place.page value) reached a own history refl k.caller refl
+      (step.Used place.page value) reached a own history refl refl k.caller refl
       (λ w v here kept known pages.
       let on = ready_left c p.seat (object_for p) place (world_of p) w v here kept in
       let call = acting_has_call c v.now p.seat known.orderly.flights (served_acting p place v k on.serving) in
@@ -186,7 +186,7 @@ module _ (p : PassState) (place : Place) (goes : GoesTo p place) (k : KnowsPlace
       → HasGranted r
   grant_on q r reached a own history h =
       reaches_on is_placing p q r (IsTakenAt c p.seat (object_for p) place (world_of p)) (IsGrantedAt c p.seat place (world_of p)) []
-      (entry_for p answer.Done) step.Grant reached a own history refl k.caller
+      (entry_for p answer.Done) step.Grant reached a own history refl refl k.caller
       (λ w v here kept known pages.
       let on = taken_left c p.seat (object_for p) place (world_of p) w v here kept in
       let call = acting_has_call c v.now p.seat known.orderly.flights (taken_acting v on) in
@@ -194,6 +194,7 @@ module _ (p : PassState) (place : Place) (goes : GoesTo p place) (k : KnowsPlace
         world = granted_behind c p.seat (object_for p) place (world_of p) v on call (λ j is. room v j is known pages);
         answer = Some answer.Done;
         decides = grant_decides v p.seat k.caller.number k.caller.is;
+        no_full = refl;
         entry = λ j is.
             ap (λ (f : Flight). entry_of j f.op (Some answer.Done)) on.call
             ∙ ap (λ n. entry_of n (call_of p).op (Some answer.Done)) (sym (ap (λ (x : Seat). caller_number x) is));
@@ -229,14 +230,14 @@ module _ (p : PassState) (place : Place) (goes : GoesTo p place) (k : KnowsPlace
   tally_on q r n reached a own history h =
       reaches_still is_placing p q r (IsGrantedAt c p.seat place (world_of p))
       (λ w. IsGrantedAt c p.seat place (world_of p) w × (w.now.words.held ≡ n))
-      (entry_for p answer.Done) (step.Tally tally.Held n) reached a own history refl k.caller refl
+      (entry_for p answer.Done) (step.Tally tally.Held n) reached a own history refl refl k.caller refl
       (λ w v here kept known pages.
       let on = granted_left c p.seat place (world_of p) w v (register_small c (call_of p) goes.unplaced.new (operands h)) here kept in
       let call = acting_has_call c v.now p.seat known.orderly.flights (granted_acting v on) in
       (tallied_behind c p.seat place (world_of p) v n on call, refl))
 
   pub counted : (r : PassState) (n : ℕ) → HasCounted n r → HasGranted r
-  counted r n reached = record { same = reached.same; does = reached.does; calls = reached.calls; world = reached.world.0 }
+  counted r n reached = record { same = reached.same; does = reached.does; calls = reached.calls; world = reached.world.0; counts = reached.counts }
 
   object_words : storage_words c (object_at_place c (call_of p) place) ≡ words_made (object_for p)
   object_words = ap (λ (o : Object). words_made o) (granted_object c (now_of p) (call_of p) goes.unplaced.new)

@@ -21,7 +21,7 @@ use Rattle.mk_objects.specs.Unchanged.{IsAsLeft}
 use Rattle.mk_objects.proofs.MayAct.{IsActing}
 
 pub left_same : (s : Seat) (w : World) → IsAsLeft s w w
-left_same s w = record { call = refl; holding = refl; steady = refl; marks = grows_same w.now.words.marks; registers = λ k r is lt. refl }
+left_same s w = record { call = refl; holding = refl; steady = refl; marks = grows_same w.now.words.marks; registers = λ k r is lt. refl; gates = λ j. refl }
 
 pub left_joined : (s : Seat) (w u v : World) → IsAsLeft s w u → IsAsLeft s u v → IsAsLeft s w v
 left_joined s w u v a b =
@@ -31,6 +31,7 @@ left_joined s w u v a b =
       steady = b.steady ∙ a.steady;
       marks = grows_joined w.now.words.marks u.now.words.marks v.now.words.marks a.marks b.marks;
       registers = λ k r is lt. b.registers k r is lt ∙ a.registers k r is lt;
+      gates = λ j. b.gates j ∙ a.gates j;
     }
 
 -- Behind a step of its own a caller's call is what the step makes of it.
@@ -78,6 +79,7 @@ look_leaves c w s x (OfCaller k lt) (OfHead p) =
       steady = refl;
       marks = grows_same w.now.words.marks;
       registers = λ j r is lt. refl;
+      gates = λ j. refl;
     }
 look_leaves c w s x (OfCaller k lt) (OfUsed p) =
     record {
@@ -87,6 +89,7 @@ look_leaves c w s x (OfCaller k lt) (OfUsed p) =
       steady = refl;
       marks = grows_same w.now.words.marks;
       registers = λ j r is lt. refl;
+      gates = λ j. refl;
     }
 look_leaves c w s x (OfCaller k lt) OfHeld =
     record {
@@ -96,6 +99,7 @@ look_leaves c w s x (OfCaller k lt) OfHeld =
       steady = refl;
       marks = grows_same w.now.words.marks;
       registers = λ j r is lt. refl;
+      gates = λ j. refl;
     }
 look_leaves c w s x (OfCaller k lt) OfFresh =
     record {
@@ -105,6 +109,7 @@ look_leaves c w s x (OfCaller k lt) OfFresh =
       steady = refl;
       marks = grows_same w.now.words.marks;
       registers = λ j r is lt. refl;
+      gates = λ j. refl;
     }
 look_leaves c w s x (OfCaller k lt) OfPhase =
     record {
@@ -114,4 +119,5 @@ look_leaves c w s x (OfCaller k lt) OfPhase =
       steady = refl;
       marks = grows_same w.now.words.marks;
       registers = λ j r is lt. refl;
+      gates = λ j. refl;
     }

@@ -5,3 +5,8 @@ pub mod Entries
 pub mod Placing
 pub mod Looking
 pub mod Retiring
+pub mod Dues
+pub mod FreeParts
+pub mod Unmapping
+pub mod Deciding
+pub mod Retired

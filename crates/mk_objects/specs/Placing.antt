@@ -18,7 +18,7 @@ use Rattle.mk_core.specs.Accesses.{caller_number}
 use Rattle.mk_core.specs.Allocations.{PlacedAllocation, held_words, type_made}
 use Rattle.mk_core.specs.Calls.{d_of}
 use Rattle.mk_core.specs.Decided.{Decided, entry_of}
-use Rattle.mk_core.specs.Frames.{Steady, steady_of}
+use Rattle.mk_core.specs.Frames.{CountsAreLeft, Steady, steady_of}
 use Rattle.mk_core.specs.History.{World, left}
 use Rattle.mk_core.specs.Moments.{Moment, flight_of}
 use Rattle.mk_core.specs.NewPlaces.{base_made, is_undecided_new, object_made}
@@ -69,11 +69,13 @@ is_placing (step.Tally n v) = true
 is_placing _ = false
 
 -- The pass's seat did only steps of these kinds, which added these entries to its calls, and came to a world of this sort.
+-- No cycle has ended, and no call was answered Full.
 pub record Reaches (kinds : Step → Bool) (p : PassState) (sort : World → Type 0) (entries : List Decided) (q : PassState) : Type 0 where
   pub same : q ≡ record p { seen = q.seen }
   pub does : Does kinds p q
   pub calls : own_calls p q.seen ≡ own_calls p p.seen ++ entries
   pub world : sort (left p.table.config q.seen)
+  pub counts : CountsAreLeft p.table.config p.seen q.seen
 
 -- It only looked, and all that is the turn's holder's is as it was.
 abbrev pub OnlyLooks : PassState → PassState → Type 0

@@ -1,6 +1,5 @@
 -- Freeing an object: what is asked, and how far the call is.
 use Rattle.std.specs.Prelude.{◌≡◌, ℕ, ◌+◌, ◌-◌, ◌^◌, min, map, slice_index, slice_set, ◌==◌, ◌<◌, Bool, true, false, List, [], Option, Some, None, if◌then◌else◌}
-use Rattle.mk_never.specs.declared.operations.Op.{Op}
 use Rattle.mk_never.specs.declared.operations.Op.TheVariants as op
 use Rattle.mk_never.specs.declared.values.Value.{Value}
 use Rattle.mk_never.specs.Admitted.{IsBase}
@@ -24,7 +23,7 @@ use Rattle.mk_core.specs.Cells.{is_freed}
 use Rattle.mk_core.specs.Decided.{Decided}
 use Rattle.mk_core.specs.Frames.{steady_of}
 use Rattle.mk_core.specs.History.{World, never_behind}
-use Rattle.mk_core.specs.Moments.{flight_of}
+use Rattle.mk_core.specs.Moments.{flight_of, is_held}
 use Rattle.mk_core.specs.Words.{register_word}
 use Rattle.mk_words.specs.States.{PassState, call_of, now_of, world_of}
 use Rattle.mk_objects.specs.Placing.{Reaches, entry_for}
@@ -50,6 +49,7 @@ pub record CallIsAt (s : Seat) (f : Flight) (w v : World) : Type 0 where
   pub holding : v.now.seats.holding ≡ w.now.seats.holding
   pub steady : steady_of v ≡ steady_of w
   pub registers : (k r : ℕ) → s ≡ Caller k → r < 8 → register_word v.now.words k r ≡ register_word w.now.words k r
+  pub gates : (j : ℕ) → is_held v.now.words j ≡ is_held w.now.words j
 
 -- A Free whose register held this value: null decides it.
 abbrev pub loaded_free : ℕ → ℕ → Flight
@@ -57,6 +57,12 @@ loaded_free r u = record (begun (op.Free r)) { stage = if u == 0 then stage.Give
 
 abbrev pub entry_loaded : PassState → ℕ → List Decided
 entry_loaded p u = if u == 0 then entry_for p answer.Done else []
+
+-- the kinds of step by which a Free finds its target
+abbrev pub is_loading : Step → Bool
+is_loading (step.Look x) = true
+is_loading step.Reg = true
+is_loading _ = false
 
 -- the kinds of step by which an object is freed
 abbrev pub is_freeing : Step → Bool
@@ -71,7 +77,7 @@ is_freeing (step.Tally n v) = true
 is_freeing _ = false
 
 abbrev pub HasLoaded : PassState → ℕ → ℕ → PassState → Type 0
-HasLoaded p r u q = Reaches is_freeing p (CallIsAt p.seat (loaded_free r u) (world_of p)) (entry_loaded p u) q
+HasLoaded p r u q = Reaches is_loading p (CallIsAt p.seat (loaded_free r u) (world_of p)) (entry_loaded p u) q
 
 -- A Free whose target's quarantine word was looked at: the freed bit decides it.
 
@@ -86,7 +92,7 @@ entry_seen p double = if double then entry_for p answer.Double else []
 
 abbrev pub HasSeen : PassState → Cell → PassState → Type 0
 HasSeen p cell q =
-    Reaches is_freeing p (CallIsAt p.seat (seen_free (call_of p) (is_freed (now_of p).words cell)) (world_of p))
+    Reaches is_loading p (CallIsAt p.seat (seen_free (call_of p) (is_freed (now_of p).words cell)) (world_of p))
     (entry_seen p (is_freed (now_of p).words cell)) q
 
 -- The target was quarantined: the call is decided, the allocation of the cell is freed and fresh, a run is what the call
@@ -106,6 +112,7 @@ pub record IsFreedAt (c : Config) (s : Seat) (cell : Cell) (w v : World) : Type 
         allocations = map (freed_where_it_stands w.now.words (Some cell)) w.allocations;
       }
   pub registers : (k r : ℕ) → s ≡ Caller k → r < 8 → register_word v.now.words k r ≡ register_word w.now.words k r
+  pub gates : (j : ℕ) → is_held v.now.words j ≡ is_held w.now.words j
 
 abbrev pub HasFreed : PassState → Cell → PassState → Type 0
 HasFreed p cell q = Reaches is_freeing p (IsFreedAt p.table.config p.seat cell (world_of p)) (entry_for p answer.Done) q

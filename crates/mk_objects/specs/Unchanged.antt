@@ -1,12 +1,12 @@
--- What stays as it was for the turn's holder: its call, what it has done in its turn, its registers, and all words that
--- none but it changes.
+-- What stays as it was for the turn's holder: its call, what it has done in its turn, its registers, the gates that it
+-- holds, and all words that none but it changes.
 use Rattle.std.specs.Prelude.{◌≡◌, ℕ, ◌<◌}
 use Rattle.mk_core.specs.declared.events.Seat.{Seat}
 use Rattle.mk_core.specs.declared.events.Seat.TheVariants.{Caller}
 use Rattle.mk_core.specs.Words.{register_word}
 use Rattle.mk_core.specs.Frames.{OnlyGrow, steady_of}
 use Rattle.mk_core.specs.History.{World}
-use Rattle.mk_core.specs.Moments.{flight_of}
+use Rattle.mk_core.specs.Moments.{flight_of, is_held}
 
 pub record IsAsLeft (s : Seat) (w v : World) : Type 0 where
   pub call : flight_of v.now s ≡ flight_of w.now s
@@ -14,3 +14,4 @@ pub record IsAsLeft (s : Seat) (w v : World) : Type 0 where
   pub steady : steady_of v ≡ steady_of w
   pub marks : OnlyGrow w.now.words.marks v.now.words.marks
   pub registers : (k r : ℕ) → s ≡ Caller k → r < 8 → register_word v.now.words k r ≡ register_word w.now.words k r
+  pub gates : (j : ℕ) → is_held v.now.words j ≡ is_held w.now.words j

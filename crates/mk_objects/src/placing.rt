@@ -145,7 +145,8 @@ fn shape_asked(words: &Words, op: Option<Op>) -> Shape
     }
 }
 
-/// Grants the object of a New at its place, or answers false where nothing fits. The book is filled by looks.
+/// Grants the object of a New at its place, or answers false where nothing fits, and the book shows the pages then. It
+/// is filled by looks.
 pub fn place_object(words: &Words, turn: &mut Turn, book: &mut Book) -> bool
     requires one_table { turn.old.pass.table ≡ words.now }
     requires unplaced { IsUnplaced turn.old.pass }
@@ -155,6 +156,7 @@ pub fn place_object(words: &Words, turn: &mut Turn, book: &mut Book) -> bool
     ensures book { length book.new ≡ length book.old }
     ensures placed { result ≡ true → IsPlaced turn.old.pass turn.new.pass }
     ensures nowhere { result ≡ false → FitsNowhere turn.old.pass turn.new.pass }
+    ensures shows { result ≡ false → book.new ≡ (now_of turn.new.pass).words.pages }
 {
     turn.is_in_order();
     fill(words, turn, book);

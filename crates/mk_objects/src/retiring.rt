@@ -1,12 +1,15 @@
 //! Freeing the object of a Free.
-ghost use Rattle.std.specs.Prelude.{◌≡◌, ℕ, ◌<◌, ◌==◌, ◌||◌, not, true, false, Some};
+ghost use Rattle.std.specs.Prelude.{◌≡◌, ℕ, ◌<◌, ◌==◌, ◌%◌, ◌||◌, not, true, false, Some};
+ghost use Rattle.mk_never.specs.declared.values.Value.TheVariants.{Null};
 ghost use Rattle.mk_core.specs.NewPlaces.{is_undecided_free, target};
 ghost use Rattle.mk_words.specs.States.{call_of, now_of};
+ghost use Rattle.mk_core.specs.Bits.{has_bit};
 ghost use Rattle.mk_core.specs.Cells.{header_in, heads_run, is_freed};
 ghost use Rattle.mk_core.specs.Moments.{others_are_held};
 ghost use Rattle.mk_objects.specs.Placing.{IsOutOfStop, OnlyLooks};
 ghost use Rattle.mk_core.specs.declared.events.Word.TheVariants as word;
 ghost use Rattle.mk_core.specs.Words.{named_word};
+ghost use Rattle.mk_objects.specs.Dues.{FreesOnce};
 ghost use Rattle.mk_objects.specs.Retiring.{HasFreed, HasLoaded, HasSeen, IsFreeAt, IsUnloaded, loaded_free, value_of};
 
 use crate::looking::look_at;
@@ -22,12 +25,21 @@ const PAGE_BYTES: u64 = 512;
 /// The low half of a quarantine word has the freed bits, and the high half the snapshot.
 const HALF_WORD: u64 = 4294967296;
 
+/// Whether the cell's bit is set among the freed bits of its page's quarantine word.
+pub(crate) fn is_freed(quar: u64, cell: Cell) -> bool
+    requires { cell.index < 32 }
+    ensures { result ≡ has_bit (quar % 4294967296) cell.index }
+{
+    (quar % HALF_WORD) >> cell.index & 1 == 1
+}
+
 /// Loads the register of a Free. Null decides it.
-fn load_freed(words: &Words, turn: &mut Turn, register: u8) -> u64
+pub(crate) fn load_freed(words: &Words, turn: &mut Turn, register: u8) -> u64
     requires one_table { turn.old.pass.table ≡ words.now }
     requires unloaded { IsUnloaded turn.old.pass register }
     ensures op { turn.new.op ≡ turn.old.op }
     ensures loaded { HasLoaded turn.old.pass register result turn.new.pass }
+    ensures null { (result == 0) ≡ true → value_of turn.old.pass register ≡ Null }
     ensures keeps { (result == 0) ≡ false → value_of turn.new.pass register ≡ value_of turn.old.pass register }
 {
     turn.is_in_order();
@@ -37,7 +49,7 @@ fn load_freed(words: &Words, turn: &mut Turn, register: u8) -> u64
 }
 
 /// The cell that the loaded register of a Free points into.
-fn find_cell(words: &Words, turn: &mut Turn, value: u64) -> Cell
+pub(crate) fn find_cell(words: &Words, turn: &mut Turn, value: u64) -> Cell
     requires one_table { turn.old.pass.table ≡ words.now }
     requires undecided { is_undecided_free (call_of turn.old.pass) ≡ true }
     requires value { (call_of turn.old.pass).p ≡ value }
@@ -56,7 +68,13 @@ fn find_cell(words: &Words, turn: &mut Turn, value: u64) -> Cell
 
 /// Looks at the quarantine word of the page of a Free's target. Where the target is freed already, that decides the
 /// Free.
-fn look_at_quarantine(words: &Words, turn: &mut Turn, register: u8, value: u64, cell: Cell) -> u64
+pub(crate) fn look_at_quarantine(
+    words: &Words,
+    turn: &mut Turn,
+    register: u8,
+    value: u64,
+    cell: Cell,
+) -> u64
     requires one_table { turn.old.pass.table ≡ words.now }
     requires free { IsFreeAt turn.old.pass register (loaded_free register value) }
     requires some { (value == 0) ≡ false }
@@ -65,6 +83,7 @@ fn look_at_quarantine(words: &Words, turn: &mut Turn, register: u8, value: u64, 
     ensures op { turn.new.op ≡ turn.old.op }
     ensures seen { HasSeen turn.old.pass cell turn.new.pass }
     ensures finds { result ≡ named_word (now_of turn.old.pass).words (word.Quar cell.page) }
+    ensures keeps { is_freed (now_of turn.old.pass).words cell ≡ false → (r : ℕ) → r < 8 → value_of turn.new.pass r ≡ value_of turn.old.pass r }
 {
     turn.is_in_order();
     let found = turn.look(words, Word::Quar(cell.page));
@@ -73,7 +92,14 @@ fn look_at_quarantine(words: &Words, turn: &mut Turn, register: u8, value: u64, 
 }
 
 /// Quarantines the target of a Free, which isn't freed yet. A run's needs all other gates held.
-fn quarantine(words: &Words, turn: &mut Turn, register: u8, value: u64, cell: Cell, quar: u64)
+pub(crate) fn quarantine(
+    words: &Words,
+    turn: &mut Turn,
+    register: u8,
+    value: u64,
+    cell: Cell,
+    quar: u64,
+)
     requires one_table { turn.old.pass.table ≡ words.now }
     requires free { IsFreeAt turn.old.pass register (loaded_free register value) }
     requires some { (value == 0) ≡ false }
@@ -86,6 +112,7 @@ fn quarantine(words: &Words, turn: &mut Turn, register: u8, value: u64, cell: Ce
     requires gates { (not (heads_run (header_in (now_of turn.old.pass).words cell.page)) || others_are_held turn.old.pass.table.config.callers (now_of turn.old.pass).words turn.old.pass.seat) ≡ true }
     ensures op { turn.new.op ≡ turn.old.op }
     ensures freed { HasFreed turn.old.pass cell turn.new.pass }
+    ensures once { FreesOnce turn.old.pass turn.new.pass }
 {
     turn.is_in_order();
     let freed = quar % HALF_WORD | 1 << cell.index;

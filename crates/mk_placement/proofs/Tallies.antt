@@ -47,7 +47,7 @@ use Rattle.mk_placement.proofs.TallySteps.{CountsNothing, Gives, Leaves, Takes, 
 
 -- The fresh count of the moment is that of the allocations, behind every history.
 
-abbrev FreshIsTold : Config → List Event → Type 0
+abbrev pub FreshIsTold : Config → List Event → Type 0
 FreshIsTold c es = FreshTold c (left c es)
 
 world_before : (c : Config) (es : List Event) → IsHistory c es → Before c (left c es)
@@ -68,7 +68,7 @@ fresh_at_first : (c : Config) → FreshIsTold c []
 unfolding left_from
 fresh_at_first c = refl
 
-fresh_is_told : OfHistories FreshIsTold
+pub fresh_is_told : OfHistories FreshIsTold
 fresh_is_told = holds_of_histories FreshIsTold fresh_at_first fresh_kept
 
 -- At a `give` nothing is on its way.

@@ -18,7 +18,7 @@ mod program;
 mod scope;
 mod splitting;
 
-pub use faults::{TextKind, TextStop, Which};
+pub use faults::{LineFault, TextKind, TextStop, Which};
 pub use items::{At, Item, TypeWord, TypeWords};
 pub use names::Name;
 pub use numbers::number;

@@ -74,14 +74,19 @@ module _ (p : PassState) (wanted : IsWanted p) (all : HoldsAll p.table.config (n
   may_look x is = may_step p (step.Look x) wanted.ready all.0 refl is
       (look_gates p.table.config (now_of p).words p.seat (call_of p) x all.1 is) refl refl refl
 
-  pub may_mark_cell : (cell : Cell) → IsReached p cell → cell.page < p.table.config.pages
-      → IsEnabledTo p (step.Mark cell.page (2 ^ cell.index))
-  may_mark_cell cell reached lt =
+  -- whatever the hand's value stood in
+  pub may_mark_by_hand : (cell : Cell)
+      → marks_by_hand p.table.config.pages (now_of p).words (hand_of p) cell.page (2 ^ cell.index) ≡ true
+      → cell.page < p.table.config.pages → IsEnabledTo p (step.Mark cell.page (2 ^ cell.index))
+  may_mark_by_hand cell by_hand lt =
       may_step p (step.Mark cell.page (2 ^ cell.index)) wanted.ready all.0 refl
       (lt-ltb cell.page p.table.config.pages lt) refl
       (or_second (phase_of (now_of p).words == 1) (phase_of (now_of p).words == 2) phase_two) refl
-      (or_first (marks_by_hand p.table.config.pages (now_of p).words (hand_of p) cell.page (2 ^ cell.index)) _
-      (marks_reached p cell reached))
+      (or_first (marks_by_hand p.table.config.pages (now_of p).words (hand_of p) cell.page (2 ^ cell.index)) _ by_hand)
+
+  pub may_mark_cell : (cell : Cell) → IsReached p cell → cell.page < p.table.config.pages
+      → IsEnabledTo p (step.Mark cell.page (2 ^ cell.index))
+  may_mark_cell cell reached lt = may_mark_by_hand cell (marks_reached p cell reached) lt
 
   pub may_black_cell : (cell : Cell) → cell.page < p.table.config.pages → cell.index < 32
       → may_turn_black p.table.config.pages (still_words p) cell ≡ true

@@ -1,7 +1,7 @@
 -- Tracing in parts: nothing, one part behind another, and one step.
 use Rattle.std.proofs.Common.{◌≡◌, ◌+◌, ℕ, Bool, true, false, List, [], ◌∷◌, ◌++◌, refl, sym, ◌∙◌, ap, subst, append-nil, append_assoc, arith}
 use Rattle.std.specs.Prelude.{count_by, cond, if◌then◌else◌}
-use Rattle.std.proofs.lemmas.Bool.{and_parts, and_from}
+use Rattle.std.proofs.lemmas.Bool.{and_parts, and_from, true≢false}
 use Rattle.std.proofs.lemmas.List.Sums.{sum_by-append}
 use Rattle.mk_core.specs.declared.config.Config.{Config}
 use Rattle.mk_core.specs.declared.events.Seat.{Seat}
@@ -23,14 +23,14 @@ use Rattle.mk_turns.proofs.Doing.{done_in_parts, of_kinds_in_parts, own_or_other
 use Rattle.mk_tracing.specs.Tracing.{Traces, Counted, OwnStepsKeep, untouched_of}
 
 -- the rule, over a list in two parts
-keep_in_parts : (rule : Config → Moment → Step → Type 0) (c : Config) (s : Seat) (w : World) (xs ys : List Event)
+pub keep_in_parts : (rule : Config → Moment → Step → Type 0) (c : Config) (s : Seat) (w : World) (xs ys : List Event)
     → OwnStepsKeep rule c s w xs → OwnStepsKeep rule c s (left_from c w xs) ys → OwnStepsKeep rule c s w (xs ++ ys)
 unfolding OwnStepsKeep left_from
 keep_in_parts rule c s w [] ys one two = two
 keep_in_parts rule c s w (e ∷ es) ys one two = (one.0, keep_in_parts rule c s (world_behind c w e) es ys one.1 two)
 
 -- events of others keep to it, since none is the seat's own
-others_keep : (rule : Config → Moment → Step
+pub others_keep : (rule : Config → Moment → Step
     → Type 0) (c : Config) (s : Seat) (seats : List Seat) (w : World) (xs : List Event)
     → Has seats s → AreOfOthers seats xs → OwnStepsKeep rule c s w xs
 unfolding OwnStepsKeep AreOfOthers
@@ -40,14 +40,14 @@ others_keep rule c s seats w (e ∷ es) has others = (
   others_keep rule c s seats (world_behind c w e) es has others.1,
 )
 
-one_keeps : (rule : Config → Moment → Step → Type 0) (c : Config) (s : Seat) (w : World) (e : Event)
+pub one_keeps : (rule : Config → Moment → Step → Type 0) (c : Config) (s : Seat) (w : World) (e : Event)
     → rule c w.now e.step → OwnStepsKeep rule c s w (e ∷ [])
 unfolding OwnStepsKeep
 one_keeps rule c s w e is = (λ same. is, tt)
 
 -- an own step, as it is counted
 
-one_own : (c : Config) (s : Seat) (w : World) (e : Event) → is_same_seat s e.seat ≡ true
+pub one_own : (c : Config) (s : Seat) (w : World) (e : Event) → is_same_seat s e.seat ≡ true
     → own_from c s w (e ∷ []) ≡ record { event = e; found = found c w.now e } ∷ []
 unfolding own_from
 one_own c s w e same = ap (λ (b : Bool). if b then record { event = e; found = found c w.now e } ∷ [] else []) same
@@ -191,6 +191,91 @@ traces_wider kinds more kind rule p q wider none t =
         counts = t.counts;
       };
       count = none_counted kinds kind (done_in p d.more) none d.of_kinds;
+    }
+
+pub counted_wider : (kinds more : Step → Bool) (rule : Config → Moment → Step → Type 0) (kind : Step → Bool)
+    (p q : PassState) (n : ℕ) → ((s : Step) → kinds s ≡ true → more s ≡ true)
+    → Counted kinds rule kind p q n → Counted more rule kind p q n
+counted_wider kinds more rule kind p q n wider one =
+    let t = one.traces in
+    let d = t.does in
+    record {
+      traces = record {
+        does = record {
+          more = d.more;
+          is = d.is;
+          own_or_others = d.own_or_others;
+          of_kinds = wider_kinds kinds more (done_in p d.more) wider d.of_kinds;
+        };
+        keeps = t.keeps;
+        untouched = t.untouched;
+        counts = t.counts;
+      };
+      count = one.count;
+    }
+
+-- Another rule may be kept to: one that follows from the first, or that all steps of the allowed kinds keep to.
+
+pub keep_alike : (rule other : Config → Moment → Step → Type 0) (c : Config) (s : Seat) (w : World) (es : List Event)
+    → ((m : Moment) (x : Step) → rule c m x → other c m x) → OwnStepsKeep rule c s w es → OwnStepsKeep other c s w es
+unfolding OwnStepsKeep
+keep_alike rule other c s w [] follows keeps = tt
+keep_alike rule other c s w (e ∷ es) follows keeps = (
+  λ same. follows w.now e.step (keeps.0 same),
+  keep_alike rule other c s (world_behind c w e) es follows keeps.1,
+)
+
+pub kinds_keep : (kinds : Step → Bool) (rule : Config → Moment → Step → Type 0) (c : Config) (s : Seat) (w : World)
+    (es : List Event) → ((m : Moment) (x : Step) → kinds x ≡ true → rule c m x) → are_of kinds (own_from c s w es) ≡ true
+    → OwnStepsKeep rule c s w es
+unfolding OwnStepsKeep own_from
+kinds_keep kinds rule c s w [] follows of_kinds = tt
+kinds_keep kinds rule c s w (e ∷ es) follows of_kinds =
+    let next : World = world_behind c w e in
+    let first : Finding = record { event = e; found = found c w.now e } in (
+      here (is_same_seat s e.seat) refl of_kinds,
+      kinds_keep kinds rule c s next es follows (behind (is_same_seat s e.seat) of_kinds),
+    )
+  where
+    here : (b : Bool) → is_same_seat s e.seat ≡ b
+        → are_of kinds (if b then record { event = e; found = found c w.now e } ∷ own_from c s (world_behind c w e) es
+        else own_from c s (world_behind c w e) es) ≡ true
+        → is_same_seat s e.seat ≡ true → rule c w.now e.step
+    here true is h same =
+        follows w.now e.step (and_parts (kinds e.step) (are_of kinds (own_from c s (world_behind c w e) es)) h).0
+    here false is h same = absurd (true≢false (sym same ∙ is))
+
+    behind : (b : Bool)
+        → are_of kinds (if b then record { event = e; found = found c w.now e } ∷ own_from c s (world_behind c w e) es
+        else own_from c s (world_behind c w e) es) ≡ true
+        → are_of kinds (own_from c s (world_behind c w e) es) ≡ true
+    behind true h = (and_parts (kinds e.step) (are_of kinds (own_from c s (world_behind c w e) es)) h).1
+    behind false h = h
+
+pub traces_alike : (kinds : Step → Bool) (rule other : Config → Moment → Step → Type 0) (p q : PassState)
+    → ((m : Moment) (x : Step) → rule p.table.config m x → other p.table.config m x)
+    → Traces kinds rule p q → Traces kinds other p q
+traces_alike kinds rule other p q follows t =
+    record {
+      does = t.does;
+      keeps = keep_alike rule other p.table.config p.seat (world_of p) t.does.more follows t.keeps;
+      untouched = t.untouched;
+      counts = t.counts;
+    }
+
+pub counted_by_kinds : (kinds : Step → Bool) (rule other : Config → Moment → Step → Type 0) (kind : Step → Bool)
+    (p q : PassState) (n : ℕ) → ((m : Moment) (x : Step) → kinds x ≡ true → other p.table.config m x)
+    → Counted kinds rule kind p q n → Counted kinds other kind p q n
+counted_by_kinds kinds rule other kind p q n follows one =
+    let d = one.traces.does in
+    record {
+      traces = record {
+        does = d;
+        keeps = kinds_keep kinds other p.table.config p.seat (world_of p) d.more follows d.of_kinds;
+        untouched = one.traces.untouched;
+        counts = one.traces.counts;
+      };
+      count = one.count;
     }
 
 -- One step is made.

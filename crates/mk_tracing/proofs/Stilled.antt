@@ -200,10 +200,10 @@ module _ (p q : PassState) (wanted : IsWanted p) (all : HoldsAll p.table.config 
       sym (found_there p q x n finds) ∙ sym (still_name (now_of q).words x name) ∙ ap (λ (w : Words). named_word w x)
       (look_words p q wanted all x a quiet)
 
-  found_now : found p.table.config (world_at a.makes).now (event_of p (step.Look x)) ≡ n
+  pub found_now : found p.table.config (world_at a.makes).now (event_of p (step.Look x)) ≡ n
   found_now = ap (λ (w : World). named_word w.now.words x) (sym a.world) ∙ found_there p q x n finds
 
-  hand_now : hand_of q ≡ or_else (hand_given p.table.config (world_at a.makes).now p.seat x
+  pub hand_now : hand_of q ≡ or_else (hand_given p.table.config (world_at a.makes).now p.seat x
       (found p.table.config (world_at a.makes).now (event_of p (step.Look x)))) (hand_of p)
   hand_now =
       ap (λ (w : World). w.now.seats.holding.hand) a.world
@@ -216,6 +216,7 @@ module _ (p q : PassState) (wanted : IsWanted p) (all : HoldsAll p.table.config 
       by : (y : Word) (value : ℕ) → is_plain y ≡ true
           → or_else (hand_given p.table.config (world_at a.makes).now p.seat y value) (hand_of p) ≡ hand_of p
       by (word.Head pg) value h = refl
+      by (word.Used pg) value h = refl
       by (word.Mark pg) value h = refl
       by (word.Black pg) value h = refl
       by (word.Dirty pg) value h = refl

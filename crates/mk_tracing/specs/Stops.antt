@@ -36,6 +36,7 @@ pub record IsWanted (p : PassState) : Type 0 where
 -- a word at which a look gives no hand and decides nothing
 abbrev pub is_plain : Word → Bool
 is_plain (word.Head p) = true
+is_plain (word.Used p) = true
 is_plain (word.Mark p) = true
 is_plain (word.Black p) = true
 is_plain (word.Dirty p) = true

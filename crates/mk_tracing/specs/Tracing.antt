@@ -6,6 +6,7 @@ use Rattle.mk_core.specs.declared.events.Seat.{Seat}
 use Rattle.mk_core.specs.declared.events.Event.{Event}
 use Rattle.mk_core.specs.declared.events.Step.{Step}
 use Rattle.mk_core.specs.declared.events.Step.TheVariants as step
+use Rattle.mk_core.specs.declared.events.Word.TheVariants as word
 use Rattle.mk_core.specs.declared.seats.Flight.{Flight}
 use Rattle.mk_core.specs.declared.seats.Placing.{Placing}
 use Rattle.mk_core.specs.declared.seats.RunPages.{RunPages}
@@ -35,6 +36,12 @@ is_want _ = false
 abbrev pub is_tracing : Step → Bool
 is_tracing step.Want = true
 is_tracing s = is_marking s
+
+-- the wish, and the looks at the phase until no marker is in
+abbrev pub is_waiting : Step → Bool
+is_waiting step.Want = true
+is_waiting (step.Look word.Phase) = true
+is_waiting _ = false
 
 -- what tracing in a stop leaves as it is: all but the phase, the mark, black and dirty words, the hand and the markers
 pub record Untouched : Type 0 where

@@ -10,7 +10,7 @@ use mk_geom::{Header, cells, class_words, decode};
 pub(crate) const PAGE_WORDS: u64 = 64;
 
 /// How many cells there are under a header word; a run is one, at its head page.
-pub(crate) fn cells_under(header: u64) -> u64
+pub fn cells_under(header: u64) -> u64
     ensures exact { result ≡ cells_under (header_of header) }
     ensures few { result ≤ 32 }
 {
@@ -22,7 +22,7 @@ pub(crate) fn cells_under(header: u64) -> u64
 }
 
 /// The words of one of them.
-pub(crate) fn words_under(header: u64) -> u64
+pub fn words_under(header: u64) -> u64
     ensures exact { result ≡ words_under (header_of header) }
     ensures few { result ≤ 4096 }
 {
@@ -34,7 +34,7 @@ pub(crate) fn words_under(header: u64) -> u64
 }
 
 /// Whether the words of a cell under the header aren't scanned: those of a leaf object, and of an unmapped run.
-pub(crate) fn has_no_pointers(header: u64) -> bool
+pub fn has_no_pointers(header: u64) -> bool
     ensures { result ≡ has_no_pointers (header_of header) }
 {
     matches!(
@@ -60,7 +60,7 @@ pub(crate) fn head_page(header: u64, page: u64) -> u64
 }
 
 /// The bit of a word that stands for a cell.
-pub(crate) fn bit(index: u64) -> u64
+pub fn bit(index: u64) -> u64
     requires { index < 64 }
     ensures { result ≡ 2 ^ index }
 {
@@ -69,7 +69,7 @@ pub(crate) fn bit(index: u64) -> u64
 
 /// Whether the word has the bit.
 #[tactic(auto, using(mk_core::proofs::Bits::has_bit_past))]
-pub(crate) fn has_bit(word: u64, index: u64) -> bool
+pub fn has_bit(word: u64, index: u64) -> bool
     ensures { result ≡ has_bit word index }
 {
     index < 64 && (word >> index) & 1 == 1

@@ -16,7 +16,6 @@ use crate::waiting::want_and_wait;
 use crate::worklist::Worklist;
 use mk_words::{Stopped, Words};
 use std::sync::Wait;
-use std::thread::Threads;
 
 /// Looks again at what is dirty and at all roots, and traces from there, until every marked cell is black.
 fn mark_in_stop(words: &Words, stop: &mut Stopped, work: &mut Worklist)
@@ -35,12 +34,7 @@ fn mark_in_stop(words: &Words, stop: &mut Stopped, work: &mut Worklist)
 
 /// Wants the close, waits for the markers, and marks in the stop until the marks may be closed. It serves every engine:
 /// where nothing is marked before the stop, no page has a black cell.
-pub fn close_marks<R: Threads + Wait + Sync>(
-    rt: &R,
-    words: &Words,
-    stop: &mut Stopped,
-    work: &mut Worklist,
-)
+pub fn close_marks<R: Wait>(rt: &R, words: &Words, stop: &mut Stopped, work: &mut Worklist)
     requires one_table { stop.old.pass.table ≡ words.now }
     requires ready { IsReady stop.old.pass }
     requires phase { phase_of (now_of stop.old.pass).words ≡ 1 }

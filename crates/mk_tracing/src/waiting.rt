@@ -4,13 +4,12 @@ ghost use Rattle.mk_core.specs.Words.{phase_of};
 ghost use Rattle.mk_words.specs.States.{now_of};
 ghost use Rattle.mk_tracing.specs.Grays.{TracesReached};
 ghost use Rattle.mk_tracing.specs.Stops.{IsReady, IsWanted};
-ghost use Rattle.mk_tracing.specs.Tracing.{Traces, Counted, is_tracing, is_marking, is_want};
+ghost use Rattle.mk_tracing.specs.Tracing.{Counted, is_waiting, is_want};
 
 use crossbeam_utils::Backoff;
 use mk_core::Word;
 use mk_words::{Stopped, Words};
 use std::sync::Wait;
-use std::thread::Threads;
 
 /// Wants the close.
 fn want(words: &Words, stop: &mut Stopped)
@@ -21,7 +20,7 @@ fn want(words: &Words, stop: &mut Stopped)
     ensures op { stop.new.op ≡ stop.old.op }
     ensures ready { IsReady stop.new.pass }
     ensures phase { phase_of (now_of stop.new.pass).words ≡ 2 }
-    ensures traces { Counted is_tracing TracesReached is_want stop.old.pass stop.new.pass 1 }
+    ensures traces { Counted is_waiting TracesReached is_want stop.old.pass stop.new.pass 1 }
 {
     stop.is_in_order();
     stop.want(words);
@@ -37,7 +36,7 @@ fn look_at_phase(words: &Words, stop: &mut Stopped) -> u64
     ensures ready { IsReady stop.new.pass }
     ensures phase { phase_of (now_of stop.new.pass).words ≡ 2 }
     ensures wanted { result < 8 → IsWanted stop.new.pass }
-    ensures traces { Traces is_marking TracesReached stop.old.pass stop.new.pass }
+    ensures traces { Counted is_waiting TracesReached is_want stop.old.pass stop.new.pass 0 }
 {
     stop.is_in_order();
     let found = stop.look(words, Word::Phase);
@@ -46,14 +45,14 @@ fn look_at_phase(words: &Words, stop: &mut Stopped) -> u64
 }
 
 /// Wants the close, and waits until no marker is in. All gates of others are held all the while.
-pub fn want_and_wait<R: Threads + Wait + Sync>(rt: &R, words: &Words, stop: &mut Stopped)
+pub fn want_and_wait<R: Wait>(rt: &R, words: &Words, stop: &mut Stopped)
     requires one_table { stop.old.pass.table ≡ words.now }
     requires ready { IsReady stop.old.pass }
     requires phase { phase_of (now_of stop.old.pass).words ≡ 1 }
     ensures table { stop.new.pass.table ≡ stop.old.pass.table }
     ensures op { stop.new.op ≡ stop.old.op }
     ensures wanted { IsWanted stop.new.pass }
-    ensures traces { Counted is_tracing TracesReached is_want stop.old.pass stop.new.pass 1 }
+    ensures traces { Counted is_waiting TracesReached is_want stop.old.pass stop.new.pass 1 }
 {
     want(words, stop);
     let backoff = Backoff::new();

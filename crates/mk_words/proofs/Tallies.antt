@@ -109,19 +109,25 @@ fresh_at_first c = refl
 fresh_is_told : OfHistories FreshIsTold
 fresh_is_told = holds_of_histories FreshIsTold fresh_at_first fresh_kept
 
--- where nobody holds the turn, the tallies are those of the words
+-- Where nothing is under way, exact tallies are those of the words;
+pub settled_tallies : (c : Config) (es : List Event) → IsHistory c es → IsSettled (left c es) → TalliesAreExact c es
+    → ((left c es).now.words.held ≡ words_held (left c es).now.words) × ((left c es).now.words.fresh ≡ (left c es).now.fresh_words)
+settled_tallies c es h settled exact =
+    let pages = (left c es).now.words.pages in
+    let shown = pages_show_the_storage c es h settled in (
+      exact.held ∙ sym (pages_hold_mapped_words pages (unreleased_storage c (left c es).allocations) shown),
+      exact.fresh ∙ sym (fresh_is_told c es h),
+    )
+
+-- so they are where nobody holds the turn.
 pub free_tallies : (c : Config) (es : List Event) → IsHistory c es → Protocol c (left c es).now → (left c es).now.words.turn ≡ 0
     → ((left c es).now.words.held ≡ words_held (left c es).now.words) × ((left c es).now.words.fresh ≡ (left c es).now.fresh_words)
 free_tallies c es h protocol free =
     let m : Moment = (left c es).now in
     let nothing = protocol.free free in
-    let exact = (tallies_tell c es h free).0 in
     let settled : IsSettled (left c es) = record {
       releasing = ne_eqb (phase_of m.words) 4 (λ four. protocol.cycle (omega arith) (omega arith) free);
       placing = ap (λ (x : Holding). has_place x.placing) nothing;
       gone = ap (λ (x : Holding). is_run_gone m.words x.freed) nothing;
     } in
-    let shown = pages_show_the_storage c es h settled in (
-      exact.held ∙ sym (pages_hold_mapped_words m.words.pages (unreleased_storage c (left c es).allocations) shown),
-      exact.fresh ∙ sym (fresh_is_told c es h),
-    )
+    settled_tallies c es h settled (tallies_tell c es h free).0

@@ -2,7 +2,9 @@
 
 use super::{ample, run};
 use std::alloc::{AllocError, Global};
+use std::sync::Wait;
 use std::test::Fail;
+use std::thread::Threads;
 
 /// Texts of one beginning.
 #[derive(Clone, Copy)]
@@ -154,8 +156,13 @@ m3 attend; claim 0 0 -> line 4: event 2 not enabled, condition 7
 };
 
 /// What is told of the text.
-fn told(alloc: Global, command: &str, text: &str) -> Result<Vec<u8>, AllocError> {
-    let (status, _) = run(alloc, &ample(&[command], text.as_bytes()))?;
+fn told<R: Threads + Wait + Sync>(
+    rt: &R,
+    alloc: Global,
+    command: &str,
+    text: &str,
+) -> Result<Vec<u8>, AllocError> {
+    let (status, _) = run(rt, alloc, &ample(&[command], text.as_bytes()))?;
     status.text(alloc).map_err(|_| AllocError)
 }
 
@@ -172,8 +179,14 @@ pub fn behind(alloc: Global, front: &str, lines: &str) -> Result<String, AllocEr
 }
 
 /// Whether this line is told; `fine` stands for none.
-fn is_told(alloc: Global, command: &str, text: &str, line: &str) -> Result<bool, AllocError> {
-    let found = told(alloc, command, text)?;
+fn is_told<R: Threads + Wait + Sync>(
+    rt: &R,
+    alloc: Global,
+    command: &str,
+    text: &str,
+    line: &str,
+) -> Result<bool, AllocError> {
+    let found = told(rt, alloc, command, text)?;
     if line == "fine" {
         return Ok(found.is_empty());
     }
@@ -182,13 +195,17 @@ fn is_told(alloc: Global, command: &str, text: &str, line: &str) -> Result<bool,
 }
 
 /// The first line of a group of which something else is told.
-fn astray(alloc: Global, group: &Group) -> Result<Option<&'static str>, AllocError> {
+fn astray<R: Threads + Wait + Sync>(
+    rt: &R,
+    alloc: Global,
+    group: &Group,
+) -> Result<Option<&'static str>, AllocError> {
     for row in group.texts.lines() {
         let Some((lines, line)) = row.split_once(" -> ") else {
             return Ok(Some(row));
         };
         let text = behind(alloc, group.front, lines)?;
-        if !is_told(alloc, group.command, text.as_str(), line)? {
+        if !is_told(rt, alloc, group.command, text.as_str(), line)? {
             return Ok(Some(row));
         }
     }
@@ -198,7 +215,7 @@ fn astray(alloc: Global, group: &Group) -> Result<Option<&'static str>, AllocErr
 #[test]
 fn the_first_fault_is_told(rt: HostRuntime) -> Result<(), Fail> {
     for group in [FIRST_LINES, TYPES, LINES, ILL_TYPED, SCHEDULES, EVENTS] {
-        assert_eq!(rt; astray(rt.alloc(), &group)?, None);
+        assert_eq!(rt; astray(&rt, rt.alloc(), &group)?, None);
     }
     Ok(())
 }
@@ -230,7 +247,7 @@ heap 1 1/script s/ | if |  | 32 | ENDS | line 35: limit depth 33
 ";
 
 /// Whether a limit is kept.
-fn is_kept(alloc: Global, row: &str) -> Result<bool, Fail> {
+fn is_kept<R: Threads + Wait + Sync>(rt: &R, alloc: Global, row: &str) -> Result<bool, Fail> {
     let parts: Vec<&str> = row.split(" | ").collect(alloc)?;
     let [front, word, end, greatest, back, line] = parts.as_slice() else {
         return Ok(false);
@@ -248,27 +265,28 @@ fn is_kept(alloc: Global, row: &str) -> Result<bool, Fail> {
         text.push_str(behind(alloc, "", back)?.as_str())?;
     }
     let more = declaring(alloc, front.as_str(), word, greatest + 1, end)?;
-    let fine = is_told(alloc, "print", text.as_str(), "fine")?;
-    Ok(fine && is_told(alloc, "print", more.as_str(), line)?)
+    let fine = is_told(rt, alloc, "print", text.as_str(), "fine")?;
+    Ok(fine && is_told(rt, alloc, "print", more.as_str(), line)?)
 }
 
 #[test]
 fn limits_are_kept(rt: HostRuntime) -> Result<(), Fail> {
     for row in LIMITS.lines() {
-        assert!(rt; is_kept(rt.alloc(), row)?, "{row}");
+        assert!(rt; is_kept(&rt, rt.alloc(), row)?, "{row}");
     }
 
     // A name is found before a limit.
     let mut text = declaring(rt.alloc(), "heap 1 1\n", "type", 64, " n")?;
     text.push_str("type x5 n")?;
-    assert!(rt; is_told(rt.alloc(), "print", text.as_str(), "line 66: twice")?);
+    assert!(rt; is_told(&rt, rt.alloc(), "print", text.as_str(), "line 66: twice")?);
 
     for command in ["print", "replay"] {
         let text = " ".repeat(rt.alloc(), 1_048_576)?;
-        assert!(rt; is_told(rt.alloc(), command, text.as_str(), "line 1: header")?);
+        assert!(rt; is_told(&rt, rt.alloc(), command, text.as_str(), "line 1: header")?);
         let text = " ".repeat(rt.alloc(), 1_048_577)?;
         assert!(rt;
             is_told(
+                &rt,
                 rt.alloc(),
                 command,
                 text.as_str(),

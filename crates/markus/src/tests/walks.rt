@@ -7,7 +7,9 @@ use super::cycles::{
 };
 use super::{ample, run};
 use std::alloc::{AllocError, Global};
+use std::sync::Wait;
 use std::test::Fail;
+use std::thread::Threads;
 
 /// Scripts, a schedule, and what the scripts have printed behind it. A line of the schedule is made, but one that
 /// begins with the number of a condition: that refuses each of the line's events there, between which ` | ` stands.
@@ -19,14 +21,19 @@ pub struct Walk {
 }
 
 /// The line that is told of a schedule, and what is written.
-fn replayed(alloc: Global, text: &str) -> Result<(Vec<u8>, Vec<u8>), AllocError> {
-    let (status, written) = run(alloc, &ample(&["replay"], text.as_bytes()))?;
+fn replayed<R: Threads + Wait + Sync>(
+    rt: &R,
+    alloc: Global,
+    text: &str,
+) -> Result<(Vec<u8>, Vec<u8>), AllocError> {
+    let (status, written) = run(rt, alloc, &ample(&["replay"], text.as_bytes()))?;
     let told = status.text(alloc).map_err(|_| AllocError)?;
     Ok((told, written))
 }
 
 /// The first text with one of these events behind what is made that ends otherwise than refused by the condition.
-fn not_refused(
+fn not_refused<R: Threads + Wait + Sync>(
+    rt: &R,
     alloc: Global,
     made: &str,
     condition: &str,
@@ -37,7 +44,7 @@ fn not_refused(
     let wanted = format!(in alloc; "line {line}: event 1 not enabled, condition {condition}\n")?;
     for event in events.split(" | ") {
         let text = format!(in alloc; "{made}{seat} {event}\n")?;
-        let (told, _) = replayed(alloc, text.as_str())?;
+        let (told, _) = replayed(rt, alloc, text.as_str())?;
         if told.as_slice() != wanted.as_bytes() {
             return Ok(Some(text));
         }
@@ -46,13 +53,24 @@ fn not_refused(
 }
 
 /// The first text that goes otherwise than the walk says.
-fn astray(alloc: Global, walk: &Walk) -> Result<Option<String>, Fail> {
+fn astray<R: Threads + Wait + Sync>(
+    rt: &R,
+    alloc: Global,
+    walk: &Walk,
+) -> Result<Option<String>, Fail> {
     let mut made = format!(in alloc; "{}schedule\n", walk.scripts)?;
     for line in walk.lines.lines() {
         let words: Vec<&str> = line.splitn(3, ' ').collect(alloc)?;
         match words.as_slice() {
             [condition, seat, events] if "1234567".contains(*condition) => {
-                if let Some(text) = not_refused(alloc, made.as_str(), condition, seat, events)? {
+                if let Some(text) = not_refused(
+                    rt,
+                    alloc,
+                    made.as_str(),
+                    condition,
+                    seat,
+                    events,
+                )? {
                     return Ok(Some(text));
                 }
             }
@@ -62,7 +80,7 @@ fn astray(alloc: Global, walk: &Walk) -> Result<Option<String>, Fail> {
             }
         }
     }
-    let (told, written) = replayed(alloc, made.as_str())?;
+    let (told, written) = replayed(rt, alloc, made.as_str())?;
     if told.is_empty() && written.as_slice() == walk.written.as_bytes() {
         return Ok(None);
     }
@@ -92,7 +110,7 @@ fn events_are_refused_by_the_condition_that_is_meant(rt: HostRuntime) -> Result<
         MOVE,
         ANSWERS,
     ] {
-        assert_eq!(rt; astray(rt.alloc(), &walk)?, None);
+        assert_eq!(rt; astray(&rt, rt.alloc(), &walk)?, None);
     }
     Ok(())
 }

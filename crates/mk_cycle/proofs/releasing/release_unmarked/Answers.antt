@@ -1,5 +1,12 @@
+use Rattle.std.proofs.Common.{ℕ, ap, subst, ◌∙◌}
+use Rattle.mk_core.specs.declared.config.Config.{Config}
+use Rattle.mk_core.specs.Frames.{Steady}
+use Rattle.mk_words.specs.States.{WordsState, now_of}
+use Rattle.mk_cycle.specs.ReleasedPages.{released_below}
+use Rattle.mk_cycle.specs.FinishCycle.{HasReleased}
 use Rattle.mk_cycle.proofs.Allowed.{in_turn}
-use Rattle.mk_cycle.proofs.KeptInParts.{free_then}
+use Rattle.mk_cycle.proofs.KeptInParts.{free_then, same_config}
+use Rattle.mk_cycle.proofs.ReleasedCounts.{release_tells, told_from}
 use Rattle.mk_cycle.proofs.ReleasedCells.{cells_are_free}
 use Rattle.mk_cycle.proofs.ReleaseSteps.{close_leaves, releases_unmarked}
 use Rattle.mk_cycle.proofs.releasing.release_unmarked.Goals as goal
@@ -23,3 +30,21 @@ returns-clause-cells g c page =
     cells_are_free c.close_phase.new.self.pass c.release.new.self.pass u
     (in_turn _ _ c.is_in_order-4.ensures.own c.is_in_order-4.ensures.turn c.is_in_order-4.ensures.history)
     (close_leaves _ _ t free c.close_marks.ensures.law.phase c.close_phase.ensures.acts u).1 c.release.ensures.acts page
+
+pub returns-clause-told : goal.returns-clause-told
+returns-clause-told g c =
+    let t = in_turn _ _ c.is_in_order-2.ensures.own c.is_in_order-2.ensures.turn c.is_in_order-2.ensures.history in
+    let u = in_turn _ _ c.is_in_order-3.ensures.own c.is_in_order-3.ensures.turn c.is_in_order-3.ensures.history in
+    let free = free_then _ _ c.close_marks.ensures.law.keeps.call c.requires.free in
+    let marks = c.close_marks.ensures.law.keeps in
+    let p = c.args.stop.now.pass in
+    let b = c.close_marks.new.stop.pass in
+    let d = c.close_phase.new.self.pass in
+    let close = close_leaves b d t free c.close_marks.ensures.law.phase c.close_phase.ensures.acts u in
+    let same = same_config b d close.0.call.pass ∙ same_config p b marks.call.pass in
+    subst (λ (n : ℕ). HasReleased p c.release.new.self.pass (released_below (now_of c.release.new.self.pass).words n))
+    (ap (λ (x : Config). x.pages) same ∙ ap (λ (w : WordsState). w.config.pages) c.requires.one_table)
+    (told_from p d c.release.new.self.pass _ same
+    (ap (λ (s : Steady). s.allocations) close.0.steady ∙ ap (λ (s : Steady). s.allocations) marks.steady)
+    (release_tells d c.release.new.self.pass u
+    (in_turn _ _ c.is_in_order-4.ensures.own c.is_in_order-4.ensures.turn c.is_in_order-4.ensures.history) close.1 c.release.ensures.acts))

@@ -3,7 +3,7 @@ use Rattle.std.specs.Prelude.{Some, None}
 use Rattle.mk_geom.specs.declared.pages.Page.{Page}
 use Rattle.mk_core.proofs.Lengths.{histories_keep_lengths}
 use Rattle.mk_words.specs.States.{PassState}
-use Rattle.mk_objects.proofs.JoinedLooks.{granted_behind_looks}
+use Rattle.mk_objects.proofs.JoinedLooks.{granted_behind_looks, looks_pages}
 use Rattle.mk_objects.proofs.PlacedNews.{fit_found, fit_within, place_found, shape_asked, type_asked}
 use Rattle.mk_objects.proofs.placing.place_object.Goals as goal
 
@@ -55,6 +55,11 @@ returns-in-None-clause-nowhere c =
       nowhere = place_found p c.args.turn.now.op None c.is_in_order.ensures.turn c.is_in_order.ensures.history c.requires.unplaced fit;
       looks = c.fill.ensures.looks;
     }
+
+pub returns-in-None-clause-shows : goal.returns-in-None-clause-shows
+returns-in-None-clause-shows c =
+    let p : PassState = c.args.turn.now.pass in
+    λ no. c.fill.ensures.filled ∙ sym (looks_pages p c.fill.new.turn.pass c.fill.ensures.looks)
 
 pub returns-in-Some-clause-placed : goal.returns-in-Some-clause-placed
 returns-in-Some-clause-placed c =

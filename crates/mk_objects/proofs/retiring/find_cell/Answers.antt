@@ -1,11 +1,10 @@
-use Rattle.std.proofs.Common.{◌≡◌, ◌≤◌, ◌<◌, true, refl, sym, ap, subst, ◌∙◌, arith}
+use Rattle.std.proofs.Common.{◌≡◌, ◌<◌, sym, ap, subst, ◌∙◌}
 use Rattle.std.specs.Prelude.{Option, Some, unwrap_or}
 use Rattle.std.proofs.lemmas.Bool.{lt-ltb}
 use Rattle.mk_geom.specs.declared.addresses.Cell.{Cell}
 use Rattle.mk_geom.specs.Addresses.{cell_at}
-use Rattle.mk_core.specs.Words.{header_at}
-use Rattle.mk_words.specs.States.{PassState, WordsState, now_of}
-use Rattle.mk_objects.proofs.FoundCells.{IsPointed, pointed_now}
+use Rattle.mk_words.specs.States.{PassState, WordsState}
+use Rattle.mk_objects.proofs.FoundCells.{pointed_now}
 use Rattle.mk_objects.proofs.retiring.find_cell.Goals as goal
 
 pub overflow_sub-page : goal.overflow_sub-page

@@ -1,5 +1,5 @@
 use Rattle.mk_words.specs.States.{PassState}
-use Rattle.mk_objects.proofs.LoadedFrees.{load_admits, load_keeps, load_loads, load_may, load_meets, load_reaches}
+use Rattle.mk_objects.proofs.LoadedFrees.{load_admits, load_keeps, load_loads, load_may, load_meets, load_null, load_reaches}
 use Rattle.mk_objects.proofs.retiring.load_freed.Goals as goal
 
 pub reg_load-value-requires-clause-enabled : goal.reg_load-value-requires-clause-enabled
@@ -34,3 +34,8 @@ returns-clause-keeps c =
     λ some.
     load_keeps p c.reg_load-value.new.self.pass c.args.register c.reg_load-value.result c.args.turn.now.op c.requires.unloaded.small c.is_in_order.ensures.turn
     c.requires.unloaded c.reg_load-value.ensures.acts c.is_in_order.ensures.own c.is_in_order-2.ensures.history c.reg_load-value.ensures.own some
+
+pub returns-clause-null : goal.returns-clause-null
+returns-clause-null c =
+    let p : PassState = c.args.turn.now.pass in
+    λ none. load_null p c.args.register c.reg_load-value.result c.is_in_order.ensures.history c.requires.unloaded c.reg_load-value.ensures.own none

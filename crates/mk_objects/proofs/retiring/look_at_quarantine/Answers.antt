@@ -1,14 +1,12 @@
-use Rattle.std.proofs.Common.{◌≡◌, Bool, true, false, refl, sym, ap, ◌∙◌}
-use Rattle.std.specs.Prelude.{◌==◌}
+use Rattle.std.proofs.Common.{refl}
 use Rattle.mk_core.specs.declared.events.Step.TheVariants as step
 use Rattle.mk_core.specs.declared.events.Word.TheVariants as word
-use Rattle.mk_core.specs.NewPlaces.{is_undecided_free}
 use Rattle.mk_words.specs.States.{PassState, call_of, now_of}
 use Rattle.mk_objects.specs.Retiring.{loaded_free}
 use Rattle.mk_objects.proofs.LoadedFrees.{free_step_admits, loaded_undecided}
 use Rattle.mk_objects.proofs.Looks.{acting_caller, acting_now, found_quarantine}
 use Rattle.mk_objects.proofs.MayAct.{free_is_acting, may_look_quarantine}
-use Rattle.mk_objects.proofs.SeenDoubles.{see_reaches}
+use Rattle.mk_objects.proofs.SeenDoubles.{see_keeps, see_reaches}
 use Rattle.mk_objects.proofs.retiring.look_at_quarantine.Goals as goal
 
 pub look-found-requires-clause-enabled : goal.look-found-requires-clause-enabled
@@ -37,4 +35,12 @@ pub returns-clause-finds : goal.returns-clause-finds
 returns-clause-finds c =
     let p : PassState = c.args.turn.now.pass in
     found_quarantine p c.look-found.new.self.pass c.args.turn.now.op c.args.cell.page c.look-found.result c.is_in_order.ensures.turn c.look-found.ensures.finds
+    c.is_in_order.ensures.own c.is_in_order-2.ensures.history
+
+pub returns-clause-keeps : goal.returns-clause-keeps
+returns-clause-keeps c =
+    let p : PassState = c.args.turn.now.pass in
+    let free = loaded_undecided p c.args.register c.args.value c.requires.free c.requires.some in
+    λ live r lt.
+    see_keeps p c.look-found.new.self.pass r c.args.cell c.args.turn.now.op lt c.is_in_order.ensures.turn free c.requires.cell live c.look-found.ensures.acts
     c.is_in_order.ensures.own c.is_in_order-2.ensures.history

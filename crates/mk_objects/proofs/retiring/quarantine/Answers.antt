@@ -1,11 +1,9 @@
-use Rattle.std.proofs.Common.{◌≡◌, ℕ, ◌+◌, ◌*◌, ◌/◌, ◌%◌, ◌<◌, ◌^◌, Bool, true, false, refl, sym, ap, subst, ◌∙◌, arith}
-use Rattle.std.specs.Prelude.{◌==◌, slice_index, bit_or}
-use Rattle.mk_core.specs.declared.events.Step.TheVariants as step
-use Rattle.mk_core.specs.Words.{quarantine_word}
+use Rattle.std.proofs.Common.{ℕ, ◌<◌, ◌^◌, refl, arith}
+use Rattle.std.specs.Prelude.{slice_index}
 use Rattle.mk_invariant.proofs.Histories.{histories_keep_the_invariant}
 use Rattle.mk_words.specs.States.{PassState, call_of, now_of}
 use Rattle.mk_objects.specs.Retiring.{loaded_free}
-use Rattle.mk_objects.proofs.FreeSteps.{freed_half, freed_word, freed_word_made, quarantine_may, quarantine_reaches}
+use Rattle.mk_objects.proofs.FreeSteps.{freed_half, freed_word_made, quarantine_may, quarantine_once, quarantine_reaches}
 use Rattle.mk_objects.proofs.LoadedFrees.{free_step_admits, loaded_undecided}
 use Rattle.mk_objects.proofs.Looks.{acting_caller}
 use Rattle.mk_objects.proofs.MayAct.{free_is_acting}
@@ -38,6 +36,16 @@ returns-clause-freed c =
     small.0 c.requires.index c.requires.clear c.args.quar c.requires.quar in
     quarantine_reaches p c.quar.new.self.pass c.args.cell _ c.args.turn.now.op c.is_in_order.ensures.turn free c.requires.cell c.requires.clear c.requires.phase word
     (freed_half f c.args.cell.index small.0 c.requires.index c.requires.clear) c.quar.ensures.acts c.is_in_order.ensures.own c.is_in_order-2.ensures.history
+
+pub returns-clause-once : goal.returns-clause-once
+returns-clause-once c =
+    let p : PassState = c.args.turn.now.pass in
+    let small = (histories_keep_the_invariant p.table.config p.seen c.is_in_order.ensures.history).order.quarantined.small c.args.cell.page in
+    let f : ℕ = slice_index (now_of p).words.freed c.args.cell.page in
+    let word = freed_word_made f (slice_index (now_of p).words.snapshot c.args.cell.page) c.args.cell.index
+    small.0 c.requires.index c.requires.clear c.args.quar c.requires.quar in
+    quarantine_once p c.quar.new.self.pass c.args.cell _ c.args.turn.now.op c.is_in_order.ensures.turn c.requires.cell c.requires.clear c.requires.phase word
+    c.quar.ensures.acts c.is_in_order.ensures.own c.is_in_order-2.ensures.history
 
 pub overflow_add-quar : goal.overflow_add-quar
 overflow_add-quar c =

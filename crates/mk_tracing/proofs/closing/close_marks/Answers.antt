@@ -1,7 +1,7 @@
 use Rattle.std.proofs.Common.{◌≡◌, ◌∙◌, ℕ, ◌<◌, sym, subst}
 use Rattle.std.specs.Prelude.{slice_index}
 use Rattle.mk_words.specs.States.{WordsState}
-use Rattle.mk_tracing.specs.Grays.{HasNoGray, RootsPointWell}
+use Rattle.mk_tracing.specs.Grays.{HasNoGray, RootsPointWell, TracesReached}
 use Rattle.mk_tracing.specs.Stops.{still_words}
 use Rattle.mk_tracing.proofs.Closes.{may_close_now, marks_closed_now}
 use Rattle.mk_tracing.proofs.Wants.{wanted_once_then}
@@ -9,7 +9,7 @@ use Rattle.mk_tracing.proofs.closing.close_marks.Goals as goal
 
 pub returns-clause-traces : goal.returns-clause-traces
 returns-clause-traces g c =
-    wanted_once_then c.args.stop.now.pass c.want_and_wait.new.stop.pass c.mark_in_stop.new.stop.pass
+    wanted_once_then TracesReached c.args.stop.now.pass c.want_and_wait.new.stop.pass c.mark_in_stop.new.stop.pass
     c.want_and_wait.ensures.traces c.mark_in_stop.ensures.on.traces
 
 pub returns-clause-closes : goal.returns-clause-closes

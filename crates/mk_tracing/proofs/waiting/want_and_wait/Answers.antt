@@ -1,5 +1,5 @@
 use Rattle.std.proofs.Common.{◌∙◌}
-use Rattle.mk_tracing.proofs.Wants.{wanted_once_then}
+use Rattle.mk_tracing.proofs.Wants.{waited_then}
 use Rattle.mk_tracing.proofs.waiting.want_and_wait.Goals as goal
 
 pub loop-preserved : goal.loop-preserved
@@ -9,10 +9,10 @@ loop-preserved g c = record {
   op = c.look_at_phase.ensures.op ∙ c.loop.invariant.op;
   ready = c.look_at_phase.ensures.ready;
   phase = c.look_at_phase.ensures.phase;
-  traces = wanted_once_then c.args.stop.now.pass c.loop.stop.pass c.look_at_phase.new.stop.pass c.loop.invariant.traces
+  traces = waited_then c.args.stop.now.pass c.loop.stop.pass c.look_at_phase.new.stop.pass c.loop.invariant.traces
       c.look_at_phase.ensures.traces;
 }
 
 pub returns-then-look_at_phase-lt8-clause-traces : goal.returns-then-look_at_phase-lt8-clause-traces
-returns-then-look_at_phase-lt8-clause-traces g c = wanted_once_then c.args.stop.now.pass c.loop.stop.pass
+returns-then-look_at_phase-lt8-clause-traces g c = waited_then c.args.stop.now.pass c.loop.stop.pass
     c.look_at_phase.new.stop.pass c.loop.invariant.traces c.look_at_phase.ensures.traces

@@ -3,7 +3,7 @@ use Rattle.mk_core.specs.Words.{phase_of}
 use Rattle.mk_words.specs.States.{now_of}
 use Rattle.mk_tracing.specs.Grays.{TracesReached}
 use Rattle.mk_tracing.specs.Stops.{IsReady}
-use Rattle.mk_tracing.specs.Tracing.{Counted, is_tracing, is_want}
+use Rattle.mk_tracing.specs.Tracing.{Counted, is_waiting, is_want}
 use Rattle.mk_tracing.proofs.waiting.want_and_wait.Given as goal
 
 abbrev pub invariant-loop : goal.invariant-loop
@@ -13,5 +13,5 @@ invariant-loop g l = record {
   op : l.stop.op ≡ l.fn.stop.op;
   ready : IsReady l.stop.pass;
   phase : phase_of (now_of l.stop.pass).words ≡ 2;
-  traces : Counted is_tracing TracesReached is_want l.fn.stop.pass l.stop.pass 1;
+  traces : Counted is_waiting TracesReached is_want l.fn.stop.pass l.stop.pass 1;
 }

@@ -1,7 +1,9 @@
 use Rattle.std.proofs.Common.{◌≡◌, ◌∙◌, sym, ap, subst}
 use Rattle.mk_core.specs.History.{IsHistory}
+use Rattle.mk_words.specs.Seats.{has_over}
 use Rattle.mk_words.specs.States.{PassState, WordsState}
 use Rattle.mk_heap.specs.Hosts.{HostState, IsHost}
+use Rattle.mk_heap.proofs.BeforeOver.{joined_overs}
 use Rattle.mk_heap.proofs.HostsKept.{home_host, home_is, home_view, joined_is_host}
 use Rattle.mk_heap.proofs.MarkersKept.{out_is_done}
 use Rattle.mk_heap.proofs.hosts.Host.join_marker.Goals as goal
@@ -19,3 +21,13 @@ invariant_of-self c =
     (joined_is_host h c.args.pass q.seen is c.is_in_order-in-Some.ensures.own (out_is_done c.args.pass c.is_in_order.ensures.history c.requires.alone c.requires.marker c.requires.out)
     (c.requires.of_table ∙ sym table)
     (subst (λ (w : WordsState). IsHistory w.config q.seen) kept c.is_in_order-in-Some-2.ensures.history) c.join.ensures.own c.join.ensures.came)
+
+pub returns-clause-overs : goal.returns-clause-overs
+returns-clause-overs c =
+    let s = c.self.inside in
+    let h : HostState = home_host c.in-Some.home s.callers s.markers in
+    let is = home_is s.pass c.in-Some.home s.callers s.markers c.in-Some.is c.self.invariant in
+    let view = home_view s.pass c.in-Some.home s.callers s.markers c.args.self.now c.in-Some.is c.self.view_is in
+    let q : PassState = c.join.new.into in
+    joined_overs h q is c.is_in_order-in-Some.ensures.own (ap (λ (r : PassState). r.table) c.join.ensures.pass) c.is_in_order-in-Some-2.ensures.history c.join.ensures.own
+    ∙ ap (λ (g : HostState). has_over g.pass.seen) view

@@ -1,11 +1,14 @@
-use Rattle.std.proofs.Common.{◌≡◌, ◌∙◌, sym, ap}
+use Rattle.std.proofs.Common.{◌≡◌, ◌∙◌, refl, sym, ap, subst}
+use Rattle.mk_core.specs.declared.events.Seat.{Seat}
 use Rattle.mk_core.specs.declared.events.Seat.TheVariants.{Host}
 use Rattle.mk_core.specs.declared.events.Step.TheVariants as step
+use Rattle.mk_words.specs.Seats.{Has, has_over}
 use Rattle.mk_words.specs.States.{PassState}
 use Rattle.mk_heap.specs.Hosts.{HostState}
-use Rattle.mk_heap.proofs.HostsKept.{home_host, home_is}
-use Rattle.mk_heap.proofs.Waiting.{moved_is_host, moves_more}
-use Rattle.mk_heap.proofs.Telling.{look_admitted, look_tidy, given_no_turn, turn_moves}
+use Rattle.mk_heap.proofs.BeforeOver.{hosts_seat, step_overs, taken_overs}
+use Rattle.mk_heap.proofs.HostsKept.{home_host, home_is, home_view}
+use Rattle.mk_heap.proofs.MovedHosts.{moved_is_host, moves_more, turn_moves}
+use Rattle.mk_heap.proofs.Telling.{look_admitted, look_tidy, given_no_turn}
 use Rattle.mk_heap.proofs.hosts.Host.tell.Goals as goal
 
 pub look-found-requires-clause-admitted : goal.look-found-requires-clause-admitted
@@ -37,3 +40,24 @@ invariant_of-self g c =
     (moves_more h.pass p q (step.Look c.args.x) (turn_moves h.pass p c.take_turn-turn.ensures.takes) c.look-found.ensures.acts.makes)
     c.give-back.ensures.acts.makes)
     c.is_in_order-in-Some-3.ensures.history (given_no_turn q r c.give-back.ensures.acts)
+
+pub returns-clause-overs : goal.returns-clause-overs
+returns-clause-overs g c =
+    let s = c.self.inside in
+    let h : HostState = home_host c.in-Some.home s.callers s.markers in
+    let is = home_is s.pass c.in-Some.home s.callers s.markers (sym c.take.ensures.value ∙ c.in-Some.is) c.self.invariant in
+    let view =
+    home_view s.pass c.in-Some.home s.callers s.markers c.args.self.now (sym c.take.ensures.value ∙ c.in-Some.is) c.self.view_is in
+    let p : PassState = c.take_turn-turn.result.pass in
+    let q : PassState = c.look-found.new.self.pass in
+    let r : PassState = c.give-back.result in
+    let taken = turn_moves h.pass p c.take_turn-turn.ensures.takes in
+    let looked = moves_more h.pass p q (step.Look c.args.x) taken c.look-found.ensures.acts.makes in
+    let own = c.is_in_order.ensures.own in
+    step_overs q r step.Give c.give-back.ensures.acts.makes (hosts_seat h q is own looked)
+    c.is_in_order-in-Some-3.ensures.history refl
+    ∙ step_overs p q (step.Look c.args.x) c.look-found.ensures.acts.makes (hosts_seat h p is own taken)
+    c.is_in_order-in-Some-2.ensures.history refl
+    ∙ taken_overs h.pass p c.take_turn-turn.ensures.takes (subst (λ (x : Seat). Has h.pass.seats x) is.seat own)
+    c.is_in_order-in-Some.ensures.history
+    ∙ ap (λ (g : HostState). has_over g.pass.seen) view

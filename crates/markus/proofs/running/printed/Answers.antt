@@ -1,0 +1,15 @@
+use Rattle.std.proofs.Common.{ap, ◌∙◌}
+use Rattle.std.proofs.lemmas.Result.{IfOk-weaker}
+use Rattle.std.specs.List.{flat_map}
+use Rattle.mk_check.specs.declared.text.Text.{Text}
+use Rattle.mk_check.specs.Output.{output}
+use Rattle.mk_run.specs.Headline.{StandsInOneHistory}
+use Rattle.markus.proofs.PrintedTexts.{run_is_printed}
+use Rattle.markus.proofs.running.printed.Goals as goal
+
+pub returns : goal.returns
+returns g c =
+    let runs = c.in_ok-outcome.ensures in
+    let texts = ap (λ texts. flat_map (λ (text : Text). text.bytes.items) texts) c.deref.ensures.value in
+    IfOk-weaker c.joined.result _ (λ bytes. StandsInOneHistory c.args.program.now c.args.markers (output c.args.program.now) bytes.items)
+    (λ bytes are. run_is_printed c.args.program.now c.args.markers c.in_ok-outcome.outcome bytes.items runs (are ∙ texts)) c.joined.ensures

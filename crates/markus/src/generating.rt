@@ -1,0 +1,96 @@
+//! Generated programs, and what is told of their runs.
+ghost use Rattle.std.specs.Prelude.{◌≡◌, ◌≤◌, ◌⊎◌, ◌++◌, length, string_bytes, IfOk, IfErr, OnOk};
+ghost use Rattle.mk_gen.specs.Generated.{generated};
+ghost use Rattle.mk_run.specs.Headline.{StandsInOneHistory};
+ghost use Rattle.markus.specs.Commands.{IsWithin};
+ghost use Rattle.markus.specs.declared.commands.Command.TheVariants as Command;
+ghost use Rattle.markus.specs.Statuses.{IsOfText};
+ghost use Rattle.markus.specs.Summary.{summary, total_line};
+ghost use Rattle.markus.specs.SummedTexts.{line_of_text, summary_of_texts, AreFew};
+
+use crate::commands::Request;
+use crate::running::outcome_of;
+use crate::statuses::Status;
+use mk_check::Text;
+use mk_gen::generate;
+use mk_never::NoMemory;
+use mk_run::Pace;
+use std::alloc::Global;
+use std::sync::Wait;
+use std::thread::Threads;
+
+/// What `gen` writes, whole.
+pub fn summed<P: Pace + Sync, R: Threads + Wait + Sync>(
+    rt: &R,
+    alloc: Global,
+    request: Request,
+    pace: &P,
+) -> Result<Vec<u8>, Status>
+    requires { IsWithin (Command.Gen request) }
+    ensures ok { IfOk result (λ output. StandsInOneHistory (generated request.start request.count) request.markers
+        (summary (generated request.start request.count)) output.items) }
+    ensures refused { IfErr result (λ status. status ≡ Status.NoMemory) }
+    ensures of_text { IfErr result (λ status. IsOfText status) }
+{
+    match run(rt, alloc, request, pace) {
+        Ok(summary) => Ok(summary),
+        Err(_) => Err(Status::NoMemory),
+    }
+}
+
+/// The summary of a generated program, which runs to its end.
+fn run<P: Pace + Sync, R: Threads + Wait + Sync>(
+    rt: &R,
+    alloc: Global,
+    request: Request,
+    pace: &P,
+) -> Result<Vec<u8>, NoMemory>
+    requires { IsWithin (Command.Gen request) }
+    ensures { IfOk result (λ bytes. StandsInOneHistory (generated request.start request.count) request.markers
+        (summary (generated request.start request.count)) bytes.items) }
+{
+    let program = generate(alloc, request.start, request.count)?;
+    let outcome = outcome_of(rt, alloc, &program, request.markers, false, pace)?;
+    let lines = summary_of(alloc, &outcome.texts)?;
+    Ok(lines.into_bytes())
+}
+
+/// The summary of scripts that are named `s0`, `s1` and so on.
+fn summary_of(alloc: Global, texts: &[Text]) -> Result<String, NoMemory>
+    requires scripts { length texts.now ≤ 4 }
+    requires calls { AreFew texts.now }
+    ensures { IfOk result (λ lines. string_bytes lines ≡ summary_of_texts texts.now) }
+{
+    let mut lines = String::new(alloc);
+    let mut number = 0;
+    let mut total = 0;
+    for text in texts {
+        push_line(&mut lines, number, text)?;
+        number += 1;
+        total += text.ops;
+    }
+    push_total(&mut lines, total)?;
+    Ok(lines)
+}
+
+/// Appends the line of a script.
+fn push_line(lines: &mut String, number: u64, text: &Text) -> Result<(), NoMemory>
+    ensures { OnOk result (string_bytes lines.new ≡ string_bytes lines.old ++ line_of_text number text.now) }
+{
+    let ops = text.ops;
+    let refused = text.refused;
+    match writeln!(lines, "script s{number} ops {ops} refused {refused}") {
+        Ok(()) => Ok(()),
+        Err(_) => Err(NoMemory),
+    }
+}
+
+/// Appends the line of all scripts.
+fn push_total(lines: &mut String, ops: u64) -> Result<(), NoMemory>
+    ensures { OnOk result (string_bytes lines.new ≡ string_bytes lines.old ++ total_line ops) }
+{
+    match writeln!(lines, "total {ops}") {
+        Ok(()) => Ok(()),
+        Err(_) => Err(NoMemory),
+    }
+}

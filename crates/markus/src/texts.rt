@@ -1,0 +1,20 @@
+//! The texts of scripts.
+ghost use Rattle.std.specs.Prelude.{◌≡◌, IfOk};
+ghost use Rattle.std.specs.List.{flat_map};
+
+use mk_check::Text;
+use mk_never::NoMemory;
+use std::alloc::Global;
+
+/// The texts, one behind the other.
+pub fn joined(alloc: Global, texts: &[Text]) -> Result<Vec<u8>, NoMemory>
+    ensures { IfOk result (λ bytes. bytes.items ≡ flat_map (λ text. text.bytes.items) texts.now) }
+{
+    let mut bytes = Vec::new(alloc);
+    for text in texts {
+        if bytes.extend_from_slice(&text.bytes).is_err() {
+            return Err(NoMemory);
+        }
+    }
+    Ok(bytes)
+}

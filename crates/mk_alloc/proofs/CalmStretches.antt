@@ -1,0 +1,219 @@
+-- Stretches of a turn that isn't for an undecided Free, in which nothing is granted and no New is full: no call of the
+-- holder's is decided, and up to a `release` the unreleased storage stays as it is.
+use Rattle.std.proofs.Common.{◌≡◌, ◌≢◌, ℕ, true, false, List, [], ◌∷◌, ◌++◌, map, refl, sym, ◌∙◌, ap, subst, append-nil, append_assoc}
+use Rattle.std.specs.Prelude.{Option}
+use Rattle.mk_geom.specs.declared.addresses.Cell.{Cell}
+use Rattle.mk_geom.specs.Storages.{Storage}
+use Rattle.mk_core.specs.declared.config.Config.{Config}
+use Rattle.mk_core.specs.declared.events.Event.{Event}
+use Rattle.mk_core.specs.declared.events.Seat.TheVariants.{Caller}
+use Rattle.mk_core.specs.declared.events.Step.{Step}
+use Rattle.mk_core.specs.declared.events.Step.TheVariants as step
+use Rattle.mk_core.specs.declared.seats.Flight.{Flight}
+use Rattle.mk_core.specs.Allocations.{PlacedAllocation, freed_where_it_stands, unreleased_storage, allocations_by}
+use Rattle.mk_core.specs.Calls.{still}
+use Rattle.mk_core.specs.Decided.{Decided}
+use Rattle.mk_core.specs.Effects.{progress}
+use Rattle.mk_core.specs.Frames.{Steady}
+use Rattle.mk_core.specs.Growing.{AreOfOthers}
+use Rattle.mk_core.specs.History.{World, left}
+use Rattle.mk_core.specs.Moments.{Moment, flight_of}
+use Rattle.mk_core.proofs.ChangedAllocations.{fresh_storage, none_freed}
+use Rattle.mk_protocol.proofs.Frames.{left_after}
+use Rattle.mk_protocol.proofs.Protocols.{protocol_of}
+use Rattle.mk_words.specs.Seats.{Has}
+use Rattle.mk_words.specs.States.{PassState, event_of}
+use Rattle.mk_words.proofs.Seats.{only_one, others_one}
+use Rattle.mk_caller.specs.States.{number_of}
+use Rattle.mk_caller.specs.Called.{own_calls}
+use Rattle.mk_caller.proofs.OwnSteps.{calls_by, others_add_none}
+use Rattle.mk_cycle.specs.EngineLaw.{is_pending_free}
+use Rattle.mk_cycle.proofs.Calm.{calm_still, frees_none}
+use Rattle.mk_cycle.proofs.OwnSteps.{flight_behind, no_more_calls, undecided}
+use Rattle.mk_alloc.proofs.Stretches.{AreOfTurn, Here, SomeKinds, Stretch, along, call_in}
+
+-- the steps of cycles, and those that leave the unreleased storage
+
+abbrev pub is_of_cycles : SomeKinds
+is_of_cycles (step.Look x) = true
+is_of_cycles (step.Quar p v) = true
+is_of_cycles (step.Tally n v) = true
+is_of_cycles (step.Hold j) = true
+is_of_cycles (step.Open j) = true
+is_of_cycles (step.Clear p) = true
+is_of_cycles (step.Wipe n) = true
+is_of_cycles (step.Mark p v) = true
+is_of_cycles (step.Head p v) = true
+is_of_cycles (step.Used p v) = true
+is_of_cycles step.Begin = true
+is_of_cycles step.Want = true
+is_of_cycles step.Close = true
+is_of_cycles step.Release = true
+is_of_cycles step.End = true
+is_of_cycles (step.Undirty p) = true
+is_of_cycles (step.Black p v) = true
+is_of_cycles (step.Unblack p) = true
+is_of_cycles _ = false
+
+abbrev pub releases_none : SomeKinds
+releases_none step.Release = false
+releases_none x = is_of_cycles x
+
+pub cycles_in_turn : AreOfTurn is_of_cycles
+cycles_in_turn (step.Take o) h = cc
+cycles_in_turn step.Give h = cc
+cycles_in_turn (step.Enter o) h = cc
+cycles_in_turn step.Leave h = cc
+cycles_in_turn x h = refl
+
+pub of_cycles : (x : Step) → releases_none x ≡ true → is_of_cycles x ≡ true
+of_cycles step.Release h = cc
+of_cycles x h = h
+
+pub cycle_still : (c : Config) (m : Moment) (f : Flight) (n : ℕ) (x : Step) → is_of_cycles x ≡ true → is_pending_free f
+    ≡ false
+    → progress c m f n x ≡ still f
+cycle_still c m f n (step.Mark p v) h free = refl
+cycle_still c m f n (step.Head p v) h free = refl
+cycle_still c m f n (step.Used p v) h free = refl
+cycle_still c m f n step.Begin h free = refl
+cycle_still c m f n step.End h free = refl
+cycle_still c m f n (step.Look x) h free = calm_still c m f n (step.Look x) refl free
+cycle_still c m f n (step.Quar p v) h free = calm_still c m f n (step.Quar p v) refl free
+cycle_still c m f n (step.Tally t v) h free = refl
+cycle_still c m f n (step.Hold j) h free = refl
+cycle_still c m f n (step.Open j) h free = refl
+cycle_still c m f n (step.Clear p) h free = refl
+cycle_still c m f n (step.Wipe i) h free = refl
+cycle_still c m f n step.Close h free = refl
+cycle_still c m f n step.Release h free = refl
+cycle_still c m f n step.Want h free = refl
+cycle_still c m f n (step.Undirty p) h free = refl
+cycle_still c m f n (step.Black p v) h free = refl
+cycle_still c m f n (step.Unblack p) h free = refl
+cycle_still c m f n _ h free = cc
+
+-- lists one event longer
+
+pub longer : (P : List Event → Type 0) (es done : List Event) (e : Event) → P ((es ++ done) ++ e ∷ [])
+    → P (es ++ (done ++ e ∷ []))
+longer P es done e h = subst P (append_assoc es done (e ∷ [])) h
+
+-- The holder's call stays as it is, and none of its calls is decided.
+pub record GoesUndecided (p : PassState) (es fs : List Event) : Type 0 where
+  pub call : call_in p fs ≡ call_in p es
+  pub calls : own_calls p fs ≡ own_calls p es
+
+module _ (p : PassState) (seat : p.seat ≡ Caller (number_of p)) (own : Has p.seats p.seat) where
+  pub not_own : (e : Event) → e.seat ≢ p.seat → AreOfOthers (Caller (number_of p) ∷ []) (e ∷ [])
+  not_own e ne = others_one (Caller (number_of p) ∷ []) e
+      (λ has. ne (only_one (Caller (number_of p)) e.seat has ∙ sym seat))
+
+  -- One event of another's decides none of the holder's calls,
+  pub other_undecided : (es : List Event) (e : Event) → Here p es e → e.seat ≢ p.seat
+      → GoesUndecided p es (es ++ e ∷ [])
+  other_undecided es e h ne =
+      record {
+        call = ap (λ (w : World). flight_of w.now p.seat) h.behind
+            ∙ (left_after p.table.config (left p.table.config es) e.seat p.seat e.step h.known h.meets ne).own.flight;
+        calls = others_add_none p.table.config (number_of p) es (e ∷ []) (not_own e ne);
+      }
+
+  -- nor does one of its own.
+  own_undecided : (es : List Event) (x : Step) → Here p es (event_of p x) → is_of_cycles x ≡ true
+      → is_pending_free (call_in p es) ≡ false → GoesUndecided p es (es ++ event_of p x ∷ [])
+  own_undecided es x h kind free =
+      let c : Config = p.table.config in
+      let m : Moment = (left c es).now in
+      let st : (n : ℕ) → progress c m (flight_of m p.seat) n x ≡ still (flight_of m p.seat) = λ n.
+      cycle_still c m (flight_of m p.seat) n x kind free in
+      record {
+        call = ap (λ (w : World). flight_of w.now p.seat) h.behind
+            ∙ flight_behind c m p.seat x (protocol_of c m h.known) h.holds st;
+        calls = ap (λ (l : List Decided). calls_by (number_of p) l)
+            (no_more_calls c es (event_of p x) (undecided c m p.seat x st));
+      }
+
+  undecided_then : (es fs gs : List Event) → GoesUndecided p es fs → GoesUndecided p fs gs → GoesUndecided p es gs
+  undecided_then es fs gs a b = record { call = b.call ∙ a.call; calls = b.calls ∙ a.calls }
+
+  pub goes_undecided : (kinds : SomeKinds) (es more : List Event)
+      → ((x : Step) → kinds x ≡ true → is_of_cycles x ≡ true)
+      → is_pending_free (call_in p es) ≡ false → Stretch p kinds es more → GoesUndecided p es (es ++ more)
+  goes_undecided kinds es more within free s =
+      along p kinds (λ x h. cycles_in_turn x (within x h)) own es (λ done. GoesUndecided p es (es ++ done))
+      (record {
+        own = λ done x h kind so_far.
+            longer (λ l. GoesUndecided p es l) es done (event_of p x)
+            (undecided_then es (es ++ done) ((es ++ done) ++ event_of p x ∷ []) so_far
+            (own_undecided (es ++ done) x h (within x kind)
+            (ap (λ (f : Flight). is_pending_free f) so_far.call ∙ free)));
+        other = λ done e h ne so_far.
+            longer (λ l. GoesUndecided p es l) es done e
+            (undecided_then es (es ++ done) ((es ++ done) ++ e ∷ []) so_far (other_undecided (es ++ done) e h ne));
+      })
+      more s (subst (λ (l : List Event). GoesUndecided p es l) (sym (append-nil es))
+      (record { call = refl; calls = refl }))
+
+-- The unreleased storage
+
+abbrev pub storage_in : PassState → List Event → List Storage
+storage_in p es = unreleased_storage p.table.config (left p.table.config es).allocations
+
+storage_by : (c : Config) (m : Moment) (f : Flight) (x : Step) (xs : List PlacedAllocation) → releases_none x ≡ true
+    → is_pending_free f ≡ false → unreleased_storage c (allocations_by c m f x xs) ≡ unreleased_storage c xs
+storage_by c m f (step.Quar p v) xs h free =
+    ap (λ (cell : Option Cell). unreleased_storage c (map (freed_where_it_stands m.words cell) xs))
+    (frees_none c.pages m.words f p v free)
+    ∙ ap (λ (ys : List PlacedAllocation). unreleased_storage c ys) (none_freed m.words xs)
+storage_by c m f step.Begin xs h free = fresh_storage c xs
+storage_by c m f step.Grant xs h free = cc
+storage_by c m f step.Release xs h free = cc
+storage_by c m f x xs h free = refl
+
+-- stays where nothing is released, at each event.
+pub record StaysReserved (p : PassState) (es fs : List Event) : Type 0 where
+  pub call : call_in p fs ≡ call_in p es
+  pub storage : storage_in p fs ≡ storage_in p es
+
+module _ (p : PassState) (seat : p.seat ≡ Caller (number_of p)) (own : Has p.seats p.seat) where
+  own_storage : (es : List Event) (x : Step) → Here p es (event_of p x) → releases_none x ≡ true
+      → is_pending_free (call_in p es) ≡ false → storage_in p (es ++ event_of p x ∷ []) ≡ storage_in p es
+  own_storage es x h kind free =
+      let c : Config = p.table.config in
+      let w : World = left c es in
+      ap (λ (v : World). unreleased_storage c v.allocations) h.behind
+      ∙ storage_by c w.now (flight_of w.now p.seat) x w.allocations kind free
+
+  other_storage : (es : List Event) (e : Event) → Here p es e → e.seat ≢ p.seat → storage_in p (es ++ e ∷ [])
+      ≡ storage_in p es
+  other_storage es e h ne =
+      let c : Config = p.table.config in
+      ap (λ (v : World). unreleased_storage c v.allocations) h.behind
+      ∙ ap (λ (s : Steady). unreleased_storage c s.allocations)
+      ((left_after c (left c es) e.seat p.seat e.step h.known h.meets ne).turn h.holds).steady
+
+  pub stays_reserved : (kinds : SomeKinds) (es more : List Event)
+      → ((x : Step) → kinds x ≡ true → releases_none x ≡ true)
+      → is_pending_free (call_in p es) ≡ false → Stretch p kinds es more → StaysReserved p es (es ++ more)
+  stays_reserved kinds es more within free s =
+      along p kinds (λ x h. cycles_in_turn x (of_cycles x (within x h))) own es
+      (λ done. StaysReserved p es (es ++ done))
+      (record {
+        own = λ done x h kind so_far.
+            let pending = ap (λ (f : Flight). is_pending_free f) so_far.call ∙ free in
+            longer (λ l. StaysReserved p es l) es done (event_of p x)
+            (record {
+              call = (own_undecided p seat own (es ++ done) x h (of_cycles x (within x kind)) pending).call
+                  ∙ so_far.call;
+              storage = own_storage (es ++ done) x h (within x kind) pending ∙ so_far.storage;
+            });
+        other = λ done e h ne so_far.
+            longer (λ l. StaysReserved p es l) es done e
+            (record {
+              call = (other_undecided p seat own (es ++ done) e h ne).call ∙ so_far.call;
+              storage = other_storage (es ++ done) e h ne ∙ so_far.storage;
+            });
+      })
+      more s (subst (λ (l : List Event). StaysReserved p es l) (sym (append-nil es))
+      (record { call = refl; storage = refl }))

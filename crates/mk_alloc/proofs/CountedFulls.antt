@@ -1,0 +1,307 @@
+-- The three steps of a Full: the tally is looked at, raised, and the New decided.
+use Rattle.std.proofs.Common.{◌≡◌, ℕ, ◌+◌, ◌-◌, ◌^◌, true, false, List, [], ◌∷◌, ◌++◌, refl, sym, ◌∙◌, ap, subst, arith}
+use Rattle.std.specs.Prelude.{Option, Some, None, min, cond}
+use Rattle.std.proofs.lemmas.List.Sums.{sum_by_push}
+use Rattle.mk_core.specs.declared.config.Config.{Config}
+use Rattle.mk_core.specs.declared.events.Answer.{Answer}
+use Rattle.mk_core.specs.declared.events.Answer.TheVariants as answer
+use Rattle.mk_core.specs.declared.events.Event.{Event}
+use Rattle.mk_core.specs.declared.events.Seat.{Seat}
+use Rattle.mk_core.specs.declared.events.Seat.TheVariants.{Caller}
+use Rattle.mk_core.specs.declared.events.Step.{Step}
+use Rattle.mk_core.specs.declared.events.Step.TheVariants as step
+use Rattle.mk_core.specs.declared.events.Tally.TheVariants as tally
+use Rattle.mk_core.specs.declared.events.Word.TheVariants as word
+use Rattle.mk_core.specs.declared.seats.Flight.{Flight}
+use Rattle.mk_core.specs.declared.seats.Holding.{Holding}
+use Rattle.mk_core.specs.declared.seats.OwnCycle.TheVariants.{Ended}
+use Rattle.mk_core.specs.declared.seats.Placing.{Placing}
+use Rattle.mk_core.specs.declared.seats.RunPages.{RunPages}
+use Rattle.mk_core.specs.declared.seats.Stage.TheVariants as stage
+use Rattle.mk_core.specs.Allocations.{PlacedAllocation, fresh_words_of, held_words}
+use Rattle.mk_core.specs.Counts.{ends, fulls, in_a_word, releases}
+use Rattle.mk_core.specs.Cycles.{is_end}
+use Rattle.mk_core.specs.Decided.{Decided, entry_of}
+use Rattle.mk_core.specs.Effects.{answer_decided}
+use Rattle.mk_core.specs.Frames.{Steady, steady_of}
+use Rattle.mk_core.specs.History.{IsHistory, World, call_decided, calls, first_world, left}
+use Rattle.mk_core.specs.Moments.{Moment}
+use Rattle.mk_core.specs.NewPlaces.{is_run_gone, object_made}
+use Rattle.mk_core.proofs.Histories.{calls_more}
+use Rattle.mk_protocol.specs.Protocol.{has_place}
+use Rattle.mk_protocol.proofs.OthersCounts.{fulls_append, fulls_of}
+use Rattle.mk_words.specs.States.{PassState, call_of, event_of, now_of, world_of}
+use Rattle.mk_words.specs.Steps.{Finds}
+use Rattle.mk_words.specs.TurnSteps.{Acts, turn_stays}
+use Rattle.mk_words.proofs.Made.{made}
+use Rattle.mk_turns.specs.Doing.{Does}
+use Rattle.mk_turns.proofs.Doing.{does_step, does_then}
+use Rattle.mk_caller.specs.States.{number_of}
+use Rattle.mk_caller.specs.Called.{own_calls}
+use Rattle.mk_caller.proofs.OwnSteps.{by_append, calls_by, others_add_none, own_entry}
+use Rattle.mk_cycle.specs.EngineLaw.{IsAtPhase, is_pending_free_at}
+use Rattle.mk_cycle.specs.TurnKeeps.{Done, InTurn, KeepsTurn, done_of, whole}
+use Rattle.mk_cycle.proofs.CleaningSteps.{calm_keeps}
+use Rattle.mk_cycle.proofs.KeptInParts.{free_then, gates_behind, gates_then, same_config}
+use Rattle.mk_objects.specs.Placing.{IsUnplaced, object_for, place_now_for}
+use Rattle.mk_alloc.specs.Rooms.{AnswersFull, asks_room}
+use Rattle.mk_alloc.specs.Underway.{IsQuiet}
+use Rattle.mk_alloc.proofs.CalledTurns.{of_others_alone, step_adds_none}
+use Rattle.mk_alloc.proofs.Going.{IsCallers}
+use Rattle.mk_alloc.proofs.Parts.{part_lacks, seen_behind}
+use Rattle.mk_alloc.proofs.PlacedTurns.{none_freed_yet}
+use Rattle.mk_alloc.proofs.QuietTurns.{none_held_kept, same_phase}
+use Rattle.mk_alloc.proofs.RetiredTurns.{given_is_decided}
+use Rattle.mk_alloc.proofs.RoomParts.{room_lacks, rooms_held}
+use Rattle.mk_alloc.proofs.SeekingTurns.{new_callers, still_nowhere, unplaced_kept}
+use Rattle.mk_alloc.proofs.StepKinds.{AreApart}
+use Rattle.mk_alloc.proofs.Stretches.{SomeKinds}
+use Rattle.mk_objects.proofs.JoinedLooks.{does_wider}
+
+counts_full : SomeKinds
+counts_full (step.Look x) = true
+counts_full (step.Tally n v) = true
+counts_full step.Full = true
+counts_full _ = false
+
+counting_stays : (x : Step) → counts_full x ≡ true → turn_stays x ≡ true
+unfolding counts_full
+counting_stays (step.Look w) h = refl
+counting_stays (step.Tally n v) h = refl
+counting_stays step.Full h = refl
+counting_stays _ h = cc
+
+counting_no_room : AreApart counts_full asks_room
+unfolding counts_full
+counting_no_room step.Begin h = cc
+counting_no_room step.Want h = cc
+counting_no_room _ h = refl
+
+abbrev but_full : Steady → Steady
+but_full s = record s { full = 0 }
+
+answers : (c : Config) (m : Moment) (seat : Seat) (k : ℕ) → seat ≡ Caller k
+    → answer_decided c m (record { seat = seat; step = step.Full }) ≡ Some answer.Full
+answers c m seat k is =
+    subst (λ (s : Seat). answer_decided c m (record { seat = s; step = step.Full }) ≡ Some answer.Full) (sym is) refl
+
+raised_so : (n v f g : ℕ) → n ≡ in_a_word f → v ≡ min (n + 1) (2 ^ 64 - 1) → g ≡ f + 1 → v ≡ in_a_word g
+raised_so n v f g is raised more = omega arith
+
+-- the looks and the tally before
+module _ (p p1 p2 : PassState) (n v : ℕ) (t : InTurn p) (quiet : IsQuiet p) (u : IsUnplaced p)
+    (look : Acts p (step.Look word.Full) p1) (finds : Finds p (step.Look word.Full) n p1) (t1 : InTurn p1)
+    (tallies : Acts p1 (step.Tally tally.Full v) p2) (t2 : InTurn p2) where
+  k1 : KeepsTurn whole p p1
+  k1 = calm_keeps p (step.Look word.Full) p1 look t t1.history refl quiet.free whole refl
+
+  k2 : KeepsTurn but_full p1 p2
+  k2 = calm_keeps p1 (step.Tally tally.Full v) p2 tallies t1 t2.history refl
+      (free_then p p1 k1.call quiet.free) but_full refl
+
+  steady : but_full (steady_of (world_of p2)) ≡ but_full (steady_of (world_of p))
+  steady = k2.steady ∙ ap but_full k1.steady
+
+  pub same_pass : p2 ≡ record p { seen = p2.seen }
+  same_pass = k2.call.pass ∙ ap (λ (x : PassState). record x { seen = p2.seen }) k1.call.pass
+
+  found : n ≡ (now_of p).words.full
+  found =
+      finds.finds ∙ ap (λ (s : Steady). s.full)
+      (((made p (step.Look word.Full) p1 finds.makes t.own t1.history).frame.turn t.holds).0).steady
+
+  tally_is : (now_of p2).words.full ≡ v
+  tally_is = ap (λ (w : World). w.now.words.full) tallies.world
+
+  call_same : call_of p2 ≡ call_of p
+  call_same = k2.call.call ∙ k1.call.call
+
+  done_same : done_of (now_of p2) ≡ done_of (now_of p)
+  done_same = k2.call.done ∙ k1.call.done
+
+  pub tallied_unplaced : IsUnplaced p2
+  tallied_unplaced = unplaced_kept p p2 u call_same (ap (λ (x : Done). x.placing) done_same)
+      (ap (λ (s : Steady). s.phase) steady)
+
+  pub tallied_idle : IsAtPhase p 0 → IsAtPhase p2 0
+  tallied_idle idle = ap (λ (s : Steady). s.phase) steady ∙ idle
+
+  pub tallied_ended : (now_of p).seats.holding.cycle ≡ Ended → (now_of p2).seats.holding.cycle ≡ Ended
+  tallied_ended ended = ap (λ (x : Done). x.cycle) done_same ∙ ended
+
+  pub tallied_nowhere : place_now_for p ≡ None → place_now_for p2 ≡ None
+  tallied_nowhere none =
+      still_nowhere p p2 (ap (λ (s : Steady). s.allocations) steady) (ap (λ (x : PassState). x.table.config) same_pass)
+      (ap (λ (x : PassState). object_made x.table.config (call_of p2).op) same_pass
+      ∙ ap (λ (f : Flight). object_made p.table.config f.op) call_same) none
+
+  module _ (q : PassState) (full : Acts p2 step.Full q) (history : IsHistory q.table.config q.seen)
+      (raised : v ≡ min (n + 1) (2 ^ 64 - 1)) where
+    seat : IsCallers p
+    seat = new_callers p u
+
+    seat2 : IsCallers p2
+    seat2 = new_callers p2 tallied_unplaced
+
+    steady_q : steady_of (world_of q) ≡ steady_of (world_of p2)
+    steady_q = ap (λ (w : World). steady_of w) full.world ∙ full.turn.steady
+
+    pass_q : q ≡ record p { seen = q.seen }
+    pass_q =
+        full.makes.is ∙ ap (λ (x : PassState). record x
+        { seen = p2.seen ++ full.makes.others ++ event_of x step.Full ∷ [] }) same_pass
+        ∙ ap (λ (l : List Event). record p { seen = l })
+        (ap (λ (x : PassState). p2.seen ++ full.makes.others ++ event_of x step.Full ∷ []) (sym same_pass)
+        ∙ sym (ap (λ (x : PassState). x.seen) full.makes.is))
+
+    call_q : call_of q ≡ record (call_of p) { stage = stage.Give }
+    call_q = full.call (number_of p2) seat2 ∙ ap (λ (f : Flight). record f { stage = stage.Give }) call_same
+
+    holding_q : (now_of q).seats.holding ≡ (now_of p2).seats.holding
+    holding_q = ap (λ (w : World). w.now.seats.holding) full.world ∙ full.holding
+
+    abbrev es : List Event
+    es = p2.seen ++ full.makes.others
+
+    abbrev e : Event
+    e = event_of p2 step.Full
+
+    seen_q : q.seen ≡ es ++ e ∷ []
+    seen_q = ap (λ (x : PassState). x.seen) full.makes.is
+
+    config2 : p2.table.config ≡ p.table.config
+    config2 = ap (λ (x : PassState). x.table.config) same_pass
+
+    decides : call_decided p2.table.config (left p2.table.config es).now e
+        ≡ entry_of (number_of p2) (call_of p2).op (Some answer.Full)
+    decides =
+        ap (λ (f : Flight). entry_of (number_of p2) f.op
+        (answer_decided p2.table.config (left p2.table.config es).now e)) full.own.flight
+        ∙ ap (λ (x : Option Answer). entry_of (number_of p2) (call_of p2).op x)
+        (answers p2.table.config (left p2.table.config es).now p2.seat (number_of p2) seat2)
+
+    ends_q : ends q.seen ≡ ends p.seen
+    ends_q =
+        let pushed : ends (es ++ e ∷ []) ≡ ends es + 0 =
+        sum_by_push (λ (x : Event). cond {A = ℕ} (is_end x.step) 1 0) es e in
+        ap ends seen_q ∙ (let same : ends (es ++ e ∷ []) ≡ ends es = omega arith in same)
+        ∙ full.counts.ends ∙ k2.counts.ends ∙ k1.counts.ends
+
+    fulls_q : fulls p.table.config q.seen ≡ fulls p.table.config p.seen + 1
+    fulls_q =
+        let ds : List Decided = call_decided p2.table.config (left p2.table.config es).now e in
+        let last : fulls_of ds ≡ 1 = ap (λ (xs : List Decided). fulls_of xs) decides in
+        let pushed : fulls p2.table.config (es ++ e ∷ []) ≡ fulls p2.table.config es + fulls_of ds =
+        ap (λ (xs : List Decided). fulls_of xs) (calls_more p2.table.config (first_world p2.table.config) es e)
+        ∙ fulls_append (calls p2.table.config es) ds in
+        let before : fulls p2.table.config es ≡ fulls p2.table.config p2.seen = full.counts.fulls in
+        let two : fulls p2.table.config p2.seen ≡ fulls p.table.config p.seen =
+        ap (λ (c : Config). fulls c p2.seen) (same_config p1 p2 k2.call.pass) ∙ k2.counts.fulls
+        ∙ ap (λ (c : Config). fulls c p1.seen) (same_config p p1 k1.call.pass) ∙ k1.counts.fulls in
+        let whole : fulls p.table.config q.seen ≡ fulls p2.table.config (es ++ e ∷ []) =
+        ap (λ (c : Config). fulls c q.seen) (sym config2) ∙ ap (λ (l : List Event). fulls p2.table.config l) seen_q in
+        omega arith
+
+    entry : own_calls p q.seen ≡ own_calls p p.seen ++ entry_of (number_of p) (call_of p).op (Some answer.Full)
+    entry =
+        sym (ap (λ (x : PassState). own_calls x q.seen) same_pass)
+        ∙ ap (λ (l : List Event). own_calls p2 l) seen_q
+        ∙ ap (λ (l : List Decided). calls_by (number_of p2) l)
+        (calls_more p2.table.config (first_world p2.table.config) es e)
+        ∙ by_append (number_of p2) (calls p2.table.config es)
+        (call_decided p2.table.config (left p2.table.config es).now e)
+        ∙ ap (λ (l : List Decided). l ++ calls_by (number_of p2)
+        (call_decided p2.table.config (left p2.table.config es).now e))
+        (others_add_none p2.table.config (number_of p2) p2.seen full.makes.others
+        (of_others_alone p2 full.makes.others seat2 t2.own full.makes.of_others))
+        ∙ ap (λ (l : List Decided). own_calls p2 p2.seen ++ calls_by (number_of p2) l) decides
+        ∙ ap (λ (l : List Decided). own_calls p2 p2.seen ++ l)
+        (own_entry (number_of p2) (call_of p2).op (Some answer.Full))
+        ∙ ap (λ (f : Flight). own_calls p2 p2.seen ++ entry_of (number_of p2) f.op (Some answer.Full)) call_same
+        ∙ ap (λ (x : PassState). own_calls x p2.seen ++ entry_of (number_of x) (call_of p).op (Some answer.Full))
+        same_pass
+        ∙ ap (λ (l : List Decided). l ++ entry_of (number_of p) (call_of p).op (Some answer.Full))
+        (sym (ap (λ (x : PassState). own_calls x p2.seen) k1.call.pass)
+        ∙ step_adds_none p1 p2 (step.Tally tally.Full v) tallies.makes
+        (subst (λ (x : PassState). IsCallers x) (sym k1.call.pass) seat) t1.own refl
+        ∙ ap (λ (x : PassState). own_calls x p1.seen) k1.call.pass
+        ∙ step_adds_none p p1 (step.Look word.Full) look.makes seat t.own refl)
+
+    all_steady : but_full (steady_of (world_of q)) ≡ but_full (steady_of (world_of p))
+    all_steady = ap but_full steady_q ∙ steady
+
+    allocations_q : (world_of q).allocations ≡ (world_of p).allocations
+    allocations_q = ap (λ (s : Steady). s.allocations) all_steady
+
+    config_q : q.table.config ≡ p.table.config
+    config_q = ap (λ (x : PassState). x.table.config) pass_q
+
+    quiet_q : IsQuiet q
+    quiet_q =
+        record {
+          free = record {
+            decided = ap (λ (f : Flight). is_pending_free_at f.op f.stage) call_q ∙ given_is_decided (call_of p).op;
+            unplaced =
+                ap (λ (h : Holding). has_place h.placing) holding_q
+                ∙ ap (λ (x : Placing). has_place x) tallied_unplaced.placing;
+            gone =
+                ap (λ (x : Option RunPages). is_run_gone (now_of q).words x)
+                (ap (λ (h : Holding). h.freed) holding_q ∙ none_freed_yet p2 t2 tallied_unplaced.new);
+          };
+          phase = same_phase p q (ap (λ (s : Steady). s.phase) all_steady) quiet.phase;
+          gates =
+              none_held_kept p q pass_q
+              (gates_then p p1 q k1.call.pass (gates_behind p (step.Look word.Full) p1 look refl)
+              (gates_then p1 p2 q k2.call.pass (gates_behind p1 (step.Tally tally.Full v) p2 tallies refl)
+              (gates_behind p2 step.Full q full refl)))
+              quiet.gates;
+          exact = record {
+            held =
+                ap (λ (s : Steady). s.held) all_steady ∙ quiet.exact.held
+                ∙ sym (ap (λ (c : Config). held_words c (world_of q).allocations) config_q
+                ∙ ap (λ (xs : List PlacedAllocation). held_words p.table.config xs) allocations_q);
+            fresh =
+                ap (λ (s : Steady). s.fresh) all_steady ∙ quiet.exact.fresh
+                ∙ sym (ap (λ (c : Config). in_a_word (fresh_words_of c (world_of q).allocations)) config_q
+                ∙ ap (λ (xs : List PlacedAllocation). in_a_word (fresh_words_of p.table.config xs)) allocations_q);
+          };
+          tidy = record {
+            cycles = ap (λ (s : Steady). s.cycles) all_steady ∙ quiet.tidy.cycles ∙ ap in_a_word (sym ends_q);
+            released =
+                ap (λ (s : Steady). s.released) all_steady ∙ quiet.tidy.released
+                ∙ ap in_a_word (sym (ap releases allocations_q));
+            full =
+                ap (λ (s : Steady). s.full) steady_q ∙ tally_is
+                ∙ raised_so n v (fulls p.table.config p.seen) (fulls p.table.config q.seen)
+                (found ∙ quiet.tidy.full) raised fulls_q
+                ∙ ap (λ (c : Config). in_a_word (fulls c q.seen)) (sym config_q);
+          };
+        }
+
+    does : Does counts_full p q
+    unfolding counts_full
+    does =
+        does_then counts_full p p1 q (does_step counts_full p p1 (step.Look word.Full) t.own look.makes refl)
+        (does_then counts_full p1 p2 q (does_step counts_full p1 p2 (step.Tally tally.Full v) t1.own tallies.makes refl)
+        (does_step counts_full p2 q step.Full t2.own full.makes refl))
+
+    pub answers_full : AnswersFull p q
+    answers_full =
+        record {
+          seeks = record {
+            on = record {
+              does = does_wider counts_full turn_stays counting_stays p q does;
+              quiet = quiet_q;
+              entry = entry;
+              op = ap (λ (f : Flight). f.op) call_q;
+              decided = λ some. ap (λ (f : Flight). f.stage) call_q;
+              undecided = λ none. cc;
+            };
+            room = room_lacks (object_for p) p q does.more (seen_behind counts_full p q does)
+                (part_lacks counts_full asks_room p q counting_stays rooms_held counting_no_room t does history);
+          };
+          before = es;
+          behind = [];
+          is = seen_q ∙ ap (λ (x : PassState). es ++ event_of x step.Full ∷ []) same_pass;
+          allocations = allocations_q;
+        }

@@ -1,0 +1,110 @@
+-- What the turn of a Free does with cycles, by the events behind its `take`.
+use Rattle.std.proofs.Common.{◌≡◌, Bool, true, false, List, [], ◌∷◌, ◌++◌, refl, sym, ◌∙◌, ap, subst}
+use Rattle.std.proofs.lemmas.Bool.{or_from, or_parts}
+use Rattle.mk_core.specs.declared.config.Config.{Config}
+use Rattle.mk_core.specs.declared.events.Event.{Event}
+use Rattle.mk_core.specs.declared.events.Seat.{Seat}
+use Rattle.mk_core.specs.declared.events.Step.{Step}
+use Rattle.mk_core.specs.declared.events.Step.TheVariants as step
+use Rattle.mk_core.specs.declared.seats.Flight.{Flight}
+use Rattle.mk_core.specs.Counts.{IsDue, decides_freed}
+use Rattle.mk_core.specs.Cycles.{At, BeginsAndEndsIn, BeginsIn, TurnOf, is_begin, is_end}
+use Rattle.mk_core.specs.History.{left}
+use Rattle.mk_core.specs.Moments.{Moment, flight_of}
+use Rattle.mk_objects.specs.Retiring.{is_freeing, is_loading}
+use Rattle.mk_alloc.specs.TurnCycles.{CycleIsOn, FreeIsExact, IsDueIn, finishes, has_step, is_of_cycle}
+use Rattle.mk_alloc.proofs.CycleParts.{EndsIn}
+use Rattle.mk_alloc.proofs.ListParts.{IsAt, Lacks, SomeKind, cycle_in, lacks_at, none_at, only_at}
+use Rattle.mk_alloc.proofs.StepKinds.{AreApart, IsHolders}
+
+abbrev pub is_quar : SomeKind
+is_quar (step.Quar p v) = true
+is_quar _ = false
+
+pub quars_held : IsHolders is_quar
+quars_held (step.Quar p v) h = cc
+quars_held _ h = refl
+
+pub loading_no_quar : AreApart is_loading is_quar
+loading_no_quar (step.Quar p v) h = cc
+loading_no_quar _ h = refl
+
+pub cycles_held : IsHolders is_of_cycle
+cycles_held step.Begin h = cc
+cycles_held step.Want h = cc
+cycles_held step.Close h = cc
+cycles_held step.Release h = cc
+cycles_held step.End h = cc
+cycles_held _ h = refl
+
+pub freeing_no_cycle : AreApart is_freeing is_of_cycle
+freeing_no_cycle step.Begin h = cc
+freeing_no_cycle step.Want h = cc
+freeing_no_cycle step.Close h = cc
+freeing_no_cycle step.Release h = cc
+freeing_no_cycle step.End h = cc
+freeing_no_cycle _ h = refl
+
+pub loading_frees : (x : Step) → is_loading x ≡ true → is_freeing x ≡ true
+loading_frees (step.Look w) h = refl
+loading_frees step.Reg h = refl
+loading_frees _ h = cc
+
+-- Only a `quar` frees.
+due_is_quar : (c : Config) (m : Moment) (f : Flight) (x : Step) → decides_freed c m f x ≡ true → is_quar x ≡ true
+due_is_quar c m f (step.Quar p v) h = refl
+due_is_quar c m f _ h = cc
+
+pub not_due_without : (c : Config) (es more before : List Event) (e : Event) (behind : List Event) → Lacks is_quar more
+    → more ≡ before ++ e ∷ behind → IsDue c es e → ⊥
+not_due_without c es more before e behind none is due =
+    lacks_at is_quar more before e behind none is (due_is_quar c (left c es).now
+    (flight_of (left c es).now e.seat) e.step due.decides)
+
+begin_of : (x : Step) → is_of_cycle x ≡ false → is_begin x ≡ false
+begin_of x h = (or_parts (is_begin x) (finishes x) h).0
+
+begins_none : (es : List Event) → Lacks is_of_cycle es → Lacks is_begin es
+begins_none [] h = refl
+begins_none (e ∷ es) h =
+    let parts = or_parts (is_of_cycle e.step) (has_step is_of_cycle es) h in
+    or_from (is_begin e.step) (has_step is_begin es) (begin_of e.step parts.0) (begins_none es parts.1)
+
+module _ (on : Bool) (c : Config) (s : Seat) (es : List Event) (t : TurnOf c s es) where
+  -- A Free that isn't due does nothing with cycles.
+  pub undue_exact : Lacks is_of_cycle t.behind → (IsDueIn t → ⊥) → FreeIsExact on t
+  undue_exact none not_due =
+      let no_begin : BeginsIn t → ⊥ = λ b. none_at is_begin t.behind (begins_none t.behind none) b in
+      record {
+        begins = ((λ b. absurd (no_begin b)), (λ d. absurd (not_due d)));
+        undue = λ n. none;
+        stopped = λ off b. absurd (no_begin b);
+        goes_on = λ keeps b. absurd (no_begin b);
+        older = λ keeps one b. absurd (no_begin b);
+      }
+
+  -- One that is due begins one cycle.
+  pub due_exact : (xs : List Event) (begin : Event) (ys : List Event) → t.behind ≡ xs ++ begin ∷ ys
+      → is_begin begin.step ≡ true
+      → Lacks is_begin xs → Lacks is_begin ys → (on ≡ false → EndsIn ys) → (on ≡ true → Lacks finishes ys)
+      → (CycleIsOn t → At is_end xs) → IsDueIn t → FreeIsExact on t
+  due_exact xs begin ys is begins none_before none_behind stopped goes_on older due =
+      record {
+        begins = ((λ b. due), (λ d. record { before = xs; event = begin; behind = ys; is = is; of_kind = begins }));
+        undue = λ n. absurd (n due);
+        stopped = λ off b. ended (stopped off);
+        goes_on = λ keeps b.
+            subst (λ (l : List Event). has_step finishes l ≡ false) (sym (there b).behind_is) (goes_on keeps);
+        older = λ keeps one b. subst (λ (l : List Event). At is_end l) (sym (there b).before_is) (older one);
+      }
+    where
+      there : (b : BeginsIn t) → IsAt xs ys b.before b.behind
+      there b =
+          only_at is_begin xs begin ys none_before none_behind
+          (record { before = b.before; event = b.event; behind = b.behind; is = sym is ∙ b.is; of_kind = b.of_kind })
+
+      ended : EndsIn ys → BeginsAndEndsIn t
+      ended e =
+          cycle_in t.behind xs e.to_close e.to_release e.to_end e.behind begin e.close e.release e.end
+          (is ∙ ap (λ (l : List Event). xs ++ begin ∷ l) e.is) begins e.closes e.releases e.ends
+          e.none_closed e.none_released e.none_ended

@@ -1,0 +1,129 @@
+-- Parts of a turn in which it goes on: the parts of cycles decide nothing, and what goes on in two parts goes on.
+use Rattle.std.proofs.Common.{◌≡◌, Bool, true, List, ◌++◌, refl, sym, ◌∙◌, ap, subst, append-nil}
+use Rattle.std.specs.Prelude.{Option, Some, None}
+use Rattle.mk_never.specs.declared.operations.Op.{Op}
+use Rattle.mk_core.specs.declared.events.Answer.{Answer}
+use Rattle.mk_core.specs.declared.events.Event.{Event}
+use Rattle.mk_core.specs.declared.events.Seat.TheVariants.{Caller}
+use Rattle.mk_core.specs.declared.events.Step.{Step}
+use Rattle.mk_core.specs.declared.events.Step.TheVariants as step
+use Rattle.mk_core.specs.declared.seats.Flight.{Flight}
+use Rattle.mk_core.specs.Decided.{Decided, entry_of}
+use Rattle.mk_core.specs.History.{IsHistory}
+use Rattle.mk_words.specs.States.{PassState, call_of}
+use Rattle.mk_words.specs.TurnSteps.{turn_stays}
+use Rattle.mk_turns.specs.Doing.{Does}
+use Rattle.mk_turns.proofs.Doing.{does_nothing, does_then}
+use Rattle.mk_caller.specs.States.{number_of}
+use Rattle.mk_caller.specs.Called.{own_calls}
+use Rattle.mk_cycle.specs.BeginCycle.{BeginsCycle}
+use Rattle.mk_cycle.specs.FinishCycle.{FinishesCycle}
+use Rattle.mk_cycle.specs.TurnKeeps.{InTurn}
+use Rattle.mk_objects.specs.Placing.{is_look}
+use Rattle.mk_objects.proofs.JoinedLooks.{does_wider}
+use Rattle.mk_alloc.specs.Underway.{GoesOn, IsQuiet, Looks}
+use Rattle.mk_alloc.proofs.CalmStretches.{cycles_in_turn, goes_undecided, is_of_cycles}
+use Rattle.mk_alloc.proofs.CycleParts.{begin_does, finish_does}
+use Rattle.mk_alloc.proofs.Parts.{seen_behind}
+use Rattle.mk_alloc.proofs.QuietTurns.{quiet_begun, quiet_finished, quiet_looked}
+use Rattle.mk_alloc.proofs.Stretches.{does_stretch}
+
+-- the pass of a caller
+abbrev pub IsCallers : PassState → Type 0
+IsCallers p = p.seat ≡ Caller (number_of p)
+
+pub callers_then : (kinds : Step → Bool) (p q : PassState) → Does kinds p q → IsCallers p → IsCallers q
+callers_then kinds p q d is = subst (λ (x : PassState). IsCallers x) (sym d.is) is
+
+pub same_number : (kinds : Step → Bool) (p q : PassState) → Does kinds p q → number_of q ≡ number_of p
+same_number kinds p q d = ap (λ (x : PassState). number_of x) d.is
+
+own_calls_same : (kinds : Step → Bool) (p q : PassState) → Does kinds p q → (es : List Event) → own_calls q es
+    ≡ own_calls p es
+own_calls_same kinds p q d es = ap (λ (x : PassState). own_calls x es) d.is
+
+looks_of : (x : Step) → is_look x ≡ true → is_of_cycles x ≡ true
+looks_of (step.Look w) h = refl
+looks_of _ h = cc
+
+-- A part of a turn that is free for a cycle, of steps of cycles alone
+pub undecided_part : (p q : PassState) → InTurn p → IsCallers p → IsQuiet p → IsQuiet q → (d : Does is_of_cycles p q)
+    → IsHistory q.table.config q.seen → call_of q ≡ call_of p → GoesOn None p q
+undecided_part p q t seat quiet after d history call =
+    record {
+      does = does_wider is_of_cycles turn_stays cycles_in_turn p q d;
+      quiet = after;
+      entry =
+          ap (λ (l : List Event). own_calls p l) (seen_behind is_of_cycles p q d)
+          ∙ (goes_undecided p seat t.own is_of_cycles p.seen d.more (λ x h. h) quiet.free.decided
+          (does_stretch p q is_of_cycles d history t.holds)).calls
+          ∙ sym (append-nil (own_calls p p.seen));
+      op = ap (λ (f : Flight). f.op) call;
+      decided = λ some. cc;
+      undecided = λ none. call;
+    }
+
+pub looked_on : (p q : PassState) → InTurn p → IsCallers p → IsQuiet p → Looks p q → IsHistory q.table.config q.seen
+    → GoesOn None p q
+looked_on p q t seat quiet k history =
+    undecided_part p q t seat quiet (quiet_looked p q quiet k)
+    (does_wider is_look is_of_cycles looks_of p q k.does) history
+    k.keeps.call.call
+
+pub begun_on : (p q : PassState) → InTurn p → IsCallers p → IsQuiet p → BeginsCycle p q
+    → IsHistory q.table.config q.seen
+    → GoesOn None p q
+begun_on p q t seat quiet b history =
+    undecided_part p q t seat quiet (quiet_begun p q quiet b) (begin_does p q t.own b) history b.call
+
+pub finished_on : (p q : PassState) → InTurn p → IsCallers p → IsQuiet p → FinishesCycle p q
+    → IsHistory q.table.config q.seen
+    → GoesOn None p q
+finished_on p q t seat quiet f history =
+    undecided_part p q t seat quiet (quiet_finished p q quiet f) (finish_does p q t.own f) history f.call
+
+-- one part behind the other
+
+pub nothing_on : (p : PassState) → IsQuiet p → GoesOn None p p
+nothing_on p quiet =
+    record {
+      does = does_nothing turn_stays p;
+      quiet = quiet;
+      entry = sym (append-nil (own_calls p p.seen));
+      op = refl;
+      decided = λ some. cc;
+      undecided = λ none. refl;
+    }
+
+-- nothing was decided before
+pub on_then : (a : Option Answer) (p q r : PassState) → GoesOn None p q → GoesOn a q r → GoesOn a p r
+on_then a p q r x y =
+    let d : Does turn_stays p q = x.does in
+    record {
+      does = does_then turn_stays p q r d y.does;
+      quiet = y.quiet;
+      entry =
+          sym (own_calls_same turn_stays p q d r.seen) ∙ y.entry
+          ∙ ap (λ (l : List Decided). l ++ entry_of (number_of q) (call_of q).op a)
+          (own_calls_same turn_stays p q d q.seen ∙ x.entry ∙ append-nil (own_calls p p.seen))
+          ∙ ap (λ k. own_calls p p.seen ++ entry_of k (call_of q).op a) (same_number turn_stays p q d)
+          ∙ ap (λ (o : Op). own_calls p p.seen ++ entry_of (number_of p) o a) x.op;
+      op = y.op ∙ x.op;
+      decided = y.decided;
+      undecided = λ none. y.undecided none ∙ x.undecided refl;
+    }
+
+-- or nothing behind
+pub then_on : (a : Answer) (p q r : PassState) → GoesOn (Some a) p q → GoesOn None q r → GoesOn (Some a) p r
+then_on a p q r x y =
+    let d : Does turn_stays p q = x.does in
+    record {
+      does = does_then turn_stays p q r d y.does;
+      quiet = y.quiet;
+      entry =
+          sym (own_calls_same turn_stays p q d r.seen) ∙ y.entry ∙ append-nil (own_calls q q.seen)
+          ∙ own_calls_same turn_stays p q d q.seen ∙ x.entry;
+      op = y.op ∙ x.op;
+      decided = λ some. ap (λ (f : Flight). f.stage) (y.undecided refl) ∙ x.decided refl;
+      undecided = λ none. cc;
+    }

@@ -1,0 +1,209 @@
+-- A turn stays quiet where its New's object is granted, and where it only looks.
+use Rattle.std.proofs.Common.{◌≡◌, ℕ, ◌+◌, true, List, [], ◌∷◌, ◌++◌, refl, sym, ◌∙◌, ap, subst, arith}
+use Rattle.std.specs.Prelude.{Option, Some, None, cond}
+use Rattle.std.proofs.lemmas.List.Sums.{sum_by_push}
+use Rattle.mk_core.specs.declared.config.Config.{Config}
+use Rattle.mk_core.specs.declared.events.Answer.TheVariants as answer
+use Rattle.mk_core.specs.declared.events.Event.{Event}
+use Rattle.mk_core.specs.declared.events.Step.{Step}
+use Rattle.mk_core.specs.declared.events.Step.TheVariants as step
+use Rattle.mk_core.specs.declared.seats.Flight.{Flight}
+use Rattle.mk_core.specs.declared.seats.Holding.{Holding}
+use Rattle.mk_core.specs.declared.seats.Placing.{Placing}
+use Rattle.mk_core.specs.declared.seats.RunPages.{RunPages}
+use Rattle.mk_core.specs.declared.seats.Stage.{Stage}
+use Rattle.mk_core.specs.declared.seats.Stage.TheVariants as stage
+use Rattle.mk_core.specs.Allocations.{PlacedAllocation, fresh_words_of}
+use Rattle.mk_core.specs.Counts.{fulls, in_a_word, releases}
+use Rattle.mk_core.specs.Frames.{CountsAreLeft, Steady, steady_of}
+use Rattle.mk_core.specs.History.{IsHistory, World, left}
+use Rattle.mk_core.specs.Moments.{is_held}
+use Rattle.mk_core.specs.NewPlaces.{is_run_gone, is_undecided_new}
+use Rattle.mk_core.proofs.PlacesNow.{undecided_new}
+use Rattle.mk_layout.proofs.Holders.{none_on_its_way}
+use Rattle.mk_placement.proofs.FreshWords.{fresh_pushed}
+use Rattle.mk_protocol.specs.Protocol.{has_place}
+use Rattle.mk_protocol.proofs.Known.{holds_turn, known_left}
+use Rattle.mk_words.specs.States.{PassState, call_of, now_of, world_of}
+use Rattle.mk_words.specs.TurnSteps.{turn_stays}
+use Rattle.mk_turns.specs.Doing.{Does}
+use Rattle.mk_cycle.specs.EngineLaw.{is_pending_free_at}
+use Rattle.mk_cycle.specs.TurnKeeps.{InTurn, KeepsGates, KeepsTurn, IsGone, whole}
+use Rattle.mk_cycle.proofs.KeptInParts.{same_config}
+use Rattle.mk_objects.specs.Placing.{IsPlaced, IsUnplaced, OnlyLooks, is_look, is_placing, object_at_place}
+use Rattle.mk_objects.specs.Unchanged.{IsAsLeft}
+use Rattle.mk_objects.proofs.JoinedLooks.{does_wider, looks_call, looks_left}
+use Rattle.mk_alloc.specs.Underway.{GoesOn, IsQuiet}
+use Rattle.mk_alloc.proofs.Parts.{seen_behind}
+use Rattle.mk_alloc.proofs.PlacingStretches.{LeavesBeside, leaves_beside}
+use Rattle.mk_alloc.proofs.QuietTurns.{none_held_kept, quiet_kept, same_phase}
+use Rattle.mk_alloc.proofs.RetiredTurns.{given_is_decided}
+use Rattle.mk_alloc.proofs.Stretches.{does_stretch}
+
+looks_place : (x : Step) → is_look x ≡ true → is_placing x ≡ true
+looks_place (step.Look w) h = refl
+looks_place _ h = cc
+
+pub look_stays : (x : Step) → is_look x ≡ true → turn_stays x ≡ true
+look_stays (step.Look w) h = refl
+look_stays _ h = cc
+
+pub placing_stays : (x : Step) → is_placing x ≡ true → turn_stays x ≡ true
+placing_stays (step.Look w) h = refl
+placing_stays (step.Mark p v) h = refl
+placing_stays (step.Head p v) h = refl
+placing_stays (step.Used p v) h = refl
+placing_stays step.Grant h = refl
+placing_stays (step.Tally n v) h = refl
+placing_stays _ h = cc
+
+-- An undecided New has freed no run.
+pub none_freed_yet : (p : PassState) → InTurn p → is_undecided_new (call_of p) ≡ true → (now_of p).seats.holding.freed
+    ≡ None
+none_freed_yet p t new =
+    let known = known_left p.table.config p.seen t.history.within_limits t.history.enabled in
+    none_on_its_way p.table.config (now_of p) p.seat known
+    (holds_turn p.table.config (now_of p) p.seat known.orderly t.holds) (undecided_new (call_of p) new).stage
+
+module _ (p q : PassState) (t : InTurn p) (d : Does is_placing p q) (history : IsHistory q.table.config q.seen) where
+  beside : LeavesBeside p p.seen q.seen
+  beside =
+      subst (λ (l : List Event). LeavesBeside p p.seen l) (sym (seen_behind is_placing p q d))
+      (leaves_beside p p.seen d.more t.own (does_stretch p q is_placing d history t.holds))
+
+  same : q ≡ record p { seen = q.seen }
+  same = d.is ∙ ap (λ (l : List Event). record p { seen = l }) (sym (seen_behind is_placing p q d))
+
+  world_there : world_of q ≡ left p.table.config q.seen
+  world_there = ap (λ (c : Config). left c q.seen) (same_config p q same)
+
+  pub gates_beside : KeepsGates p q
+  gates_beside j lt = ap (λ (w : World). is_held w.now.words j) world_there ∙ beside.gates j
+
+  pub counts_beside : CountsAreLeft p.table.config p.seen q.seen
+  counts_beside = beside.counts
+
+  pub gone_beside : (now_of p).seats.holding.freed ≡ None → IsGone q
+  gone_beside none =
+      ap (λ (x : Option RunPages). is_run_gone (now_of q).words x)
+      (ap (λ (w : World). w.now.seats.holding.freed) world_there ∙ beside.freed ∙ none)
+
+-- where it only looks
+module _ (p q : PassState) (t : InTurn p) (u : IsUnplaced p) (quiet : IsQuiet p) (looks : OnlyLooks p q)
+    (history : IsHistory q.table.config q.seen) where
+  d : Does is_placing p q
+  d = does_wider is_look is_placing looks_place p q looks.does
+
+  kept : KeepsTurn whole p q
+  kept =
+      let l : IsAsLeft p.seat (world_of p) (world_of q) = looks_left p q looks in
+      record {
+        call = record {
+          pass = looks.same;
+          call = looks_call p q looks;
+          done = ap (λ (h : Holding). record { placing = h.placing; freed = h.freed; cycle = h.cycle }) l.holding;
+          gone = λ gone. gone_beside p q t d history (none_freed_yet p t u.new);
+        };
+        steady = l.steady;
+        counts = counts_beside p q t d history;
+      }
+
+  pub looked_beside : GoesOn None p q
+  looked_beside =
+      record {
+        does = does_wider is_look turn_stays look_stays p q looks.does;
+        quiet = quiet_kept p q quiet kept (gates_beside p q t d history);
+        entry = looks.calls;
+        op = ap (λ (f : Flight). f.op) (looks_call p q looks);
+        decided = λ some. cc;
+        undecided = λ none. looks_call p q looks;
+      }
+
+-- where the object is granted
+module _ (p q : PassState) (t : InTurn p) (u : IsUnplaced p) (quiet : IsQuiet p) (placed : IsPlaced p q)
+    (history : IsHistory q.table.config q.seen) where
+  there : world_of q ≡ left p.table.config q.seen
+  there = ap (λ (c : Config). left c q.seen) (same_config p q placed.granted.same)
+
+  granted : PlacedAllocation
+  granted = object_at_place p.table.config (call_of p) placed.place
+
+  steady : steady_of (world_of q)
+      ≡ record (steady_of (world_of p)) {
+        pages = (now_of q).words.pages;
+        held = (now_of q).words.held;
+        allocations = (world_of p).allocations ++ granted ∷ [];
+      }
+  unfolding granted
+  steady = subst (λ (w : World). steady_of w
+      ≡ record (steady_of (world_of p)) {
+        pages = w.now.words.pages;
+        held = w.now.words.held;
+        allocations = (world_of p).allocations ++ granted ∷ [];
+      }) (sym there) placed.granted.world.steady
+
+  allocations : (world_of q).allocations ≡ (world_of p).allocations ++ granted ∷ []
+  allocations = ap (λ (s : Steady). s.allocations) steady
+
+  fresh_same : fresh_words_of q.table.config (world_of q).allocations
+      ≡ fresh_words_of p.table.config (world_of p).allocations
+  unfolding granted
+  fresh_same =
+      ap (λ (c : Config). fresh_words_of c (world_of q).allocations) (same_config p q placed.granted.same)
+      ∙ ap (λ (xs : List PlacedAllocation). fresh_words_of p.table.config xs) allocations
+      ∙ fresh_pushed p.table.config (world_of p).allocations granted refl
+
+  releases_same : releases (world_of q).allocations ≡ releases (world_of p).allocations
+  unfolding granted
+  releases_same =
+      let pushed : releases ((world_of p).allocations ++ granted ∷ []) ≡ releases (world_of p).allocations + 0 =
+      sum_by_push (λ (a : PlacedAllocation). cond {A = ℕ} a.released 1 0) (world_of p).allocations granted in
+      ap (λ (xs : List PlacedAllocation). releases xs) allocations ∙ (omega arith)
+
+  counts : CountsAreLeft p.table.config p.seen q.seen
+  counts = counts_beside p q t placed.granted.does history
+
+  decided : (call_of q).stage ≡ stage.Give
+  decided =
+      ap (λ (x : PassState). (call_of x).stage) placed.granted.same
+      ∙ ap (λ (f : Flight). f.stage) placed.granted.world.call
+
+  op_same : (call_of q).op ≡ (call_of p).op
+  op_same =
+      ap (λ (x : PassState). (call_of x).op) placed.granted.same ∙ ap (λ (f : Flight). f.op) placed.granted.world.call
+
+  quiet_behind : IsQuiet q
+  quiet_behind =
+      record {
+        free = record {
+          decided = ap (λ (s : Stage). is_pending_free_at (call_of q).op s) decided ∙ given_is_decided (call_of q).op;
+          unplaced =
+              ap (λ (w : World). has_place w.now.seats.holding.placing) there
+              ∙ ap (λ (x : Placing). has_place x) placed.granted.world.placing;
+          gone = gone_beside p q t placed.granted.does history (none_freed_yet p t u.new);
+        };
+        phase = same_phase p q (ap (λ (s : Steady). s.phase) steady) quiet.phase;
+        gates = none_held_kept p q placed.granted.same (gates_beside p q t placed.granted.does history) quiet.gates;
+        exact = record {
+          held = placed.held;
+          fresh = ap (λ (s : Steady). s.fresh) steady ∙ quiet.exact.fresh ∙ ap in_a_word (sym fresh_same);
+        };
+        tidy = record {
+          cycles = ap (λ (s : Steady). s.cycles) steady ∙ quiet.tidy.cycles ∙ ap in_a_word (sym counts.ends);
+          released = ap (λ (s : Steady). s.released) steady ∙ quiet.tidy.released ∙ ap in_a_word (sym releases_same);
+          full =
+              ap (λ (s : Steady). s.full) steady ∙ quiet.tidy.full ∙ ap in_a_word (sym counts.fulls)
+              ∙ ap (λ (c : Config). in_a_word (fulls c q.seen)) (sym (same_config p q placed.granted.same));
+        };
+      }
+
+  pub placed_on : GoesOn (Some answer.Done) p q
+  placed_on =
+      record {
+        does = does_wider is_placing turn_stays placing_stays p q placed.granted.does;
+        quiet = quiet_behind;
+        entry = placed.granted.calls;
+        op = op_same;
+        decided = λ some. decided;
+        undecided = λ none. cc;
+      }

@@ -1,0 +1,183 @@
+-- Stretches of a turn in which no gate is held or opened, no cycle ends, no New is full and no object is freed.
+use Rattle.std.proofs.Common.{◌≡◌, ◌≢◌, ℕ, ◌+◌, Bool, true, false, List, [], ◌∷◌, ◌++◌, refl, sym, ◌∙◌, ap, subst, append-nil, arith, inl, inr}
+use Rattle.std.specs.Prelude.{◌==◌, cond, slice_index, if◌then◌else◌}
+use Rattle.std.proofs.lemmas.Bool.{cases_eq, eq-eqb, ne_eqb}
+use Rattle.std.proofs.lemmas.List.Sums.{sum_by_push}
+use Rattle.mk_core.specs.declared.config.Config.{Config}
+use Rattle.mk_core.specs.declared.events.Event.{Event}
+use Rattle.mk_core.specs.declared.events.Seat.{Seat}
+use Rattle.mk_core.specs.declared.events.Seat.TheVariants.{Caller, Host, Marker}
+use Rattle.mk_core.specs.declared.events.Step.{Step}
+use Rattle.mk_core.specs.declared.events.Step.TheVariants as step
+use Rattle.mk_core.specs.declared.seats.Flight.{Flight}
+use Rattle.mk_core.specs.declared.seats.Holding.{Holding}
+use Rattle.mk_core.specs.declared.seats.Progress.{Progress}
+use Rattle.mk_core.specs.Accesses.{caller_number, found}
+use Rattle.mk_core.specs.Calls.{still}
+use Rattle.mk_core.specs.Counts.{ends, fulls}
+use Rattle.mk_core.specs.Cycles.{is_end}
+use Rattle.mk_core.specs.Decided.{Decided}
+use Rattle.mk_core.specs.declared.events.Answer.TheVariants as answer
+use Rattle.mk_core.specs.Effects.{answer_decided, decided, holding_behind, progress, sees_double}
+use Rattle.mk_core.specs.Frames.{CountsAreLeft}
+use Rattle.mk_core.specs.History.{World, call_decided, calls, first_world, left}
+use Rattle.mk_core.specs.Moments.{Moment, flight_of, is_held}
+use Rattle.mk_core.specs.NewPlaces.{target}
+use Rattle.mk_core.proofs.Histories.{calls_more}
+use Rattle.mk_protocol.proofs.Frames.{left_after}
+use Rattle.mk_protocol.proofs.OrderlyLists.{actor_of}
+use Rattle.mk_protocol.proofs.OthersCounts.{answers_full, counts_nothing, entry_fulls, fulls_append, fulls_of}
+use Rattle.mk_protocol.proofs.SameWords.{Behind, tally_keeps}
+use Rattle.mk_words.specs.Seats.{Has}
+use Rattle.mk_words.specs.States.{PassState, event_of}
+use Rattle.mk_objects.specs.Placing.{is_placing}
+use Rattle.mk_alloc.proofs.CalmStretches.{longer}
+use Rattle.mk_alloc.proofs.Stretches.{AreOfTurn, Here, Stretch, along, holds_none}
+
+placing_in_turn : AreOfTurn is_placing
+placing_in_turn (step.Look x) h = refl
+placing_in_turn (step.Mark p v) h = refl
+placing_in_turn (step.Head p v) h = refl
+placing_in_turn (step.Used p v) h = refl
+placing_in_turn step.Grant h = refl
+placing_in_turn (step.Tally n v) h = refl
+placing_in_turn _ h = cc
+
+placing_gates : (c : Config) (m : Moment) (seat : Seat) (x : Step) → is_placing x ≡ true
+    → (Behind c m seat x).words.gates ≡ m.words.gates
+placing_gates c m seat (step.Look x) h = refl
+placing_gates c m seat (step.Mark p v) h = refl
+placing_gates c m seat (step.Head p v) h = refl
+placing_gates c m seat (step.Used p v) h = refl
+placing_gates c m seat step.Grant h = refl
+placing_gates c m seat (step.Tally n v) h = (tally_keeps m.words n v).gates
+placing_gates c m seat _ h = cc
+
+placing_frees_none : (c : Config) (m : Moment) (seat : Seat) (f : Flight) (n : ℕ) (x : Step) (h : Holding)
+    → is_placing x ≡ true
+    → (holding_behind c m seat f n x h).freed ≡ h.freed
+placing_frees_none c m seat f n (step.Look x) h kind = refl
+placing_frees_none c m seat f n (step.Mark p v) h kind = refl
+placing_frees_none c m seat f n (step.Head p v) h kind = refl
+placing_frees_none c m seat f n (step.Used p v) h kind = refl
+placing_frees_none c m seat f n step.Grant h kind = refl
+placing_frees_none c m seat f n (step.Tally t v) h kind = refl
+placing_frees_none c m seat f n _ h kind = cc
+
+placing_ends_none : (x : Step) → is_placing x ≡ true → is_end x ≡ false
+placing_ends_none step.End h = cc
+placing_ends_none _ h = refl
+
+either_answer : (b : Bool) (x y : Progress) → answers_full x.answer ≡ false → answers_full y.answer ≡ false
+    → answers_full (if b then x else y).answer ≡ false
+either_answer true x y one two = one
+either_answer false x y one two = two
+
+placing_answers : (c : Config) (m : Moment) (f : Flight) (n : ℕ) (x : Step) → is_placing x ≡ true
+    → answers_full (progress c m f n x).answer ≡ false
+placing_answers c m f n (step.Look x) h =
+    either_answer (sees_double m.words (target c.pages m.words f) x) (decided f answer.Double) (still f) refl refl
+placing_answers c m f n (step.Mark p v) h = refl
+placing_answers c m f n (step.Head p v) h = refl
+placing_answers c m f n (step.Used p v) h = refl
+placing_answers c m f n step.Grant h = refl
+placing_answers c m f n (step.Tally t v) h = refl
+placing_answers c m f n _ h = cc
+
+placing_decides : (c : Config) (m : Moment) (seat : Seat) (x : Step) → is_placing x ≡ true
+    → answers_full (answer_decided c m (record { seat = seat; step = x })) ≡ false
+placing_decides c m (Caller k) x h =
+    placing_answers c m (flight_of m (Caller k)) (found c m (record { seat = Caller k; step = x })) x h
+placing_decides c m (Marker k) x h = refl
+placing_decides c m Host x h = refl
+
+-- an event that ends no cycle and answers no Full
+counts_on : (c : Config) (es : List Event) (e : Event) → is_end e.step ≡ false
+    → answers_full (answer_decided c (left c es).now e) ≡ false → CountsAreLeft c es (es ++ e ∷ [])
+counts_on c es e no_end no_full =
+    record {
+      ends =
+          let last : cond {A = ℕ} (is_end e.step) 1 0 ≡ 0 = ap (λ b. cond {A = ℕ} b 1 0) no_end in
+          let pushed : ends (es ++ e ∷ []) ≡ ends es + cond {A = ℕ} (is_end e.step) 1 0 =
+          sum_by_push (λ (x : Event). cond {A = ℕ} (is_end x.step) 1 0) es e in
+          omega arith;
+      fulls =
+          let m : Moment = (left c es).now in
+          let ds : List Decided = call_decided c m e in
+          let last : fulls_of ds ≡ 0 =
+          entry_fulls (caller_number e.seat) (flight_of m e.seat).op (answer_decided c m e) no_full in
+          let pushed : fulls c (es ++ e ∷ []) ≡ fulls c es + fulls_of ds =
+          ap (λ (xs : List Decided). fulls_of xs) (calls_more c (first_world c) es e) ∙ fulls_append (calls c es) ds in
+          omega arith;
+    }
+
+-- Gates are held as before, the counts are as before, and so is the run that the call has freed.
+pub record LeavesBeside (p : PassState) (es fs : List Event) : Type 0 where
+  pub gates : (j : ℕ) → is_held (left p.table.config fs).now.words j ≡ is_held (left p.table.config es).now.words j
+  pub counts : CountsAreLeft p.table.config es fs
+  pub freed : (left p.table.config fs).now.seats.holding.freed ≡ (left p.table.config es).now.seats.holding.freed
+
+beside_then : (p : PassState) (es fs gs : List Event) → LeavesBeside p es fs → LeavesBeside p fs gs
+    → LeavesBeside p es gs
+beside_then p es fs gs a b =
+    record {
+      gates = λ j. b.gates j ∙ a.gates j;
+      counts = record { ends = b.counts.ends ∙ a.counts.ends; fulls = b.counts.fulls ∙ a.counts.fulls };
+      freed = b.freed ∙ a.freed;
+    }
+
+own_beside : (p : PassState) (es : List Event) (x : Step) → Here p es (event_of p x) → is_placing x ≡ true
+    → LeavesBeside p es (es ++ event_of p x ∷ [])
+own_beside p es x h kind =
+    let c : Config = p.table.config in
+    let m : Moment = (left c es).now in
+    record {
+      gates = λ j.
+          ap (λ (w : World). is_held w.now.words j) h.behind
+          ∙ ap (λ (gs : List ℕ). slice_index gs j == 2) (placing_gates c m p.seat x kind);
+      counts = counts_on c es (event_of p x) (placing_ends_none x kind) (placing_decides c m p.seat x kind);
+      freed =
+          ap (λ (w : World). w.now.seats.holding.freed) h.behind
+          ∙ placing_frees_none c m p.seat (flight_of m p.seat) (found c m (event_of p x)) x m.seats.holding kind;
+    }
+
+held_so : (a b : ℕ) → (a ≡ 2 → b ≡ 2) → (a ≢ 2 → b ≢ 2) → (b == 2) ≡ (a == 2)
+held_so a b held free = elim (cases_eq a 2) [
+  | inl e ↦ eq-eqb b 2 (held e) ∙ sym (eq-eqb a 2 e)
+  | inr ne ↦ ne_eqb b 2 (free ne) ∙ sym (ne_eqb a 2 ne)
+]
+
+other_beside : (p : PassState) (es : List Event) (e : Event) → Here p es e → e.seat ≢ p.seat
+    → LeavesBeside p es (es ++ e ∷ [])
+other_beside p es e h ne =
+    let c : Config = p.table.config in
+    let m : Moment = (left c es).now in
+    let l = left_after c (left c es) e.seat p.seat e.step h.known h.meets ne in
+    let t = l.turn h.holds in
+    let none = counts_nothing c m e.seat e.step (holds_none p es e h ne)
+    (actor_of c m e.seat e.step h.known.orderly h.meets) in
+    record {
+      gates = λ j.
+          ap (λ (w : World). is_held w.now.words j) h.behind ∙ held_so _ _ (t.held_gates j) (t.other_gates j);
+      counts = counts_on c es e none.0 none.1;
+      freed =
+          ap (λ (w : World). w.now.seats.holding.freed) h.behind
+          ∙ ap (λ (x : Holding). x.freed) (l.own.holding h.holds).1;
+    }
+
+pub leaves_beside : (p : PassState) (es more : List Event) → Has p.seats p.seat → Stretch p is_placing es more
+    → LeavesBeside p es (es ++ more)
+leaves_beside p es more own s =
+    along p is_placing placing_in_turn own es (λ done. LeavesBeside p es (es ++ done))
+    (record {
+      own = λ done x h kind so_far.
+          longer (λ l. LeavesBeside p es l) es done (event_of p x)
+          (beside_then p es (es ++ done) ((es ++ done) ++ event_of p x ∷ []) so_far
+          (own_beside p (es ++ done) x h kind));
+      other = λ done e h ne so_far.
+          longer (λ l. LeavesBeside p es l) es done e
+          (beside_then p es (es ++ done) ((es ++ done) ++ e ∷ []) so_far (other_beside p (es ++ done) e h ne));
+    })
+    more s
+    (subst (λ (l : List Event). LeavesBeside p es l) (sym (append-nil es))
+    (record { gates = λ j. refl; counts = record { ends = refl; fulls = refl }; freed = refl }))

@@ -1,0 +1,174 @@
+-- What keeps a turn quiet, and that a quiet one may look at the phase and, once its call is decided, be given back.
+use Rattle.std.proofs.Common.{◌≡◌, ◌⊎◌, inl, inr, ℕ, true, List, refl, sym, ◌∙◌, ap, subst}
+use Rattle.std.specs.Prelude.{◌==◌, ◌&&◌, ◌||◌, not}
+use Rattle.std.proofs.lemmas.Bool.{and_from, eq-eqb, or_left}
+use Rattle.mk_core.specs.declared.config.Config.{Config}
+use Rattle.mk_core.specs.declared.events.Step.TheVariants as step
+use Rattle.mk_core.specs.declared.events.Word.TheVariants as word
+use Rattle.mk_core.specs.declared.seats.Stage.{Stage}
+use Rattle.mk_core.specs.declared.seats.Stage.TheVariants as stage
+use Rattle.mk_core.specs.Allocations.{PlacedAllocation, fresh_words_of, held_words}
+use Rattle.mk_core.specs.Counts.{TalliesAreExact, TalliesAreTidy, fulls, in_a_word, releases}
+use Rattle.mk_core.specs.Frames.{CountsAreLeft, Steady, steady_of}
+use Rattle.mk_core.specs.History.{IsHistory}
+use Rattle.mk_core.specs.Moments.{Moment, is_held, none_is_held}
+use Rattle.mk_core.specs.NewPlaces.{is_run_gone}
+use Rattle.mk_core.specs.TurnConditions.{is_decided, words_held}
+use Rattle.mk_core.specs.Words.{phase_of}
+use Rattle.mk_core.proofs.AllBelow.{all_below-at}
+use Rattle.mk_layout.specs.SettledPages.{IsSettled}
+use Rattle.mk_protocol.specs.Protocol.{has_place}
+use Rattle.mk_words.specs.States.{PassState, call_of, now_of, world_of}
+use Rattle.mk_words.specs.Steps.{IsEnabledTo}
+use Rattle.mk_words.specs.TurnSteps.{Acts}
+use Rattle.mk_words.proofs.Tallies.{settled_tallies}
+use Rattle.mk_turns.proofs.Doing.{does_step}
+use Rattle.mk_cycle.specs.BeginCycle.{BeginsCycle}
+use Rattle.mk_cycle.specs.EngineLaw.{IsFreeForCycle, is_pending_free}
+use Rattle.mk_cycle.specs.FinishCycle.{FinishesCycle}
+use Rattle.mk_cycle.specs.TurnKeeps.{Done, InTurn, KeepsGates, KeepsTurn, whole}
+use Rattle.mk_cycle.proofs.Allowed.{look_allowed, protocol}
+use Rattle.mk_cycle.proofs.BeginSteps.{all_from}
+use Rattle.mk_cycle.proofs.CleaningSteps.{calm_keeps}
+use Rattle.mk_cycle.proofs.KeptInParts.{free_then, gates_behind, same_config}
+use Rattle.mk_cycle.proofs.MayAct.{may_act}
+use Rattle.mk_objects.specs.Placing.{IsOutOfStop, is_look}
+use Rattle.mk_objects.proofs.MayAct.{off_four}
+use Rattle.mk_alloc.specs.Underway.{IsQuiet, Looks}
+
+-- the look at the phase
+
+pub phase_allowed : (p : PassState) → InTurn p → IsFreeForCycle p → IsEnabledTo p (step.Look word.Phase)
+phase_allowed p t free = look_allowed p t free word.Phase refl refl
+
+pub looked : (p q : PassState) → InTurn p → IsFreeForCycle p → IsHistory q.table.config q.seen
+    → Acts p (step.Look word.Phase) q
+    → Looks p q
+looked p q t free history a =
+    record {
+      does = does_step is_look p q (step.Look word.Phase) t.own a.makes refl;
+      keeps = calm_keeps p (step.Look word.Phase) q a t history refl free whole refl;
+      gates = gates_behind p (step.Look word.Phase) q a refl;
+    }
+
+-- What is exact and tidy stays so where all that only the holder changes is kept.
+
+exact_kept : (p q : PassState) → q ≡ record p { seen = q.seen } → steady_of (world_of q) ≡ steady_of (world_of p)
+    → TalliesAreExact p.table.config p.seen → TalliesAreExact q.table.config q.seen
+exact_kept p q is steady x =
+    let c : Config = p.table.config in
+    let same : q.table.config ≡ c = same_config p q is in
+    let xs : List PlacedAllocation = (world_of q).allocations in
+    let allocations : xs ≡ (world_of p).allocations = ap (λ (s : Steady). s.allocations) steady in
+    record {
+      held =
+          ap (λ (s : Steady). s.held) steady ∙ x.held
+          ∙ sym (ap (λ (d : Config). held_words d xs) same
+          ∙ ap (λ (ys : List PlacedAllocation). held_words c ys) allocations);
+      fresh =
+          ap (λ (s : Steady). s.fresh) steady ∙ x.fresh
+          ∙ sym (ap (λ (d : Config). in_a_word (fresh_words_of d xs)) same
+          ∙ ap (λ (ys : List PlacedAllocation). in_a_word (fresh_words_of c ys)) allocations);
+    }
+
+tidy_kept : (p q : PassState) → q ≡ record p { seen = q.seen } → steady_of (world_of q) ≡ steady_of (world_of p)
+    → CountsAreLeft p.table.config p.seen q.seen → TalliesAreTidy p.table.config p.seen
+    → TalliesAreTidy q.table.config q.seen
+tidy_kept p q is steady counts x =
+    record {
+      cycles = ap (λ (s : Steady). s.cycles) steady ∙ x.cycles ∙ ap in_a_word (sym counts.ends);
+      released =
+          ap (λ (s : Steady). s.released) steady ∙ x.released
+          ∙ ap in_a_word (sym (ap (λ (s : Steady). releases s.allocations) steady));
+      full =
+          ap (λ (s : Steady). s.full) steady ∙ x.full ∙ ap in_a_word (sym counts.fulls)
+          ∙ ap (λ (d : Config). in_a_word (fulls d q.seen)) (sym (same_config p q is));
+    }
+
+-- No gate is held where none was, by the same holder.
+pub none_held_kept : (p q : PassState) → q ≡ record p { seen = q.seen } → KeepsGates p q
+    → none_is_held p.table.config.callers (now_of p).words ≡ true
+    → none_is_held q.table.config.callers (now_of q).words ≡ true
+none_held_kept p q is keeps none =
+    let n : ℕ = p.table.config.callers in
+    subst (λ (c : Config). none_is_held c.callers (now_of q).words ≡ true) (sym (same_config p q is))
+    (all_from n (λ j. not (is_held (now_of q).words j))
+    (λ j lt. ap not (keeps j lt) ∙ all_below-at n j (λ i. not (is_held (now_of p).words i)) none lt))
+
+pub same_phase : (p q : PassState) → phase_of (now_of q).words ≡ phase_of (now_of p).words → IsOutOfStop (now_of p)
+    → IsOutOfStop (now_of q)
+same_phase p q e (inl none) = inl (e ∙ none)
+same_phase p q e (inr one) = inr (e ∙ one)
+
+-- So a turn stays quiet
+
+pub quiet_kept : (p q : PassState) → IsQuiet p → KeepsTurn whole p q → KeepsGates p q → IsQuiet q
+quiet_kept p q quiet k gates =
+    record {
+      free = free_then p q k.call quiet.free;
+      phase = same_phase p q (ap (λ (s : Steady). s.phase) k.steady) quiet.phase;
+      gates = none_held_kept p q k.call.pass gates quiet.gates;
+      exact = exact_kept p q k.call.pass k.steady quiet.exact;
+      tidy = tidy_kept p q k.call.pass k.steady k.counts quiet.tidy;
+    }
+
+-- where it looks, begins a cycle, or finishes one.
+
+pub quiet_looked : (p q : PassState) → IsQuiet p → Looks p q → IsQuiet q
+quiet_looked p q quiet k = quiet_kept p q quiet k.keeps k.gates
+
+pub quiet_begun : (p q : PassState) → IsQuiet p → BeginsCycle p q → IsQuiet q
+quiet_begun p q quiet b =
+    record {
+      free = record {
+        decided = ap is_pending_free b.call ∙ quiet.free.decided;
+        unplaced = ap (λ (x : Done). has_place x.placing) b.done ∙ quiet.free.unplaced;
+        gone = b.gone;
+      };
+      phase = inr (ap (λ (s : Steady). s.phase) b.steady);
+      gates = none_held_kept p q b.pass b.gates quiet.gates;
+      exact = b.exact quiet.exact;
+      tidy = b.tidy quiet.tidy;
+    }
+
+pub quiet_finished : (p q : PassState) → IsQuiet p → FinishesCycle p q → IsQuiet q
+quiet_finished p q quiet f =
+    record {
+      free = record {
+        decided = ap is_pending_free f.call ∙ quiet.free.decided;
+        unplaced = ap (λ (x : Done). has_place x.placing) f.done ∙ quiet.free.unplaced;
+        gone = f.gone;
+      };
+      phase = inl f.phase;
+      gates = subst (λ (c : Config). none_is_held c.callers (now_of q).words ≡ true)
+          (sym (same_config p q f.pass)) f.gates;
+      exact = f.exact quiet.exact;
+      tidy = f.tidy quiet.tidy;
+    }
+
+-- It may be given back, once its call is decided.
+
+give_phase : (n : ℕ) → (n ≡ 0) ⊎ (n ≡ 1) → ((n == 0) || (n == 1) || (n == 5)) ≡ true
+give_phase n (inl none) = or_left ((n == 0) || (n == 1)) (n == 5) (or_left (n == 0) (n == 1) (eq-eqb n 0 none))
+give_phase n (inr one) = ap (λ (i : ℕ). (i == 0) || (i == 1) || (i == 5)) one
+
+pub give_allowed : (p : PassState) → InTurn p → IsQuiet p → (call_of p).stage ≡ stage.Give → IsEnabledTo p step.Give
+give_allowed p t quiet decided =
+    let m : Moment = now_of p in
+    let settled : IsSettled (world_of p) = record {
+      releasing = off_four m quiet.phase;
+      placing = quiet.free.unplaced;
+      gone = quiet.free.gone;
+    } in
+    let told = settled_tallies p.table.config p.seen t.history settled quiet.exact in
+    may_act p step.Give (protocol p t quiet.free) t.holds quiet.free.decided refl refl quiet.gates
+    (give_phase (phase_of m.words) quiet.phase)
+    (and_from (is_decided (call_of p).stage && is_run_gone m.words m.seats.holding.freed &&
+    (m.words.held == words_held m.words))
+    (m.words.fresh == m.fresh_words)
+    (and_from (is_decided (call_of p).stage && is_run_gone m.words m.seats.holding.freed)
+    (m.words.held == words_held m.words)
+    (and_from (is_decided (call_of p).stage) (is_run_gone m.words m.seats.holding.freed)
+    (ap (λ (s : Stage). is_decided s) decided) quiet.free.gone)
+    (eq-eqb m.words.held (words_held m.words) told.0))
+    (eq-eqb m.words.fresh m.fresh_words told.1))

@@ -1,0 +1,217 @@
+-- A New seeks room: the parts of its turn one behind the other.
+use Rattle.std.proofs.Common.{◌≡◌, inl, inr, false, List, ◌∙◌, ap, subst}
+use Rattle.std.specs.Prelude.{Option, Some, None, ◌==◌}
+use Rattle.std.proofs.lemmas.Bool.{eqb-false}
+use Rattle.mk_never.specs.declared.operations.Op.{Op}
+use Rattle.mk_core.specs.declared.config.Config.{Config}
+use Rattle.mk_core.specs.declared.events.Answer.{Answer}
+use Rattle.mk_core.specs.declared.events.Answer.TheVariants as answer
+use Rattle.mk_core.specs.declared.seats.Flight.{Flight}
+use Rattle.mk_core.specs.declared.seats.Object.{Object}
+use Rattle.mk_core.specs.declared.seats.Holding.{Holding}
+use Rattle.mk_core.specs.Allocations.{PlacedAllocation, place_among_allocations}
+use Rattle.mk_core.specs.Frames.{Steady}
+use Rattle.mk_core.specs.History.{IsHistory}
+use Rattle.mk_core.specs.NewPlaces.{is_undecided_new, object_made}
+use Rattle.mk_core.specs.Placement.{place_for}
+use Rattle.mk_core.specs.Words.{phase_of}
+use Rattle.mk_words.specs.States.{PassState, call_of, now_of, world_of}
+use Rattle.mk_words.specs.TurnSteps.{turn_stays}
+use Rattle.mk_cycle.specs.BeginCycle.{BeginsCycle}
+use Rattle.mk_cycle.specs.EngineLaw.{IsAtPhase}
+use Rattle.mk_cycle.specs.FinishCycle.{FinishesCycle}
+use Rattle.mk_cycle.specs.TurnKeeps.{Done, InTurn}
+use Rattle.mk_objects.specs.Placing.{FitsNowhere, IsOutOfStop, IsPlaced, IsUnplaced, OnlyLooks, is_look, is_placing, object_for, place_now_for}
+use Rattle.mk_objects.proofs.JoinedLooks.{looks_left, looks_object, looks_unplaced}
+use Rattle.mk_objects.proofs.Looks.{acting_caller}
+use Rattle.mk_objects.proofs.MayAct.{new_is_acting}
+use Rattle.mk_caller.proofs.OneStep.{own_seat}
+use Rattle.mk_alloc.specs.Rooms.{AsksRoom, Misfits, MisfitsIdly, Seeks}
+use Rattle.mk_alloc.specs.Underway.{GoesOn, IsQuiet, Looks}
+use Rattle.mk_alloc.proofs.Going.{IsCallers, begun_on, finished_on, looked_on, on_then}
+use Rattle.mk_alloc.proofs.Parts.{part_lacks, seen_behind}
+use Rattle.mk_alloc.proofs.PlacedTurns.{look_stays, looked_beside, placed_on, placing_stays}
+use Rattle.mk_alloc.proofs.QuietTurns.{same_phase}
+use Rattle.mk_alloc.proofs.RoomParts.{begin_none, begin_room, finish_room, looks_no_room, no_place, nowhere_then, places_no_room, room_lacks, room_then, rooms_held}
+use Rattle.mk_core.specs.Effects.{cycle_ended}
+
+-- An undecided New is a caller's.
+pub new_callers : (p : PassState) → IsUnplaced p → IsCallers p
+new_callers p u =
+    let x = acting_caller p (new_is_acting (call_of p) u.new) in
+    own_seat p x.number x.is
+
+same_object : (a : Option Answer) (p q : PassState) → GoesOn a p q → object_for q ≡ object_for p
+same_object a p q on =
+    ap (λ (x : PassState). object_made x.table.config (call_of q).op) on.does.is
+    ∙ ap (λ (o : Op). object_made p.table.config o) on.op
+
+-- one part behind another that decided nothing
+pub seeks_then : (a : Option Answer) (p q r : PassState) → Seeks None p q → Seeks a q r → Seeks a p r
+seeks_then a p q r x y =
+    record {
+      on = on_then a p q r x.on y.on;
+      room = room_then (object_for p) p q r x.on.does.more y.on.does.more (seen_behind turn_stays p q x.on.does)
+          (seen_behind turn_stays q r y.on.does) (ap (λ (z : PassState). z.table.config) x.on.does.is) x.room
+          (subst (λ (o : Object). AsksRoom o q r) (same_object None p q x.on) y.room);
+    }
+
+-- Where an object is granted, or only looks were made, no room is asked for.
+
+pub seeks_placed : (p q : PassState) → InTurn p → IsUnplaced p → IsQuiet p → IsPlaced p q
+    → IsHistory q.table.config q.seen
+    → Seeks (Some answer.Done) p q
+seeks_placed p q t u quiet placed history =
+    record {
+      on = placed_on p q t u quiet placed history;
+      room = room_lacks (object_for p) p q placed.granted.does.more (seen_behind is_placing p q placed.granted.does)
+          (part_lacks is_placing _ p q placing_stays rooms_held places_no_room t placed.granted.does history);
+    }
+
+pub seeks_looked : (p q : PassState) → InTurn p → IsUnplaced p → IsQuiet p → OnlyLooks p q
+    → IsHistory q.table.config q.seen
+    → Seeks None p q
+seeks_looked p q t u quiet looks history =
+    record {
+      on = looked_beside p q t u quiet looks history;
+      room = room_lacks (object_for p) p q looks.does.more (seen_behind is_look p q looks.does)
+          (part_lacks is_look _ p q look_stays rooms_held looks_no_room t looks.does history);
+    }
+
+pub still_nowhere : (p q : PassState) → (world_of q).allocations ≡ (world_of p).allocations → q.table.config
+    ≡ p.table.config
+    → object_for q ≡ object_for p → place_now_for p ≡ None → place_now_for q ≡ None
+still_nowhere p q same config object none =
+    ap (λ (xs : List PlacedAllocation). place_among_allocations q.table.config (object_for q).words
+    (object_for q).leaf xs) same
+    ∙ ap (λ (c : Config). place_among_allocations c (object_for q).words (object_for q).leaf (world_of p).allocations)
+    config
+    ∙ ap (λ (o : Object). place_among_allocations p.table.config o.words o.leaf (world_of p).allocations) object
+    ∙ none
+
+pub misfits_here : (p q : PassState) → InTurn p → IsUnplaced p → IsQuiet p → FitsNowhere p q
+    → IsHistory q.table.config q.seen
+    → Misfits p q
+misfits_here p q t u quiet f history =
+    record {
+      seeks = seeks_looked p q t u quiet f.looks history;
+      unplaced = looks_unplaced p q f.looks u;
+      nowhere = still_nowhere p q (ap (λ (s : Steady). s.allocations) (looks_left p q f.looks).steady)
+          (ap (λ (x : PassState). x.table.config) f.looks.same) (looks_object p q f.looks) f.nowhere;
+    }
+
+-- where a cycle is begun, or finished
+
+pub seeks_begun : (p q : PassState) → InTurn p → IsUnplaced p → IsQuiet p → place_now_for p ≡ None → BeginsCycle p q
+    → IsHistory q.table.config q.seen → Seeks None p q
+seeks_begun p q t u quiet none b history =
+    record {
+      on = begun_on p q t (new_callers p u) quiet b history;
+      room = begin_room (object_for p) p q t (new_callers p u) quiet.free.decided history
+          (no_place p.table.config p.seen (object_for p) none) b;
+    }
+
+pub seeks_finished : (p q : PassState) → InTurn p → IsUnplaced p → IsQuiet p → place_now_for p ≡ None
+    → FinishesCycle p q
+    → IsHistory q.table.config q.seen → Seeks None p q
+seeks_finished p q t u quiet none f history =
+    record {
+      on = finished_on p q t (new_callers p u) quiet f history;
+      room = finish_room (object_for p) p q t (new_callers p u) quiet.free.decided history
+          (no_place p.table.config p.seen (object_for p) none) f;
+    }
+
+-- It is still unplaced then.
+
+pub unplaced_begun : (p q : PassState) → IsUnplaced p → BeginsCycle p q → IsUnplaced q
+unplaced_begun p q u b =
+    record {
+      new = ap (λ (f : Flight). is_undecided_new f) b.call ∙ u.new;
+      placing = ap (λ (x : Done). x.placing) b.done ∙ u.placing;
+      phase = inr (ap (λ (s : Steady). s.phase) b.steady);
+    }
+
+pub unplaced_finished : (p q : PassState) → IsUnplaced p → FinishesCycle p q → IsUnplaced q
+unplaced_finished p q u f =
+    record {
+      new = ap (λ (x : Flight). is_undecided_new x) f.call ∙ u.new;
+      placing = ap (λ (x : Done). x.placing) f.done ∙ u.placing;
+      phase = inl f.phase;
+    }
+
+-- Behind the begin of a cycle it has no place either.
+pub nowhere_begun : (p q : PassState) → InTurn p → IsUnplaced p → IsQuiet p → place_now_for p ≡ None → BeginsCycle p q
+    → IsHistory q.table.config q.seen → place_now_for q ≡ None
+nowhere_begun p q t u quiet none b history =
+    ap (λ (c : Config). place_for c q.seen (object_for q)) (ap (λ (x : PassState). x.table.config) b.pass)
+    ∙ ap (λ (o : Object). place_for p.table.config q.seen o)
+    (ap (λ (x : PassState). object_made x.table.config (call_of q).op) b.pass
+    ∙ ap (λ (f : Flight). object_made p.table.config f.op) b.call)
+    ∙ nowhere_then p.table.config q.seen (object_for p)
+    (begin_none (object_for p) p q t (new_callers p u) quiet.free.decided history
+    (no_place p.table.config p.seen (object_for p) none) b)
+
+-- A try behind one part
+pub misfits_then : (p q r : PassState) → Seeks None p q → Misfits q r → Misfits p r
+misfits_then p q r x m = record { seeks = seeks_then None p q r x m.seeks; unplaced = m.unplaced; nowhere = m.nowhere }
+
+-- Looks keep the phase, and what was done of a cycle in the turn.
+
+pub idle_looked : (p q : PassState) → OnlyLooks p q → (n : _) → IsAtPhase p n → IsAtPhase q n
+idle_looked p q l n at = ap (λ (s : Steady). s.phase) (looks_left p q l).steady ∙ at
+
+pub cycle_looked : (p q : PassState) → OnlyLooks p q → (now_of q).seats.holding.cycle ≡ (now_of p).seats.holding.cycle
+cycle_looked p q l = ap (λ (h : Holding). h.cycle) (looks_left p q l).holding
+
+-- behind the end of a cycle
+pub misfits_finished : (p q r : PassState) → InTurn p → IsUnplaced p → IsQuiet p → place_now_for p ≡ None
+    → FinishesCycle p q
+    → IsHistory q.table.config q.seen → Misfits q r → OnlyLooks q r → MisfitsIdly p r
+misfits_finished p q r t u quiet none f history m looks =
+    record {
+      misfits = misfits_then p q r (seeks_finished p q t u quiet none f history) m;
+      idle = idle_looked q r looks 0 f.phase;
+    }
+
+pub cycle_finished : (p q r : PassState) → FinishesCycle p q → OnlyLooks q r
+    → (now_of r).seats.holding.cycle ≡ cycle_ended (now_of p).seats.holding.cycle
+cycle_finished p q r f looks = cycle_looked q r looks ∙ ap (λ (x : Done). x.cycle) f.done
+
+-- One look at the phase more: no cycle is on, or one is.
+
+pub unplaced_kept : (p q : PassState) → IsUnplaced p → call_of q ≡ call_of p
+    → (now_of q).seats.holding.placing ≡ (now_of p).seats.holding.placing
+    → phase_of (now_of q).words ≡ phase_of (now_of p).words → IsUnplaced q
+unplaced_kept p q u call placing phase =
+    record {
+      new = ap (λ (f : Flight). is_undecided_new f) call ∙ u.new;
+      placing = placing ∙ u.placing;
+      phase = same_phase p q phase u.phase;
+    }
+
+look_kept : (p q : PassState) → IsUnplaced p → Looks p q → IsUnplaced q
+look_kept p q u k =
+    unplaced_kept p q u k.keeps.call.call (ap (λ (x : Done). x.placing) k.keeps.call.done)
+    (ap (λ (s : Steady). s.phase) k.keeps.steady)
+
+pub misfits_seen : (p q r : PassState) → Misfits p q → InTurn q → IsQuiet q → Looks q r
+    → IsHistory r.table.config r.seen → Misfits p r
+misfits_seen p q r m t quiet k history =
+    let on = looked_on q r t (new_callers q m.unplaced) quiet k history in
+    record {
+      seeks = seeks_then None p q r m.seeks (record {
+        on = on;
+        room = room_lacks (object_for q) q r k.does.more (seen_behind is_look q r k.does)
+            (part_lacks is_look _ q r look_stays rooms_held looks_no_room t k.does history);
+      });
+      unplaced = look_kept q r m.unplaced k;
+      nowhere = still_nowhere q r (ap (λ (s : Steady). s.allocations) k.keeps.steady)
+          (ap (λ (x : PassState). x.table.config) k.keeps.call.pass) (same_object None q r on) m.nowhere;
+    }
+
+pub seen_at : (q r : PassState) → Looks q r → (n : _) → IsAtPhase q n → IsAtPhase r n
+seen_at q r k n at = ap (λ (s : Steady). s.phase) k.keeps.steady ∙ at
+
+pub phase_seen : (q : PassState) → IsOutOfStop (now_of q) → (phase_of (now_of q).words == 1) ≡ false → IsAtPhase q 0
+phase_seen q (inl none) off = none
+phase_seen q (inr one) off = absurd (eqb-false (phase_of (now_of q).words) 1 off one)

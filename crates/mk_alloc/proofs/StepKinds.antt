@@ -1,0 +1,66 @@
+-- What stretches of a turn lack, by their kinds of step: what they don't do, others don't do either, where it is the
+-- turn's holder's.
+use Rattle.std.proofs.Common.{◌≡◌, ◌≢◌, true, false, List, [], ◌∷◌, ◌++◌, refl, ap}
+use Rattle.mk_core.specs.declared.config.Config.{Config}
+use Rattle.mk_core.specs.declared.events.Event.{Event}
+use Rattle.mk_core.specs.declared.events.Group.TheVariants as group
+use Rattle.mk_core.specs.declared.events.Seat.{Seat}
+use Rattle.mk_core.specs.declared.events.Step.{Step}
+use Rattle.mk_core.specs.declared.events.Step.TheVariants as step
+use Rattle.mk_core.specs.History.{left}
+use Rattle.mk_core.specs.Moments.{Moment}
+use Rattle.mk_core.specs.Order.{group_of, is_of_turn}
+use Rattle.mk_protocol.proofs.Actors.{Actor, AsHolder, AsMarker, CallTakes, HostTakes, InCallOf, is_holders}
+use Rattle.mk_protocol.proofs.OrderlyLists.{actor_of}
+use Rattle.mk_protocol.proofs.Views.{HoldsTurn, view_of}
+use Rattle.mk_words.specs.Seats.{Has}
+use Rattle.mk_words.specs.States.{PassState, event_of}
+use Rattle.mk_alloc.proofs.ListParts.{Lacks, SomeKind, lacks_append, lacks_one}
+use Rattle.mk_alloc.proofs.Stretches.{AreOfTurn, Here, SomeKinds, Stretch, along, holds_none}
+
+of_callers : (x : Step) → group_of x ≡ group.Callers → is_holders x ≡ false
+of_callers (step.Take o) is = refl
+of_callers step.Over is = cc
+of_callers x is = ap is_of_turn is
+
+of_markers : (x : Step) → group_of x ≡ group.Markers → is_holders x ≡ false
+of_markers (step.Take o) is = refl
+of_markers step.Over is = cc
+of_markers x is = ap is_of_turn is
+
+outside : (c : Config) (m : Moment) (seat : Seat) (x : Step) → (HoldsTurn c (view_of m) seat → ⊥) → Actor c m seat x
+    → is_holders x ≡ false
+outside c m seat x out (InCallOf k y lt g) = of_callers y g
+outside c m seat x out (AsMarker k y lt g) = of_markers y g
+outside c m seat x out (CallTakes k o lt idle under) = refl
+outside c m seat x out (HostTakes away) = refl
+outside c m seat x out (AsHolder s y holds n) = absurd (out holds)
+
+-- No other makes a step of the turn's holder.
+pub others_kind : (p : PassState) (es : List Event) (e : Event) → Here p es e → e.seat ≢ p.seat → is_holders e.step
+    ≡ false
+others_kind p es e h ne =
+    let m : Moment = (left p.table.config es).now in
+    outside p.table.config m e.seat e.step (holds_none p es e h ne)
+    (actor_of p.table.config m e.seat e.step h.known.orderly h.meets)
+
+-- The kind is one of the holder's, and none of the others.
+
+abbrev pub IsHolders : SomeKind → Type 0
+IsHolders kind = (x : Step) → is_holders x ≡ false → kind x ≡ false
+
+abbrev pub AreApart : SomeKinds → SomeKind → Type 0
+AreApart kinds kind = (x : Step) → kinds x ≡ true → kind x ≡ false
+
+pub lacks : (p : PassState) (kinds : SomeKinds) (kind : SomeKind) (es more : List Event) → AreOfTurn kinds
+    → Has p.seats p.seat
+    → IsHolders kind → AreApart kinds kind → Stretch p kinds es more → Lacks kind more
+lacks p kinds kind es more stays own holders apart s =
+    along p kinds stays own es (Lacks kind)
+    (record {
+      own = λ done x h of_kinds none. lacks_append kind done (event_of p x ∷ []) none
+          (lacks_one kind (event_of p x) (apart x of_kinds));
+      other = λ done e h ne none.
+          lacks_append kind done (e ∷ []) none (lacks_one kind e (holders e.step (others_kind p (es ++ done) e h ne)));
+    })
+    more s refl

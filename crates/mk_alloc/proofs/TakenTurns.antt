@@ -1,0 +1,94 @@
+-- A caller may take the turn for a New or a Free, and finds no stop, and not the end of all.
+use Rattle.std.proofs.Common.{◌≡◌, ◌⊎◌, inl, inr, ℕ, zero, suc, ◌<◌, ◌≤◌, true, [], ◌∷◌, refl, sym, ◌∙◌, ap, subst, arith}
+use Rattle.std.specs.Prelude.{Some}
+use Rattle.std.proofs.lemmas.Bool.{lt-ltb}
+use Rattle.mk_never.specs.declared.operations.Op.{Op}
+use Rattle.mk_core.specs.declared.config.Config.{Config}
+use Rattle.mk_core.specs.declared.events.Seat.{Seat}
+use Rattle.mk_core.specs.declared.events.Seat.TheVariants.{Caller, Host}
+use Rattle.mk_core.specs.declared.events.Step.TheVariants as step
+use Rattle.mk_core.specs.declared.seats.Flight.{Flight}
+use Rattle.mk_core.specs.Calls.{at_rest, has_operands, is_under_turn}
+use Rattle.mk_core.specs.Enabled.{IsEnabled}
+use Rattle.mk_core.specs.History.{IsHistory}
+use Rattle.mk_core.specs.Moments.{Moment, flight_of}
+use Rattle.mk_core.specs.Order.{comes_next}
+use Rattle.mk_core.specs.Words.{phase_of}
+use Rattle.mk_core.proofs.Conditions.{meets_enabled}
+use Rattle.mk_protocol.proofs.Asked.{give_phase}
+use Rattle.mk_words.specs.Seats.{CallersAreBeforeOver, Has}
+use Rattle.mk_words.specs.States.{PassState, now_of}
+use Rattle.mk_words.specs.Steps.{IsEnabledTo}
+use Rattle.mk_words.specs.TurnSteps.{IsFresh}
+use Rattle.mk_words.proofs.OverPhases.{end_is_behind_over}
+use Rattle.mk_words.proofs.Seats.{only_one}
+use Rattle.mk_caller.specs.States.{IsIdleCaller, number_of}
+use Rattle.mk_caller.proofs.OneStep.{own_seat}
+use Rattle.mk_waiting.specs.Taking.{TakesTurn}
+use Rattle.mk_objects.specs.Placing.{IsOutOfStop}
+use Rattle.mk_alloc.proofs.CalledTurns.{taken_same}
+use Rattle.mk_alloc.proofs.Going.{IsCallers}
+
+pub callers : (p : PassState) → IsIdleCaller p → IsCallers p
+callers p idle = own_seat p idle.caller idle.seat
+
+take_for : (c : Config) (m : Moment) (k : ℕ) (o : Op) → k < c.callers → flight_of m (Caller k) ≡ at_rest
+    → is_under_turn o ≡ true
+    → has_operands c o ≡ true → IsEnabled c m (record { seat = Caller k; step = step.Take (Some o) })
+take_for c m k o lt rest under operands =
+    meets_enabled c m (record { seat = Caller k; step = step.Take (Some o) })
+    (record {
+      seat = lt-ltb k c.callers lt;
+      kind = refl;
+      order = ap (λ (f : Flight). comes_next f.stage f.op (step.Take (Some o))) rest ∙ under;
+      range = operands;
+      gates = refl;
+      phase = refl;
+      marker = refl;
+      holder = refl;
+    })
+
+pub take_allowed : (p : PassState) (o : Op) → IsIdleCaller p → number_of p < p.table.config.callers → is_under_turn o
+    ≡ true
+    → has_operands p.table.config o ≡ true → IsEnabledTo p (step.Take (Some o))
+take_allowed p o idle lt under operands =
+    subst (λ (s : Seat). IsEnabled p.table.config (now_of p) (record { seat = s; step = step.Take (Some o) }))
+    (sym (callers p idle))
+    (take_for p.table.config (now_of p) (number_of p) o lt
+    (subst (λ (s : Seat). flight_of (now_of p) s ≡ at_rest) (callers p idle) idle.rest) under operands)
+
+at_most_one : (n : ℕ) → n ≤ 1 → (n ≡ 0) ⊎ (n ≡ 1)
+at_most_one zero le = inl refl
+at_most_one (suc zero) le = inr refl
+at_most_one (suc (suc n)) le = absurd (omega arith)
+
+-- Whose only seat is a caller's has seen no `over`.
+pub taken_phase : (p q : PassState) (o : Op) → IsCallers p → number_of p < p.table.config.callers → p.seats
+    ≡ p.seat ∷ []
+    → Has p.seats p.seat → TakesTurn p (Some o) q → IsFresh q (Some o) → IsHistory q.table.config q.seen
+    → CallersAreBeforeOver q.table.config q.seats q.seen → IsOutOfStop (now_of q)
+taken_phase p q o seat lt alone own takes fresh history before =
+    elim (give_phase (phase_of (now_of q).words) fresh.phase) [
+      | inl low ↦ at_most_one (phase_of (now_of q).words) low
+      | inr five ↦ absurd (not_host (has_host five))
+    ]
+  where
+    same : q ≡ record p { seen = q.seen }
+    same = taken_same p q o seat own takes
+
+    one_seat : p.seats ≡ Caller (number_of p) ∷ []
+    one_seat = alone ∙ ap (λ (s : Seat). s ∷ []) seat
+
+    has_host : phase_of (now_of q).words ≡ 5 → Has p.seats Host
+    has_host five =
+        subst (λ (x : PassState). Has x.seats Host) same
+        (before (number_of p) (subst (λ (x : PassState). number_of p < x.table.config.callers) (sym same) lt)
+        (subst (λ (x : PassState). Has x.seats (Caller (number_of p))) (sym same)
+        (subst (λ (s : Seat). Has p.seats s) seat own))
+        (end_is_behind_over q.table.config q.seen history five))
+
+    not_host : Has p.seats Host → ⊥
+    not_host has =
+        let e : Host ≡ Caller (number_of p) = only_one (Caller (number_of p)) Host
+        (subst (λ (l : _). Has l Host) one_seat has) in
+        cc

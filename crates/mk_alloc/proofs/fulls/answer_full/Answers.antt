@@ -1,0 +1,59 @@
+use Rattle.mk_words.specs.States.{PassState}
+use Rattle.mk_cycle.proofs.Allowed.{in_turn}
+use Rattle.mk_alloc.proofs.CountedFulls.{answers_full, tallied_ended, tallied_idle, tallied_nowhere, tallied_unplaced}
+use Rattle.mk_alloc.proofs.FullTurns.{full_admitted, full_allowed}
+use Rattle.mk_alloc.proofs.fulls.answer_full.Goals as goal
+
+pub full-requires-clause-enabled : goal.full-requires-clause-enabled
+full-requires-clause-enabled c =
+    let p : PassState = c.args.turn.now.pass in
+    let p1 : PassState = c.look-count.new.self.pass in
+    let p2 : PassState = c.tally.new.self.pass in
+    let i = c.is_in_order.ensures in
+    let j = c.is_in_order-2.ensures in
+    let k = c.is_in_order-3.ensures in
+    let n = c.look-count.result in
+    let v = c.saturating_add.result in
+    let t = in_turn p _ i.own i.turn i.history in
+    let t1 = in_turn p1 _ j.own j.turn j.history in
+    let t2 = in_turn p2 _ k.own k.turn k.history in
+    let looks = c.look-count.ensures in
+    let tallies = c.tally.ensures.acts in
+    full_allowed p2 _ k.turn t2
+    (tallied_unplaced p p1 p2 n v t c.requires.quiet c.requires.unplaced looks.acts looks.finds t1 tallies t2)
+    (tallied_idle p p1 p2 n v t c.requires.quiet c.requires.unplaced looks.acts looks.finds t1 tallies t2
+    c.requires.idle)
+    (tallied_ended p p1 p2 n v t c.requires.quiet c.requires.unplaced looks.acts looks.finds t1 tallies t2
+    c.requires.ended)
+    (tallied_nowhere p p1 p2 n v t c.requires.quiet c.requires.unplaced looks.acts looks.finds t1 tallies t2
+    c.requires.nowhere)
+
+pub full-requires-clause-admitted : goal.full-requires-clause-admitted
+full-requires-clause-admitted c =
+    let p : PassState = c.args.turn.now.pass in
+    let p1 : PassState = c.look-count.new.self.pass in
+    let p2 : PassState = c.tally.new.self.pass in
+    let i = c.is_in_order.ensures in
+    let j = c.is_in_order-2.ensures in
+    let k = c.is_in_order-3.ensures in
+    let t2 = in_turn p2 _ k.own k.turn k.history in
+    full_admitted p2 t2
+    (tallied_unplaced p p1 p2 c.look-count.result c.saturating_add.result
+    (in_turn p _ i.own i.turn i.history) c.requires.quiet
+    c.requires.unplaced c.look-count.ensures.acts c.look-count.ensures.finds
+    (in_turn p1 _ j.own j.turn j.history) c.tally.ensures.acts t2)
+
+pub returns-clause-full : goal.returns-clause-full
+returns-clause-full c =
+    let p : PassState = c.args.turn.now.pass in
+    let p1 : PassState = c.look-count.new.self.pass in
+    let p2 : PassState = c.tally.new.self.pass in
+    let i = c.is_in_order.ensures in
+    let j = c.is_in_order-2.ensures in
+    let k = c.is_in_order-3.ensures in
+    answers_full p p1 p2 c.look-count.result c.saturating_add.result
+    (in_turn p _ i.own i.turn i.history) c.requires.quiet
+    c.requires.unplaced c.look-count.ensures.acts c.look-count.ensures.finds
+    (in_turn p1 _ j.own j.turn j.history) c.tally.ensures.acts
+    (in_turn p2 _ k.own k.turn k.history) c.full.new.self.pass c.full.ensures.acts c.is_in_order-4.ensures.history
+    c.saturating_add.ensures

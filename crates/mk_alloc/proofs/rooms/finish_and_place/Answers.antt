@@ -1,0 +1,29 @@
+use Rattle.std.specs.Prelude.{Some}
+use Rattle.mk_core.specs.declared.events.Answer.TheVariants as answer
+use Rattle.mk_words.specs.States.{PassState}
+use Rattle.mk_cycle.proofs.Allowed.{in_turn}
+use Rattle.mk_alloc.proofs.SeekingTurns.{misfits_finished, seeks_finished, seeks_then}
+use Rattle.mk_alloc.proofs.rooms.finish_and_place.Goals as goal
+
+pub returns-clause-placed : goal.returns-clause-placed
+returns-clause-placed g c =
+    let t = c.args.turn in
+    let i = c.is_in_order.ensures in
+    let q : PassState = c.finish_cycle-turn.result.0.pass in
+    λ placed.
+    seeks_then (Some answer.Done) t.pass q c.try_place-placed.new.turn.pass
+    (seeks_finished t.pass q (in_turn t.pass t.op i.own i.turn i.history) c.requires.unplaced c.requires.quiet
+    c.requires.nowhere
+    c.finish_cycle-turn.ensures.law c.is_in_order-2.ensures.history)
+    (c.try_place-placed.ensures.placed placed)
+
+pub returns-clause-misfits : goal.returns-clause-misfits
+returns-clause-misfits g c =
+    let t = c.args.turn in
+    let i = c.is_in_order.ensures in
+    let q : PassState = c.finish_cycle-turn.result.0.pass in
+    λ misfits.
+    misfits_finished t.pass q c.try_place-placed.new.turn.pass
+    (in_turn t.pass t.op i.own i.turn i.history) c.requires.unplaced
+    c.requires.quiet c.requires.nowhere c.finish_cycle-turn.ensures.law c.is_in_order-2.ensures.history
+    (c.try_place-placed.ensures.misfits misfits) (c.try_place-placed.ensures.looks misfits)

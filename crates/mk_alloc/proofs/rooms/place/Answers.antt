@@ -1,0 +1,25 @@
+use Rattle.std.specs.Prelude.{Some}
+use Rattle.mk_core.specs.declared.events.Answer.TheVariants as answer
+use Rattle.mk_alloc.proofs.SeekingTurns.{misfits_then, seeks_then}
+use Rattle.mk_alloc.proofs.rooms.place.Goals as goal
+
+pub returns-clause-placed : goal.returns-clause-placed
+returns-clause-placed g c =
+    let m = c.place_behind_older-turn.ensures.misfits c.if-placed.false in
+    λ placed.
+    seeks_then (Some answer.Done) c.args.turn.pass c.place_behind_older-turn.result.0.pass
+    c.place_behind_cycle-turn.result.0.pass
+    m.misfits.seeks (c.place_behind_cycle-turn.ensures.placed placed)
+
+pub returns-clause-misfits : goal.returns-clause-misfits
+returns-clause-misfits g c =
+    let m = c.place_behind_older-turn.ensures.misfits c.if-placed.false in
+    λ misfits.
+    let n = c.place_behind_cycle-turn.ensures.misfits misfits in
+    record {
+      misfits = misfits_then c.args.turn.pass c.place_behind_older-turn.result.0.pass
+          c.place_behind_cycle-turn.result.0.pass
+          m.misfits.seeks n.misfits;
+      idle = n.idle;
+      ended = n.ended;
+    }

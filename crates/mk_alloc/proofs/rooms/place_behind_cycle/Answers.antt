@@ -1,0 +1,52 @@
+use Rattle.std.proofs.Common.{◌∙◌, ap}
+use Rattle.std.specs.Prelude.{Some}
+use Rattle.mk_core.specs.declared.events.Answer.TheVariants as answer
+use Rattle.mk_words.specs.States.{PassState}
+use Rattle.mk_cycle.specs.TurnKeeps.{Done}
+use Rattle.mk_cycle.proofs.Allowed.{in_turn}
+use Rattle.mk_alloc.proofs.QuietTurns.{quiet_begun}
+use Rattle.mk_alloc.proofs.SeekingTurns.{misfits_then, nowhere_begun, seeks_begun, seeks_then}
+use Rattle.mk_alloc.proofs.rooms.place_behind_cycle.Goals as goal
+use Rattle.mk_core.specs.Effects.{cycle_ended}
+
+pub finish_and_place-turn-requires-clause-quiet : goal.finish_and_place-turn-requires-clause-quiet
+finish_and_place-turn-requires-clause-quiet g c κs within =
+    quiet_begun c.args.turn.pass c.begin_cycle.new.turn.pass c.requires.quiet c.begin_cycle.ensures.law
+
+pub finish_and_place-turn-requires-clause-nowhere : goal.finish_and_place-turn-requires-clause-nowhere
+finish_and_place-turn-requires-clause-nowhere g c κs within =
+    let t = c.args.turn in
+    let i = c.is_in_order.ensures in
+    nowhere_begun t.pass c.begin_cycle.new.turn.pass
+    (in_turn t.pass t.op i.own i.turn i.history) c.requires.unplaced c.requires.quiet
+    c.requires.nowhere c.begin_cycle.ensures.law c.is_in_order-2.ensures.history
+
+pub returns-clause-placed : goal.returns-clause-placed
+returns-clause-placed g c =
+    let t = c.args.turn in
+    let i = c.is_in_order.ensures in
+    let q : PassState = c.begin_cycle.new.turn.pass in
+    λ placed.
+    seeks_then (Some answer.Done) t.pass q c.finish_and_place-turn.result.0.pass
+    (seeks_begun t.pass q (in_turn t.pass t.op i.own i.turn i.history) c.requires.unplaced c.requires.quiet
+    c.requires.nowhere
+    c.begin_cycle.ensures.law c.is_in_order-2.ensures.history)
+    (c.finish_and_place-turn.ensures.placed placed)
+
+pub returns-clause-misfits : goal.returns-clause-misfits
+returns-clause-misfits g c =
+    let t = c.args.turn in
+    let i = c.is_in_order.ensures in
+    let q : PassState = c.begin_cycle.new.turn.pass in
+    λ misfits.
+    let m = c.finish_and_place-turn.ensures.misfits misfits in
+    record {
+      misfits = misfits_then t.pass q c.finish_and_place-turn.result.0.pass
+          (seeks_begun t.pass q (in_turn t.pass t.op i.own i.turn i.history) c.requires.unplaced c.requires.quiet
+          c.requires.nowhere
+          c.begin_cycle.ensures.law c.is_in_order-2.ensures.history)
+          m.misfits;
+      idle = m.idle;
+      ended = c.finish_and_place-turn.ensures.cycle misfits
+          ∙ ap (λ (x : Done). cycle_ended x.cycle) c.begin_cycle.ensures.law.done;
+    }

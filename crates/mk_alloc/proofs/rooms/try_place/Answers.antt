@@ -1,0 +1,21 @@
+use Rattle.mk_cycle.proofs.Allowed.{in_turn}
+use Rattle.mk_alloc.proofs.SeekingTurns.{misfits_here, seeks_placed}
+use Rattle.mk_alloc.proofs.rooms.try_place.Goals as goal
+
+pub returns-clause-placed : goal.returns-clause-placed
+returns-clause-placed g c =
+    let t = c.args.turn.now in
+    let i = c.is_in_order.ensures in
+    λ placed.
+    seeks_placed t.pass c.place_object-placed.new.turn.pass
+    (in_turn t.pass t.op i.own i.turn i.history) c.requires.unplaced
+    c.requires.quiet (c.place_object-placed.ensures.placed placed) c.is_in_order-2.ensures.history
+
+pub returns-clause-misfits : goal.returns-clause-misfits
+returns-clause-misfits g c =
+    let t = c.args.turn.now in
+    let i = c.is_in_order.ensures in
+    λ misfits.
+    misfits_here t.pass c.place_object-placed.new.turn.pass
+    (in_turn t.pass t.op i.own i.turn i.history) c.requires.unplaced
+    c.requires.quiet (c.place_object-placed.ensures.nowhere misfits) c.is_in_order-2.ensures.history

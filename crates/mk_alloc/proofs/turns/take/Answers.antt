@@ -1,0 +1,21 @@
+use Rattle.mk_words.specs.States.{PassState}
+use Rattle.mk_alloc.proofs.TakenTurns.{callers, take_allowed, taken_phase}
+use Rattle.mk_alloc.proofs.turns.take.Goals as goal
+
+pub take_turn-turn-requires-clause-enabled : goal.take_turn-turn-requires-clause-enabled
+take_turn-turn-requires-clause-enabled g c =
+    take_allowed c.args.home c.args.op c.requires.idle c.requires.exists c.requires.under_turn c.requires.operands
+
+pub returns-clause-begins : goal.returns-clause-begins
+returns-clause-begins g c =
+    let p : PassState = c.args.home in
+    let q : PassState = c.take_turn-turn.result.pass in
+    let e = c.take_turn-turn.ensures in
+    record {
+      fresh = e.fresh;
+      phase = taken_phase p q c.args.op (callers p c.requires.idle) c.requires.exists c.requires.alone
+          c.is_in_order.ensures.own
+          e.takes e.fresh c.is_in_order-2.ensures.history c.is_in_order-2.ensures.before_over;
+      exact = e.exact;
+      tidy = e.tidy;
+    }

@@ -1,0 +1,39 @@
+-- The turns of a caller stay exact, whatever its next call is.
+use Rattle.std.specs.Prelude.{Bool, List}
+use Rattle.mk_never.specs.declared.operations.Op.{Op}
+use Rattle.mk_core.specs.declared.config.Config.{Config}
+use Rattle.mk_core.specs.declared.events.Answer.{Answer}
+use Rattle.mk_core.specs.declared.events.Seat.{Seat}
+use Rattle.mk_core.specs.declared.events.Event.{Event}
+use Rattle.mk_core.specs.Growing.{Grows}
+use Rattle.mk_words.specs.States.{PassState}
+use Rattle.mk_caller.specs.Called.{Called}
+use Rattle.mk_caller.specs.Causes.{FindsGateHeld}
+use Rattle.mk_words.specs.Seats.{Has}
+use Rattle.mk_alloc.specs.TurnCalls.{CalledInTurn}
+use Rattle.mk_alloc.specs.TurnCycles.{TurnsOfAreExact}
+
+-- the turns of the pass's seat
+abbrev pub OwnAreExact : Bool → PassState → Type 0
+OwnAreExact on p = TurnsOfAreExact on p.table.config p.seat p.seen
+
+abbrev pub StayExactBehindCalls : Type 0
+StayExactBehindCalls =
+    (on : Bool) (p : PassState) (o : Op) (a : Answer) (q : PassState) → Has p.seats p.seat → Called p o a q
+    → OwnAreExact on p → OwnAreExact on q
+
+abbrev pub StayExactWhereHeld : Type 0
+StayExactWhereHeld =
+    (on : Bool) (p : PassState) (o : Op) (q : PassState) → Has p.seats p.seat → FindsGateHeld p o q
+    → OwnAreExact on p → OwnAreExact on q
+
+abbrev pub StayExactBehindTurns : Type 0
+StayExactBehindTurns =
+    (on : Bool) (p : PassState) (o : Op) (a : Answer) (q : PassState) → Has p.seats p.seat → CalledInTurn on p o a q
+    → OwnAreExact on p → OwnAreExact on q
+
+-- Events of others leave them.
+abbrev pub StayExactBehindOthers : Type 0
+StayExactBehindOthers =
+    (on : Bool) (c : Config) (s : Seat) (seats : List Seat) (es fs : List Event) → Has seats s → Grows seats es fs
+    → TurnsOfAreExact on c s es → TurnsOfAreExact on c s fs

@@ -1,0 +1,6 @@
+pub mod TurnCycles
+pub mod TurnCalls
+pub mod Laws
+pub mod Underway
+pub mod DueCycles
+pub mod Rooms

@@ -1,0 +1,56 @@
+-- A New asks for room: it begins and ends cycles only where its object has no place.
+use Rattle.std.specs.Prelude.{◌≡◌, Bool, true, ◌||◌, List, ◌∷◌, ◌++◌, Option, Some, None}
+use Rattle.mk_core.specs.declared.events.Answer.{Answer}
+use Rattle.mk_core.specs.declared.events.Answer.TheVariants as answer
+use Rattle.mk_core.specs.declared.events.Event.{Event}
+use Rattle.mk_core.specs.declared.events.Step.{Step}
+use Rattle.mk_core.specs.declared.events.Step.TheVariants as step
+use Rattle.mk_core.specs.declared.seats.Object.{Object}
+use Rattle.mk_core.specs.declared.seats.OwnCycle.TheVariants.{Ended}
+use Rattle.mk_core.specs.Cycles.{is_begin}
+use Rattle.mk_words.specs.States.{PassState, event_of, now_of, world_of}
+use Rattle.mk_cycle.specs.EngineLaw.{IsAtPhase}
+use Rattle.mk_objects.specs.Placing.{IsUnplaced, object_for, place_now_for}
+use Rattle.mk_alloc.specs.TurnCycles.{HasNoPlace, is_want}
+use Rattle.mk_alloc.specs.Underway.{GoesOn}
+
+-- the steps that begin a cycle, or its end
+abbrev pub asks_room : Step → Bool
+asks_room s = is_begin s || is_want s
+
+-- Each of them that was seen since came where the object had no place.
+abbrev pub AsksRoom : Object → PassState → PassState → Type 0
+AsksRoom o p q =
+    (part : List Event) (e : Event) (behind : List Event) → q.seen ≡ p.seen ++ part ++ e ∷ behind → asks_room e.step
+    ≡ true
+    → HasNoPlace p.table.config o (p.seen ++ part)
+
+-- The turn of a New went on, and asked for room so.
+pub record Seeks (a : Option Answer) (p q : PassState) : Type 0 where
+  pub on : GoesOn a p q
+  pub room : AsksRoom (object_for p) p q
+
+-- It isn't decided, and its object has no place now.
+pub record Misfits (p q : PassState) : Type 0 where
+  pub seeks : Seeks None p q
+  pub unplaced : IsUnplaced q
+  pub nowhere : place_now_for q ≡ None
+
+-- Nor is a cycle on,
+pub record MisfitsIdly (p q : PassState) : Type 0 where
+  pub misfits : Misfits p q
+  pub idle : IsAtPhase q 0
+
+-- though one was begun and ended in the turn.
+pub record MisfitsAtLast (p q : PassState) : Type 0 where
+  pub misfits : Misfits p q
+  pub idle : IsAtPhase q 0
+  pub ended : (now_of q).seats.holding.cycle ≡ Ended
+
+-- It was answered Full, and all allocations stay.
+pub record AnswersFull (p q : PassState) : Type 0 where
+  pub seeks : Seeks (Some answer.Full) p q
+  pub before : List Event
+  pub behind : List Event
+  pub is : q.seen ≡ before ++ event_of p step.Full ∷ behind
+  pub allocations : (world_of q).allocations ≡ (world_of p).allocations

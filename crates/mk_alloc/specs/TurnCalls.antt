@@ -1,0 +1,56 @@
+-- A call under the turn, in the history: a New, or a Free.
+use Rattle.std.specs.Prelude.{◌≡◌, ◌↔◌, ℕ, Bool, true, List, ◌∷◌, ◌++◌, Some}
+use Rattle.mk_never.specs.declared.operations.Op.{Op}
+use Rattle.mk_never.specs.declared.operations.Op.TheVariants as op
+use Rattle.mk_core.specs.declared.events.Answer.{Answer}
+use Rattle.mk_core.specs.declared.events.Answer.TheVariants as answer
+use Rattle.mk_core.specs.declared.events.Event.{Event}
+use Rattle.mk_core.specs.declared.events.Step.TheVariants as step
+use Rattle.mk_core.specs.Allocations.{census_of_allocations}
+use Rattle.mk_core.specs.Calls.{at_rest}
+use Rattle.mk_core.specs.Decided.{entry_of, flagged}
+use Rattle.mk_core.specs.Placement.{IsFull}
+use Rattle.mk_geom.specs.declared.pages.Census.{Census}
+use Rattle.mk_words.specs.States.{PassState, world_of, call_of, event_of}
+use Rattle.mk_words.specs.Steps.{Makes}
+use Rattle.mk_words.specs.TurnSteps.{turn_stays}
+use Rattle.mk_caller.specs.States.{number_of}
+use Rattle.mk_caller.specs.Called.{own_calls, IsDecidedIn}
+use Rattle.mk_turns.specs.Doing.{Does}
+use Rattle.mk_waiting.specs.Taking.{TakesTurn}
+use Rattle.mk_alloc.specs.TurnCycles.{EndsExactly, IsDueIn}
+use Rattle.mk_objects.specs.Retiring.{is_loading}
+
+-- The pass waited for the turn, did this operation, was answered so, and gave the turn back. What it has seen begins
+-- with what it had seen. Its caller has one entry more, and no call in flight.
+pub record CalledInTurn (on : Bool) (p : PassState) (o : Op) (a : Answer) (q : PassState) : Type 0 where
+  pub taken : PassState
+  pub done : PassState
+  pub takes : TakesTurn p (Some o) taken
+  pub acts : Does turn_stays taken done
+  pub gives : Makes done step.Give q
+  pub more : List Event
+  pub is : q ≡ record p { seen = p.seen ++ more }
+  pub entry : own_calls p (p.seen ++ more) ≡ own_calls p p.seen ++ entry_of (number_of p) o (Some a)
+  pub decided : IsDecidedIn p (flagged o a) a more
+  pub ends : EndsExactly on p.table.config p.seat (done.seen ++ gives.others)
+  pub rest : call_of q ≡ at_rest
+
+-- No place was left, though a cycle was begun and ended in the call; the counts are those of that moment.
+pub record IsAnsweredFull (on : Bool) (p : PassState) (o : Op) (census : Census) (q : PassState) : Type 0 where
+  pub called : CalledInTurn on p o answer.Full q
+  pub before : List Event
+  pub behind : List Event
+  pub is : q.seen ≡ before ++ event_of p step.Full ∷ behind
+  pub full : IsFull p.table.config before p.seat
+  pub counts : census ≡ census_of_allocations p.table.config (world_of q).allocations
+
+-- The object was freed, or the register was null; and whether that was due.
+pub record FreesObject (on : Bool) (p : PassState) (r : ℕ) (due : Bool) (q : PassState) : Type 0 where
+  pub called : CalledInTurn on p (op.Free r) answer.Done q
+  pub is_due : (due ≡ true) ↔ IsDueIn called.ends.turn
+
+-- The object was freed already. Nothing is stored but in the turn word.
+pub record IsAnsweredDouble (on : Bool) (p : PassState) (r : ℕ) (q : PassState) : Type 0 where
+  pub called : CalledInTurn on p (op.Free r) answer.Double q
+  pub only_looks : Does is_loading called.taken called.done

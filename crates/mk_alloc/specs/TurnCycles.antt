@@ -1,0 +1,87 @@
+-- What calls under the turn do with cycles, told of each turn where it is given back.
+use Rattle.std.specs.Prelude.{◌≡◌, ◌↔◌, Bool, true, false, ◌||◌, List, ◌∷◌, ◌++◌, Option, Some, ⊤}
+use Rattle.std.specs.List.{list_any}
+use Rattle.mk_never.specs.declared.operations.Op.{Op}
+use Rattle.mk_never.specs.declared.operations.Op.TheVariants as op
+use Rattle.mk_core.specs.declared.config.Config.{Config}
+use Rattle.mk_core.specs.declared.events.Seat.{Seat}
+use Rattle.mk_core.specs.declared.events.Step.{Step}
+use Rattle.mk_core.specs.declared.events.Step.TheVariants as step
+use Rattle.mk_core.specs.declared.events.Event.{Event}
+use Rattle.mk_core.specs.declared.seats.Object.{Object}
+use Rattle.mk_core.specs.Allocations.{FitsAmongAllocations}
+use Rattle.mk_core.specs.Counts.{IsDue}
+use Rattle.mk_core.specs.Cycles.{At, TurnOf, BeginsIn, BeginsAndEndsIn, is_begin, is_end}
+use Rattle.mk_core.specs.History.{left}
+use Rattle.mk_core.specs.NewPlaces.{object_made}
+use Rattle.mk_core.specs.Words.{phase_of}
+
+-- kinds of step
+
+abbrev pub is_want : Step → Bool
+is_want step.Want = true
+is_want _ = false
+
+-- what ends a cycle that is on
+abbrev pub finishes : Step → Bool
+finishes step.Want = true
+finishes step.Close = true
+finishes step.Release = true
+finishes step.End = true
+finishes _ = false
+
+abbrev pub is_of_cycle : Step → Bool
+is_of_cycle s = is_begin s || finishes s
+
+abbrev pub has_step : (Step → Bool) → List Event → Bool
+has_step kind es = list_any (λ (e : Event). kind e.step) es
+
+-- the list up to this part of a turn, from the first event of all on
+abbrev pub within_turn : {c : Config} {s : Seat} {es : List Event} → TurnOf c s es → List Event → List Event
+within_turn {s = s} t part = t.before ++ record { seat = s; step = step.Take t.op } ∷ part
+
+-- An event of the turn frees an object, and a free is due there.
+pub record IsDueIn {c : Config} {s : Seat} {es : List Event} (t : TurnOf c s es) : Type 0 where
+  pub before : List Event
+  pub event : Event
+  pub behind : List Event
+  pub is : t.behind ≡ before ++ event ∷ behind
+  pub due : IsDue c (within_turn t before) event
+
+abbrev pub CycleIsOn : {c : Config} {s : Seat} {es : List Event} → TurnOf c s es → Type 0
+CycleIsOn {c = c} t = phase_of (left c t.before).now.words ≡ 1
+
+-- A Free begins a cycle exactly where it is due, and else does nothing with cycles. An engine that keeps on leaves that
+-- cycle on, and has ended the one that was on before; one that doesn't ends it in the call.
+pub record FreeIsExact (on : Bool) {c : Config} {s : Seat} {es : List Event} (t : TurnOf c s es) : Type 0 where
+  pub begins : BeginsIn t ↔ IsDueIn t
+  pub undue : (IsDueIn t → ⊥) → has_step is_of_cycle t.behind ≡ false
+  pub stopped : on ≡ false → BeginsIn t → BeginsAndEndsIn t
+  pub goes_on : on ≡ true → (b : BeginsIn t) → has_step finishes b.behind ≡ false
+  pub older : on ≡ true → CycleIsOn t → (b : BeginsIn t) → At is_end b.before
+
+-- The object has no place behind this list.
+abbrev pub HasNoPlace : Config → Object → List Event → Type 0
+HasNoPlace c o es = FitsAmongAllocations c o.words o.leaf (left c es).allocations → ⊥
+
+-- A New begins a cycle, and ends one, only where its object has no place.
+pub record NewIsExact {c : Config} {s : Seat} {es : List Event} (t : TurnOf c s es) (o : Object) : Type 0 where
+  pub begins : (b : BeginsIn t) → HasNoPlace c o (within_turn t b.before)
+  pub ends : (w : At is_want t.behind) → HasNoPlace c o (within_turn t w.before)
+
+abbrev pub CallIsExact : Bool → {c : Config} {s : Seat} {es : List Event} → TurnOf c s es → Option Op → Type 0
+CallIsExact on {c = c} t (Some (op.New d ty full)) = NewIsExact t (object_made c (op.New d ty full))
+CallIsExact on t (Some (op.Free p)) = FreeIsExact on t
+CallIsExact on t _ = ⊤
+
+-- Behind the list the seat is in a turn, which has done with cycles what its operation asks.
+pub record EndsExactly (on : Bool) (c : Config) (s : Seat) (es : List Event) : Type 0 where
+  pub turn : TurnOf c s es
+  pub exact : CallIsExact on turn turn.op
+
+-- Each turn of the seat that is given back did so.
+abbrev pub TurnsOfAreExact : Bool → Config → Seat → List Event → Type 0
+TurnsOfAreExact on c s es =
+    (before : List Event) (e : Event) (behind : List Event) → es ≡ before ++ e ∷ behind → e.step ≡ step.Give → e.seat
+    ≡ s
+    → EndsExactly on c s before

@@ -1,0 +1,86 @@
+//! The cycle that a free begins where it is due.
+ghost use Rattle.std.specs.Prelude.{◌≡◌, length};
+ghost use Rattle.mk_alloc.specs.DueCycles.{EndsOlder, RunsCycle, RunsIfDue};
+ghost use Rattle.mk_alloc.specs.Underway.{IsQuiet};
+
+use crate::turns::is_cycle_on;
+use mk_cycle::{Bench, Engine, begin_cycle, finish_cycle};
+use mk_words::{Turn, Words};
+use std::sync::Wait;
+use std::thread::Threads;
+
+/// Finishes the cycle that is on, if one is.
+fn finish_older<E: Engine, R: Threads + Wait + Sync>(
+    rt: &R,
+    words: &Words,
+    turn: Turn,
+    bench: &mut Bench<E>,
+) -> Turn
+    requires one_table { turn.pass.table ≡ words.now }
+    requires made_for { E.made_for bench.old.engine ≡ words.now.config.pages }
+    requires book { length bench.old.book ≡ words.now.config.pages }
+    requires quiet { IsQuiet turn.pass }
+    ensures op { result.op ≡ turn.op }
+    ensures made_for { E.made_for bench.new.engine ≡ E.made_for bench.old.engine }
+    ensures book { length bench.new.book ≡ length bench.old.book }
+    ensures ends { EndsOlder turn.pass result.pass }
+{
+    let mut turn = turn;
+    if is_cycle_on(words, &mut turn) {
+        let (turn, _) = finish_cycle(rt, words, turn, bench);
+        turn
+    } else {
+        turn
+    }
+}
+
+/// Begins a cycle, behind one that is on, and finishes it unless the engine keeps on.
+fn run_cycle<E: Engine, R: Threads + Wait + Sync>(
+    rt: &R,
+    words: &Words,
+    turn: Turn,
+    bench: &mut Bench<E>,
+) -> Turn
+    requires one_table { turn.pass.table ≡ words.now }
+    requires made_for { E.made_for bench.old.engine ≡ words.now.config.pages }
+    requires book { length bench.old.book ≡ words.now.config.pages }
+    requires quiet { IsQuiet turn.pass }
+    ensures op { result.op ≡ turn.op }
+    ensures made_for { E.made_for bench.new.engine ≡ E.made_for bench.old.engine }
+    ensures book { length bench.new.book ≡ length bench.old.book }
+    ensures runs { RunsCycle E.on turn.pass result.pass }
+{
+    turn.is_in_order();
+    let mut turn = finish_older(rt, words, turn, bench);
+    begin_cycle(rt, words, &mut turn, bench);
+    if bench.engine.keeps_on() {
+        turn
+    } else {
+        let (turn, _) = finish_cycle(rt, words, turn, bench);
+        turn
+    }
+}
+
+/// Runs a cycle, if one is due.
+pub(crate) fn run_if_due<E: Engine, R: Threads + Wait + Sync>(
+    rt: &R,
+    words: &Words,
+    turn: Turn,
+    bench: &mut Bench<E>,
+    due: bool,
+) -> Turn
+    requires one_table { turn.pass.table ≡ words.now }
+    requires made_for { E.made_for bench.old.engine ≡ words.now.config.pages }
+    requires book { length bench.old.book ≡ words.now.config.pages }
+    requires quiet { IsQuiet turn.pass }
+    ensures op { result.op ≡ turn.op }
+    ensures made_for { E.made_for bench.new.engine ≡ E.made_for bench.old.engine }
+    ensures book { length bench.new.book ≡ length bench.old.book }
+    ensures runs { RunsIfDue E.on due turn.pass result.pass }
+{
+    if due {
+        run_cycle(rt, words, turn, bench)
+    } else {
+        turn
+    }
+}

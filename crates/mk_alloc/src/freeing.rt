@@ -1,0 +1,56 @@
+//! Freeing objects.
+ghost use Rattle.std.specs.Prelude.{◌≡◌, ◌<◌, ◌∷◌, [], IfOk, OnErr, true, length};
+ghost use Rattle.mk_never.specs.Admitted.{IsBase};
+ghost use Rattle.mk_caller.specs.States.{number_of, value_of};
+ghost use Rattle.mk_alloc.specs.TurnCalls.{FreesObject, IsAnsweredDouble};
+
+use crate::cycles::run_if_due;
+use crate::turns::{give, take};
+use mk_caller::Caller;
+use mk_cycle::{Bench, Engine};
+use mk_never::Op;
+use mk_objects::{Double, Freed, retire_object};
+use std::sync::Wait;
+use std::thread::Threads;
+
+/// Frees the object that a register points to, if it isn't null. Where that is due, a cycle begins, and ends in the
+/// call unless the engine keeps on.
+pub fn free_object<E: Engine, R: Threads + Wait + Sync>(
+    rt: &R,
+    caller: &mut Caller,
+    bench: &mut Bench<E>,
+    p: u8,
+) -> Result<Freed, Double>
+    requires home { caller.old.home ≡ true }
+    requires exists { number_of caller.old.pass < caller.old.pass.table.config.callers }
+    requires alone { caller.old.pass.seats ≡ caller.old.pass.seat ∷ [] }
+    requires register { p < 8 }
+    requires base { IsBase (value_of caller.old.pass p) }
+    requires made_for { E.made_for bench.old.engine ≡ caller.old.pass.table.config.pages }
+    requires book { length bench.old.book ≡ caller.old.pass.table.config.pages }
+    ensures home { caller.new.home ≡ true }
+    ensures made_for { E.made_for bench.new.engine ≡ E.made_for bench.old.engine }
+    ensures book { length bench.new.book ≡ length bench.old.book }
+    ensures freed { IfOk result (λ freed. FreesObject E.on caller.old.pass p freed.due caller.new.pass) }
+    ensures double { OnErr result (IsAnsweredDouble E.on caller.old.pass p caller.new.pass) }
+{
+    caller.is_idle();
+    let words = caller.words();
+    let home = caller.lend();
+    let mut turn = take(rt, words, home, Op::Free { p });
+    turn.is_in_order();
+    match retire_object(rt, words, &mut turn, p) {
+        Ok(freed) => {
+            turn.is_in_order();
+            let turn = run_if_due(rt, words, turn, bench, freed.due);
+            turn.is_in_order();
+            caller.back(give(words, turn));
+            Ok(freed)
+        }
+        Err(double) => {
+            turn.is_in_order();
+            caller.back(give(words, turn));
+            Err(double)
+        }
+    }
+}

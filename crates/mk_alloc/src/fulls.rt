@@ -1,0 +1,31 @@
+//! A New for whose object there is no room.
+ghost use Rattle.std.specs.Prelude.{◌≡◌, None};
+ghost use Rattle.mk_core.specs.declared.seats.OwnCycle.TheVariants.{Ended};
+ghost use Rattle.mk_words.specs.States.{now_of};
+ghost use Rattle.mk_cycle.specs.EngineLaw.{IsAtPhase};
+ghost use Rattle.mk_objects.specs.Placing.{IsUnplaced, place_now_for};
+ghost use Rattle.mk_alloc.specs.Rooms.{AnswersFull};
+ghost use Rattle.mk_alloc.specs.Underway.{IsQuiet};
+
+use mk_core::{Tally, Word};
+use mk_words::{Turn, Words};
+
+/// Decides the New, and counts it.
+pub(crate) fn answer_full(words: &Words, turn: &mut Turn)
+    requires one_table { turn.old.pass.table ≡ words.now }
+    requires quiet { IsQuiet turn.old.pass }
+    requires unplaced { IsUnplaced turn.old.pass }
+    requires nowhere { place_now_for turn.old.pass ≡ None }
+    requires idle { IsAtPhase turn.old.pass 0 }
+    requires ended { (now_of turn.old.pass).seats.holding.cycle ≡ Ended }
+    ensures op { turn.new.op ≡ turn.old.op }
+    ensures full { AnswersFull turn.old.pass turn.new.pass }
+{
+    turn.is_in_order();
+    let count = turn.look(words, Word::Full);
+    turn.is_in_order();
+    turn.tally(words, Tally::Full, count.saturating_add(1));
+    turn.is_in_order();
+    turn.full(words);
+    turn.is_in_order();
+}

@@ -1,0 +1,10 @@
+//! What calls leave of the turns before: facts alone, with no code.
+ghost use Rattle.mk_alloc.specs.Laws.{StayExactBehindCalls, StayExactWhereHeld, StayExactBehindTurns, StayExactBehindOthers};
+
+/// A caller's turns stay exact, whatever its next call is, and whatever others do.
+pub fn turns_stay_exact()
+    ensures calls { StayExactBehindCalls }
+    ensures held { StayExactWhereHeld }
+    ensures turns { StayExactBehindTurns }
+    ensures others { StayExactBehindOthers }
+{}

@@ -1,0 +1,65 @@
+//! Making objects.
+ghost use Rattle.std.specs.Prelude.{◌≡◌, ◌<◌, ◌∷◌, [], OnOk, IfErr, true, false, length};
+ghost use Rattle.mk_never.specs.declared.operations.Op.TheVariants as op;
+ghost use Rattle.mk_core.specs.declared.events.Answer.TheVariants as answer;
+ghost use Rattle.mk_caller.specs.States.{number_of};
+ghost use Rattle.mk_alloc.specs.TurnCalls.{CalledInTurn, IsAnsweredFull};
+
+use crate::fulls::answer_full;
+use crate::rooms::place;
+use crate::turns::{give, take};
+use mk_books::census;
+use mk_caller::Caller;
+use mk_cycle::{Bench, Engine};
+use mk_geom::Census;
+use mk_never::Op;
+use std::sync::Wait;
+use std::thread::Threads;
+
+/// Nothing fits, and these are the counts.
+#[derive(Clone, Copy, Debug)]
+pub struct Full {
+    pub census: Census,
+}
+
+/// Sets a register to a new object of a type, whose words are 0. Where nothing fits, a cycle that is on is finished,
+/// and then one more is begun and finished, before the answer is `Full`.
+pub fn new_object<E: Engine, R: Threads + Wait + Sync>(
+    rt: &R,
+    caller: &mut Caller,
+    bench: &mut Bench<E>,
+    d: u8,
+    ty: u64,
+) -> Result<(), Full>
+    requires home { caller.old.home ≡ true }
+    requires exists { number_of caller.old.pass < caller.old.pass.table.config.callers }
+    requires alone { caller.old.pass.seats ≡ caller.old.pass.seat ∷ [] }
+    requires register { d < 8 }
+    requires ty { ty < length caller.old.pass.table.config.types }
+    requires made_for { E.made_for bench.old.engine ≡ caller.old.pass.table.config.pages }
+    requires book { length bench.old.book ≡ caller.old.pass.table.config.pages }
+    ensures home { caller.new.home ≡ true }
+    ensures made_for { E.made_for bench.new.engine ≡ E.made_for bench.old.engine }
+    ensures book { length bench.new.book ≡ length bench.old.book }
+    ensures made { OnOk result (CalledInTurn E.on caller.old.pass (op.New d ty false) answer.Done caller.new.pass) }
+    ensures full { IfErr result (λ full.
+        IsAnsweredFull E.on caller.old.pass (op.New d ty false) full.census caller.new.pass) }
+{
+    caller.is_idle();
+    let words = caller.words();
+    let home = caller.lend();
+    let op = Op::New { d, ty, full: false };
+    let turn = take(rt, words, home, op);
+    turn.is_in_order();
+    let (mut turn, placed) = place(rt, words, turn, bench);
+    turn.is_in_order();
+    if placed {
+        caller.back(give(words, turn));
+        return Ok(());
+    }
+    let census = census(bench.book.pages());
+    answer_full(words, &mut turn);
+    turn.is_in_order();
+    caller.back(give(words, turn));
+    Err(Full { census })
+}

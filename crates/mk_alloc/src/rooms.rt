@@ -1,0 +1,161 @@
+//! Room for the object of a New: where it fits nowhere, cycles are finished and begun.
+ghost use Rattle.std.specs.Prelude.{◌≡◌, Some, None, true, false, length};
+ghost use Rattle.mk_core.specs.declared.events.Answer.TheVariants as answer;
+ghost use Rattle.mk_words.specs.States.{now_of};
+ghost use Rattle.mk_cycle.specs.EngineLaw.{IsAtPhase};
+ghost use Rattle.mk_core.specs.Effects.{cycle_ended};
+ghost use Rattle.mk_objects.specs.Placing.{IsUnplaced, OnlyLooks, place_now_for};
+ghost use Rattle.mk_alloc.specs.Rooms.{Misfits, MisfitsAtLast, MisfitsIdly, Seeks};
+ghost use Rattle.mk_alloc.specs.Underway.{IsQuiet};
+
+use crate::turns::is_cycle_on;
+use mk_cycle::{Bench, Engine, begin_cycle, finish_cycle};
+use mk_objects::place_object;
+use mk_words::{Turn, Words};
+use std::sync::Wait;
+use std::thread::Threads;
+
+/// Grants the object where it fits.
+fn try_place<E: Engine>(words: &Words, turn: &mut Turn, bench: &mut Bench<E>) -> bool
+    requires one_table { turn.old.pass.table ≡ words.now }
+    requires book { length bench.old.book ≡ words.now.config.pages }
+    requires quiet { IsQuiet turn.old.pass }
+    requires unplaced { IsUnplaced turn.old.pass }
+    ensures op { turn.new.op ≡ turn.old.op }
+    ensures made_for { E.made_for bench.new.engine ≡ E.made_for bench.old.engine }
+    ensures book { length bench.new.book ≡ length bench.old.book }
+    ensures placed { result ≡ true → Seeks (Some answer.Done) turn.old.pass turn.new.pass }
+    ensures misfits { result ≡ false → Misfits turn.old.pass turn.new.pass }
+    ensures looks { result ≡ false → OnlyLooks turn.old.pass turn.new.pass }
+    ensures shows { result ≡ false → bench.new.book ≡ (now_of turn.new.pass).words.pages }
+{
+    turn.is_in_order();
+    let placed = place_object(words, turn, &mut bench.book);
+    turn.is_in_order();
+    placed
+}
+
+/// Finishes the cycle that is on, and grants the object where it fits then.
+fn finish_and_place<E: Engine, R: Threads + Wait + Sync>(
+    rt: &R,
+    words: &Words,
+    turn: Turn,
+    bench: &mut Bench<E>,
+) -> (Turn, bool)
+    requires one_table { turn.pass.table ≡ words.now }
+    requires made_for { E.made_for bench.old.engine ≡ words.now.config.pages }
+    requires book { length bench.old.book ≡ words.now.config.pages }
+    requires quiet { IsQuiet turn.pass }
+    requires unplaced { IsUnplaced turn.pass }
+    requires nowhere { place_now_for turn.pass ≡ None }
+    requires on { IsAtPhase turn.pass 1 }
+    ensures op { result.0.op ≡ turn.op }
+    ensures made_for { E.made_for bench.new.engine ≡ E.made_for bench.old.engine }
+    ensures book { length bench.new.book ≡ length bench.old.book }
+    ensures placed { result.1 ≡ true → Seeks (Some answer.Done) turn.pass result.0.pass }
+    ensures misfits { result.1 ≡ false → MisfitsIdly turn.pass result.0.pass }
+    ensures cycle { result.1 ≡ false → (now_of result.0.pass).seats.holding.cycle
+        ≡ cycle_ended (now_of turn.pass).seats.holding.cycle }
+    ensures shows { result.1 ≡ false → bench.new.book ≡ (now_of result.0.pass).words.pages }
+{
+    turn.is_in_order();
+    let (mut turn, _) = finish_cycle(rt, words, turn, bench);
+    turn.is_in_order();
+    let placed = try_place(words, &mut turn, bench);
+    turn.is_in_order();
+    (turn, placed)
+}
+
+/// Grants the object where it fits, or where it fits behind the cycle that is on.
+fn place_behind_older<E: Engine, R: Threads + Wait + Sync>(
+    rt: &R,
+    words: &Words,
+    turn: Turn,
+    bench: &mut Bench<E>,
+) -> (Turn, bool)
+    requires one_table { turn.pass.table ≡ words.now }
+    requires made_for { E.made_for bench.old.engine ≡ words.now.config.pages }
+    requires book { length bench.old.book ≡ words.now.config.pages }
+    requires quiet { IsQuiet turn.pass }
+    requires unplaced { IsUnplaced turn.pass }
+    ensures op { result.0.op ≡ turn.op }
+    ensures made_for { E.made_for bench.new.engine ≡ E.made_for bench.old.engine }
+    ensures book { length bench.new.book ≡ length bench.old.book }
+    ensures placed { result.1 ≡ true → Seeks (Some answer.Done) turn.pass result.0.pass }
+    ensures misfits { result.1 ≡ false → MisfitsIdly turn.pass result.0.pass }
+{
+    let mut turn = turn;
+    turn.is_in_order();
+    if try_place(words, &mut turn, bench) {
+        return (turn, true);
+    }
+    turn.is_in_order();
+    if !is_cycle_on(words, &mut turn) {
+        turn.is_in_order();
+        return (turn, false);
+    }
+    turn.is_in_order();
+    let (turn, placed) = finish_and_place(rt, words, turn, bench);
+    turn.is_in_order();
+    (turn, placed)
+}
+
+/// Begins and finishes a cycle, and grants the object where it fits then.
+fn place_behind_cycle<E: Engine, R: Threads + Wait + Sync>(
+    rt: &R,
+    words: &Words,
+    turn: Turn,
+    bench: &mut Bench<E>,
+) -> (Turn, bool)
+    requires one_table { turn.pass.table ≡ words.now }
+    requires made_for { E.made_for bench.old.engine ≡ words.now.config.pages }
+    requires book { length bench.old.book ≡ words.now.config.pages }
+    requires quiet { IsQuiet turn.pass }
+    requires unplaced { IsUnplaced turn.pass }
+    requires nowhere { place_now_for turn.pass ≡ None }
+    requires idle { IsAtPhase turn.pass 0 }
+    ensures op { result.0.op ≡ turn.op }
+    ensures made_for { E.made_for bench.new.engine ≡ E.made_for bench.old.engine }
+    ensures book { length bench.new.book ≡ length bench.old.book }
+    ensures placed { result.1 ≡ true → Seeks (Some answer.Done) turn.pass result.0.pass }
+    ensures misfits { result.1 ≡ false → MisfitsAtLast turn.pass result.0.pass }
+    ensures shows { result.1 ≡ false → bench.new.book ≡ (now_of result.0.pass).words.pages }
+{
+    let mut turn = turn;
+    turn.is_in_order();
+    begin_cycle(rt, words, &mut turn, bench);
+    turn.is_in_order();
+    let (turn, placed) = finish_and_place(rt, words, turn, bench);
+    turn.is_in_order();
+    (turn, placed)
+}
+
+/// Grants the object, if it can be made to fit.
+pub(crate) fn place<E: Engine, R: Threads + Wait + Sync>(
+    rt: &R,
+    words: &Words,
+    turn: Turn,
+    bench: &mut Bench<E>,
+) -> (Turn, bool)
+    requires one_table { turn.pass.table ≡ words.now }
+    requires made_for { E.made_for bench.old.engine ≡ words.now.config.pages }
+    requires book { length bench.old.book ≡ words.now.config.pages }
+    requires quiet { IsQuiet turn.pass }
+    requires unplaced { IsUnplaced turn.pass }
+    ensures op { result.0.op ≡ turn.op }
+    ensures made_for { E.made_for bench.new.engine ≡ E.made_for bench.old.engine }
+    ensures book { length bench.new.book ≡ length bench.old.book }
+    ensures placed { result.1 ≡ true → Seeks (Some answer.Done) turn.pass result.0.pass }
+    ensures misfits { result.1 ≡ false → MisfitsAtLast turn.pass result.0.pass }
+    ensures shows { result.1 ≡ false → bench.new.book ≡ (now_of result.0.pass).words.pages }
+{
+    turn.is_in_order();
+    let (turn, placed) = place_behind_older(rt, words, turn, bench);
+    turn.is_in_order();
+    if placed {
+        return (turn, placed);
+    }
+    let (turn, placed) = place_behind_cycle(rt, words, turn, bench);
+    turn.is_in_order();
+    (turn, placed)
+}

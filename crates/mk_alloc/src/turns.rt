@@ -1,0 +1,65 @@
+//! Parts of a turn that every call has.
+ghost use Rattle.std.specs.Prelude.{◌≡◌, ◌==◌, ◌<◌, ◌∷◌, [], Some, true};
+ghost use Rattle.mk_core.specs.declared.events.Step.TheVariants as step;
+ghost use Rattle.mk_core.specs.declared.seats.Stage.TheVariants as stage;
+ghost use Rattle.mk_core.specs.Calls.{at_rest, has_operands, is_under_turn};
+ghost use Rattle.mk_core.specs.History.{IsHistory};
+ghost use Rattle.mk_core.specs.Words.{phase_of};
+ghost use Rattle.mk_words.specs.States.{call_of, now_of};
+ghost use Rattle.mk_words.specs.Steps.{Makes};
+ghost use Rattle.mk_caller.specs.States.{IsIdleCaller, number_of};
+ghost use Rattle.mk_waiting.specs.Taking.{TakesTurn};
+ghost use Rattle.mk_alloc.specs.Underway.{BeginsTurn, IsQuiet, Looks};
+
+use mk_core::Word;
+use mk_never::Op;
+use mk_waiting::take_turn;
+use mk_words::{Pass, Turn, Words};
+use std::sync::Wait;
+
+/// Waits for the turn, and takes it for an operation of a caller whose seat is the pass's only one.
+pub(crate) fn take<R: Wait>(rt: &R, words: &Words, home: Pass, op: Op) -> Turn
+    requires one_table { home.table ≡ words.now }
+    requires idle { IsIdleCaller home }
+    requires exists { number_of home < home.table.config.callers }
+    requires alone { home.seats ≡ home.seat ∷ [] }
+    requires under_turn { is_under_turn op ≡ true }
+    requires operands { has_operands home.table.config op ≡ true }
+    ensures op { result.op ≡ Some op }
+    ensures takes { TakesTurn home (Some op) result.pass }
+    ensures begins { BeginsTurn op result.pass }
+{
+    home.is_in_order();
+    let turn = take_turn(rt, words, home, Some(op));
+    turn.is_in_order();
+    turn
+}
+
+/// Looks whether a cycle is on.
+pub(crate) fn is_cycle_on(words: &Words, turn: &mut Turn) -> bool
+    requires one_table { turn.old.pass.table ≡ words.now }
+    requires quiet { IsQuiet turn.old.pass }
+    ensures op { turn.new.op ≡ turn.old.op }
+    ensures looks { Looks turn.old.pass turn.new.pass }
+    ensures on { result ≡ (phase_of (now_of turn.old.pass).words == 1) }
+{
+    turn.is_in_order();
+    let found = turn.look(words, Word::Phase);
+    turn.is_in_order();
+    found % 8 == 1
+}
+
+/// Gives the turn of a call that is decided back.
+pub(crate) fn give(words: &Words, turn: Turn) -> Pass
+    requires one_table { turn.pass.table ≡ words.now }
+    requires quiet { IsQuiet turn.pass }
+    requires decided { (call_of turn.pass).stage ≡ stage.Give }
+    ensures gives { Makes turn.pass step.Give result }
+    ensures rests { call_of result ≡ at_rest }
+    ensures history { IsHistory result.table.config result.seen }
+{
+    turn.is_in_order();
+    let home = turn.give(words);
+    home.is_in_order();
+    home
+}

@@ -1,0 +1,316 @@
+-- The words of the pages behind a `release` tell what it released.
+use Rattle.std.proofs.Common.{◌≡◌, ◌≢◌, ℕ, ◌+◌, ◌++◌, Bool, true, false, cond, ◌&&◌, ◌||◌, not, List, length, map}
+use Rattle.std.proofs.Common.{sum_by, count_by, refl, sym, ap, ◌∙◌, arith}
+use Rattle.std.specs.Prelude.{slice_index}
+use Rattle.std.proofs.lemmas.Bool.{and_from, and_parts, not-true, true≢false}
+use Rattle.std.proofs.lemmas.Nat.{and_le_l}
+use Rattle.mk_geom.specs.declared.addresses.Cell.{Cell}
+use Rattle.mk_core.specs.declared.config.Config.{Config}
+use Rattle.mk_core.specs.declared.events.Event.{Event}
+use Rattle.mk_core.specs.declared.events.Step.TheVariants as step
+use Rattle.mk_core.specs.Allocations.{PlacedAllocation, cell_of_allocation, fresh_words_of, is_mapped, never_granted}
+use Rattle.mk_core.specs.Allocations.{placed_at, storage_words, with_released}
+use Rattle.mk_core.specs.Bounded.{is_some_and}
+use Rattle.mk_geom.specs.Addresses.{address_of}
+use Rattle.mk_never.specs.Types.{kinds_of, is_large}
+use Rattle.mk_core.specs.Bits.{has_bit}
+use Rattle.mk_core.specs.Cells.{header_in, is_left_unmarked, pointed_cell, left_unmarked, words_under}
+use Rattle.mk_core.specs.Cycles.{is_quarantined}
+use Rattle.mk_core.specs.Frames.{Steady}
+use Rattle.mk_core.specs.History.{World, IsHistory, left}
+use Rattle.mk_core.specs.Words.{Words, phase_of}
+use Rattle.mk_core.proofs.BitsWithout.{has_bit_without}
+use Rattle.mk_core.proofs.PointedAllocations.{released_where_left}
+use Rattle.mk_core.proofs.StandingAllocations.{cells_begin}
+use Rattle.mk_layout.specs.Quarantine.{has_bit_of, is_cycling}
+use Rattle.mk_invariant.proofs.Theorems.{allocations_stand}
+use Rattle.mk_frames.proofs.LastEvents.{stands}
+use Rattle.mk_words.specs.States.{PassState, world_of, now_of}
+use Rattle.mk_words.specs.TurnSteps.{world_at, Acts}
+use Rattle.mk_words.proofs.Made.{made}
+use Rattle.mk_cycle.specs.declared.finishing.Released.{Released}
+use Rattle.mk_cycle.specs.EngineLaw.{IsAtPhase}
+use Rattle.mk_cycle.specs.TurnKeeps.{InTurn}
+use Rattle.mk_cycle.specs.ReleasedPages.{cells_marked, cells_unmarked, left_marked, released_below, sum_below}
+use Rattle.mk_cycle.specs.ReleasedPages.{words_unmarked}
+use Rattle.mk_cycle.specs.FinishCycle.{HasReleased, is_in_snapshot_of_cycle, newly_released}
+use Rattle.mk_cycle.proofs.CellBits.{has_bit_and}
+use Rattle.mk_cycle.proofs.CellCounts.{AreTheirBits, cells_are_as_many, cells_weigh_as_much}
+use Rattle.mk_cycle.proofs.NewlyReleased.{is_new, left_filtered, newly_counted, newly_weighed, parts_at_each}
+use Rattle.mk_cycle.proofs.NewlyReleased.{same_at_each}
+
+-- what is left of a bit of the snapshot that isn't left unmarked is marked
+marked_rest : (s m : Bool) → (s && not (s && not m)) ≡ (s && m)
+marked_rest true true = refl
+marked_rest true false = refl
+marked_rest false m = refl
+
+-- a history whose next event may be a `release`
+module _ (c : Config) (es : List Event) (h : IsHistory c es) (at : phase_of (left c es).now.words ≡ 3) where
+  abbrev w : Words
+  w = (left c es).now.words
+
+  abbrev xs : List PlacedAllocation
+  xs = (left c es).allocations
+
+  abbrev f : PlacedAllocation → PlacedAllocation
+  f = with_released c (left c es).now.words
+
+  quiet : phase_of w ≢ 4
+  quiet four = absurd (omega arith)
+
+  cycling : is_cycling (phase_of w) ≡ true
+  cycling = ap is_cycling at
+
+  -- its snapshot bit, its mark, and whether it is left unmarked
+
+  in_snapshot : (i : ℕ) → (placed_at xs i).released ≡ false
+      → has_bit_of c w.snapshot (placed_at xs i) ≡ ((placed_at xs i).freed && not (placed_at xs i).fresh)
+  in_snapshot i u = (stands c es h).all.order.snapshot.quarantined cycling i u
+
+  left_where : (i : ℕ) → (placed_at xs i).released ≡ false
+      → (f (placed_at xs i)).released
+      ≡ has_bit (left_unmarked w (cell_of_allocation c (placed_at xs i)).page)
+      (cell_of_allocation c (placed_at xs i)).index
+  left_where i u =
+      let st = allocations_stand c es h i u in
+      released_where_left c w (placed_at xs i) h.within_limits st.stands st.headers
+
+  left_parts : (p k : ℕ) → has_bit (left_unmarked w p) k ≡ true → has_bit (slice_index w.snapshot p) k ≡ true
+  left_parts p k has =
+      (and_parts (has_bit (slice_index w.snapshot p) k) (not (has_bit (slice_index w.marks p) k))
+      (sym (has_bit_without (slice_index w.snapshot p) (slice_index w.marks p) k) ∙ has)).0
+
+  within_freed : (p k : ℕ) → has_bit (slice_index w.snapshot p) k ≡ true → has_bit (slice_index w.freed p) k ≡ true
+  within_freed = (stands c es h).all.order.quarantined.within
+
+  -- what is released anew was in the snapshot
+  new_is_in_snapshot : (i : ℕ) → is_new f (placed_at xs i) ≡ true → is_in_snapshot_of_cycle (placed_at xs i) ≡ true
+  new_is_in_snapshot i new =
+      let a : PlacedAllocation = placed_at xs i in
+      let parts = and_parts (not a.released) (f a).released new in
+      let u = not-true a.released parts.0 in
+      let cell : Cell = cell_of_allocation c a in
+      let bit = left_parts cell.page cell.index (sym (left_where i u) ∙ parts.1) in
+      let both = and_parts a.freed (not a.fresh) (sym (in_snapshot i u) ∙ bit) in
+      and_from (is_quarantined a) (not a.fresh) (and_from a.freed (not a.released) both.0 parts.0) both.1
+
+  unmarked_are : AreTheirBits c es (is_new f) (left_unmarked w)
+  unmarked_are =
+      record {
+        none = refl;
+        small = λ p.
+            let least = ((stands c es h).all.order.quarantined.small p).1 in
+            omega arith;
+        within = λ p k has. within_freed p k (left_parts p k has);
+        quarantined = λ i new.
+            let a : PlacedAllocation = placed_at xs i in
+            let both = and_parts (is_quarantined a) (not a.fresh) (new_is_in_snapshot i new) in
+            let parts = and_parts a.freed (not a.released) both.0 in
+            (not-true a.released parts.1, parts.0);
+        same = λ i u freed.
+            ap (λ b. not b && (f (placed_at xs i)).released) u ∙ left_where i u;
+      }
+
+  abbrev is_kept : PlacedAllocation → Bool
+  is_kept a = is_in_snapshot_of_cycle a && not (f a).released
+
+  -- what is in the snapshot and marked, by what is released
+  rest_is : (a : PlacedAllocation) (b m : Bool) → a.released ≡ false → a.freed ≡ true
+      → b ≡ (a.freed && not a.fresh) → (f a).released ≡ (b && not m) → is_kept a ≡ (b && m)
+  rest_is a b m u freed snapshot gone =
+      ap (λ x. (a.freed && not x) && not a.fresh && not (f a).released) u
+      ∙ ap (λ x. (x && true) && not a.fresh && not (f a).released) freed
+      ∙ ap (λ x. x && not (f a).released) (sym (snapshot ∙ ap (λ x. x && not a.fresh) freed))
+      ∙ ap (λ x. b && not x) gone ∙ marked_rest b m
+
+  marked_are : AreTheirBits c es is_kept (left_marked w)
+  marked_are =
+      record {
+        none = refl;
+        small = λ p.
+            let least = ((stands c es h).all.order.quarantined.small p).1 in
+            let fewer = and_le_l (slice_index w.snapshot p) (slice_index w.marks p) in
+            omega arith;
+        within = λ p k has.
+            within_freed p k (and_parts (has_bit (slice_index w.snapshot p) k) (has_bit (slice_index w.marks p) k)
+            (sym (has_bit_and (slice_index w.snapshot p) (slice_index w.marks p) k) ∙ has)).0;
+        quarantined = λ i kept.
+            let a : PlacedAllocation = placed_at xs i in
+            let in_it = (and_parts (is_in_snapshot_of_cycle a) (not (f a).released) kept).0 in
+            let both = (and_parts (is_quarantined a) (not a.fresh) in_it).0 in
+            let parts = and_parts a.freed (not a.released) both in
+            (not-true a.released parts.1, parts.0);
+        same = λ i u freed.
+            let a : PlacedAllocation = placed_at xs i in
+            let cell : Cell = cell_of_allocation c a in
+            let s : ℕ = slice_index w.snapshot cell.page in
+            let m : ℕ = slice_index w.marks cell.page in
+            rest_is a (has_bit s cell.index) (has_bit m cell.index) u freed (in_snapshot i u)
+            (left_where i u ∙ has_bit_without s m cell.index)
+            ∙ sym (has_bit_and s m cell.index);
+      }
+
+  storage_is : (i : ℕ) → cond (is_new f (placed_at xs i))
+      (words_under (header_in w (cell_of_allocation c (placed_at xs i)).page)) 0
+      ≡ cond (is_new f (placed_at xs i)) (storage_words c (placed_at xs i)) 0
+  storage_is i = by (is_new f (placed_at xs i)) refl
+    where
+      by : (b : Bool) → is_new f (placed_at xs i) ≡ b
+          → cond b (words_under (header_in w (cell_of_allocation c (placed_at xs i)).page)) 0
+          ≡ cond b (storage_words c (placed_at xs i)) 0
+      by true new =
+          let u = (unmarked_are.quarantined i new).0 in
+          let st = allocations_stand c es h i u in
+          (cells_begin c w (placed_at xs i) h.within_limits st.stands st.headers).1
+      by false new = refl
+
+  parts : (a : PlacedAllocation) → (is_new f a ≡ true → is_in_snapshot_of_cycle a ≡ true)
+      → cond {A = ℕ} (is_in_snapshot_of_cycle a) 1 0 ≡ cond (is_kept a) 1 0 + cond (is_new f a) 1 0
+  parts a new = by a.freed a.released a.fresh (f a).released new
+    where
+      by : (freed released fresh gone : Bool)
+          → ((not released && gone) ≡ true → ((freed && not released) && not fresh) ≡ true)
+          → cond {A = ℕ} ((freed && not released) && not fresh) 1 0
+          ≡ cond (((freed && not released) && not fresh) && not gone) 1 0 + cond (not released && gone) 1 0
+      by true false false true n = refl
+      by true false false false n = refl
+      by true false true true n = absurd (true≢false (sym (n refl)))
+      by true false true false n = refl
+      by true true fresh true n = refl
+      by true true fresh false n = refl
+      by false false fresh true n = absurd (true≢false (sym (n refl)))
+      by false false fresh false n = refl
+      by false true fresh true n = refl
+      by false true fresh false n = refl
+
+  pub count_told : sum_below c.pages (cells_unmarked w) ≡ length (newly_released xs (map f xs))
+  count_told = cells_are_as_many c es h quiet (is_new f) (left_unmarked w) unmarked_are ∙ sym (newly_counted f xs)
+
+  pub words_told : sum_below c.pages (words_unmarked w) ≡ sum_by (storage_words c) (newly_released xs (map f xs))
+  words_told =
+      cells_weigh_as_much c es h quiet (is_new f) (left_unmarked w) unmarked_are (λ p. words_under (header_in w p))
+      ∙ same_at_each never_granted (λ a. cond (is_new f a) (words_under (header_in w (cell_of_allocation c a).page)) 0)
+      (λ a. cond (is_new f a) (storage_words c a) 0) xs storage_is
+      ∙ sym (newly_weighed f (storage_words c) (λ a. refl) xs)
+
+  pub kept_told : count_by is_in_snapshot_of_cycle xs
+      ≡ sum_below c.pages (cells_marked w) + sum_below c.pages (cells_unmarked w)
+  kept_told =
+      let all = parts_at_each never_granted (λ a. cond {A = ℕ} (is_in_snapshot_of_cycle a) 1 0)
+      (λ a. cond (is_kept a) 1 0)
+      (λ a. cond (is_new f a) 1 0) xs (λ i. parts (placed_at xs i) (new_is_in_snapshot i)) in
+      let marked = cells_are_as_many c es h quiet is_kept (left_marked w) marked_are in
+      let unmarked = cells_are_as_many c es h quiet (is_new f) (left_unmarked w) unmarked_are in
+      omega arith
+
+  abbrev is_counted_fresh : PlacedAllocation → Bool
+  is_counted_fresh a = is_mapped c a && a.fresh
+
+  -- What is fresh isn't released.
+  fresh_is_left : (i : ℕ) → (placed_at xs i).fresh ≡ true → f (placed_at xs i) ≡ placed_at xs i
+  fresh_is_left i fresh =
+      let a : PlacedAllocation = placed_at xs i in
+      ap (λ b. record a { released = b }) (by (f a).released refl ∙ sym u)
+    where
+      u : (placed_at xs i).released ≡ false
+      u = ((stands c es h).all.order.snapshot.fresh i fresh).1
+
+      by : (b : Bool) → (f (placed_at xs i)).released ≡ b → (f (placed_at xs i)).released ≡ false
+      by false is = is
+      by true is =
+          let a : PlacedAllocation = placed_at xs i in
+          let new : is_new f a ≡ true = and_from (not a.released) (f a).released (ap not u) is in
+          let stale = (and_parts (is_quarantined a) (not a.fresh) (new_is_in_snapshot i new)).1 in
+          absurd (true≢false (sym fresh ∙ not-true a.fresh stale))
+
+  pub fresh_stays : fresh_words_of c (map f xs) ≡ fresh_words_of c xs
+  fresh_stays =
+      ap (λ (ys : List PlacedAllocation). sum_by (storage_words c) ys)
+      (left_filtered f is_counted_fresh never_granted xs
+      (λ i is. fresh_is_left i (and_parts (is_mapped c (placed_at xs i)) (placed_at xs i).fresh is).1)
+      (λ i isnt. none (placed_at xs i) isnt))
+    where
+      by : (was gone mapped fresh : Bool) → ((not was && mapped) && fresh) ≡ false
+          → ((not (was || gone) && mapped) && fresh) ≡ false
+      by true gone mapped fresh isnt = refl
+      by false true mapped fresh isnt = refl
+      by false false mapped fresh isnt = isnt
+
+      none : (a : PlacedAllocation) → is_counted_fresh a ≡ false → is_counted_fresh (f a) ≡ false
+      none a isnt =
+          by a.released (is_some_and (is_left_unmarked w) (pointed_cell c.pages w.pages (address_of a.base)))
+          (not (a.freed && is_large (kinds_of c.types a.ty))) a.fresh isnt
+
+-- A pass that made the `release` knows it so.
+module _ (d q : PassState) (t : InTurn d) (u : InTurn q) (at : IsAtPhase d 3) (a : Acts d step.Release q) where
+  there : IsHistory d.table.config (d.seen ++ a.makes.others)
+  there = (made d step.Release q a.makes t.own u.history).history
+
+  phase_there : phase_of (world_at a.makes).now.words ≡ 3
+  phase_there = ap (λ (s : Steady). s.phase) a.turn.steady ∙ at
+
+  same_before : (world_at a.makes).allocations ≡ (world_of d).allocations
+  same_before = ap (λ (s : Steady). s.allocations) a.turn.steady
+
+  behind : (world_of q).allocations
+      ≡ map (with_released d.table.config (world_at a.makes).now.words) (world_at a.makes).allocations
+  behind = ap (λ (x : World). x.allocations) a.world
+
+  newly : newly_released (world_of d).allocations (world_of q).allocations
+      ≡ newly_released (world_at a.makes).allocations
+      (map (with_released d.table.config (world_at a.makes).now.words) (world_at a.makes).allocations)
+  newly =
+      ap (λ (xs : List PlacedAllocation). newly_released xs (world_of q).allocations) (sym same_before)
+      ∙ ap (λ (xs : List PlacedAllocation). newly_released (world_at a.makes).allocations xs) behind
+
+  pub release_tells : HasReleased d q (released_below (now_of q).words d.table.config.pages)
+  release_tells =
+      let c : Config = d.table.config in
+      let es : List Event = d.seen ++ a.makes.others in
+      let words : released_below (now_of q).words c.pages ≡ released_below (world_at a.makes).now.words c.pages =
+      ap (λ (x : World). released_below x.now.words c.pages) a.world in
+      record {
+        count = ap (λ (r : Released). r.count) words ∙ count_told c es there phase_there
+            ∙ sym (ap (λ (xs : List PlacedAllocation). length xs) newly);
+        words = ap (λ (r : Released). r.words) words ∙ words_told c es there phase_there
+            ∙ sym (ap (λ (xs : List PlacedAllocation). sum_by (storage_words c) xs) newly);
+        kept = ap (λ (xs : List PlacedAllocation). count_by is_in_snapshot_of_cycle xs) (sym same_before)
+            ∙ kept_told c es there phase_there
+            ∙ sym (ap (λ (r : Released). r.kept + r.count) words);
+      }
+
+  pub fresh_words_stay : fresh_words_of d.table.config (world_of q).allocations
+      ≡ fresh_words_of d.table.config (world_of d).allocations
+  fresh_words_stay =
+      let c : Config = d.table.config in
+      ap (λ (xs : List PlacedAllocation). fresh_words_of c xs) behind
+      ∙ fresh_stays c (d.seen ++ a.makes.others) there phase_there
+      ∙ ap (λ (xs : List PlacedAllocation). fresh_words_of c xs) same_before
+
+-- What is told of one pass is told of another that knows the same allocations before, and of one that does behind.
+pub told_from : (p d q : PassState) (r : Released) → d.table.config ≡ p.table.config
+    → (world_of d).allocations ≡ (world_of p).allocations → HasReleased d q r → HasReleased p q r
+told_from p d q r table same told =
+    record {
+      count = told.count ∙ ap (λ (xs : List PlacedAllocation). length (newly_released xs (world_of q).allocations))
+          same;
+      words = told.words
+          ∙ ap (λ (c : Config). sum_by (storage_words c)
+          (newly_released (world_of d).allocations (world_of q).allocations)) table
+          ∙ ap (λ (xs : List PlacedAllocation). sum_by (storage_words p.table.config)
+          (newly_released xs (world_of q).allocations)) same;
+      kept = ap (λ (xs : List PlacedAllocation). count_by is_in_snapshot_of_cycle xs) (sym same) ∙ told.kept;
+    }
+
+pub told_to : (p d q : PassState) (r : Released) → (world_of q).allocations ≡ (world_of d).allocations
+    → HasReleased p d r → HasReleased p q r
+told_to p d q r same told =
+    record {
+      count = told.count ∙ ap (λ (xs : List PlacedAllocation). length (newly_released (world_of p).allocations xs))
+          (sym same);
+      words = told.words
+          ∙ ap (λ (xs : List PlacedAllocation). sum_by (storage_words p.table.config)
+          (newly_released (world_of p).allocations xs)) (sym same);
+      kept = told.kept;
+    }

@@ -1,0 +1,144 @@
+-- Looks and tallies behind an `end`.
+use Rattle.std.proofs.Common.{◌≡◌, ℕ, ◌+◌, refl, sym, ap, subst, ◌∙◌}
+use Rattle.mk_core.specs.declared.config.Config.{Config}
+use Rattle.mk_core.specs.declared.events.Tally.{Tally}
+use Rattle.mk_core.specs.declared.events.Tally.TheVariants as tally
+use Rattle.mk_core.specs.declared.events.Word.{Word}
+use Rattle.mk_core.specs.declared.events.Step.TheVariants as step
+use Rattle.std.specs.Prelude.{slice_index_or}
+use Rattle.mk_geom.specs.declared.pages.Page.{Page}
+use Rattle.mk_geom.specs.Storages.{free_page}
+use Rattle.mk_core.specs.Counts.{in_a_word}
+use Rattle.mk_core.specs.Accesses.{tally_word}
+use Rattle.mk_core.specs.Frames.{Steady, steady_of}
+use Rattle.mk_core.specs.History.{World, world_behind}
+use Rattle.mk_core.specs.TurnConditions.{words_held}
+use Rattle.mk_core.specs.Words.{Words, header_at, named_word, page_of, used_at}
+use Rattle.mk_words.specs.States.{PassState, world_of, now_of, event_of}
+use Rattle.mk_words.specs.TurnSteps.{world_at, Acts}
+use Rattle.mk_turns.proofs.Doing.{does_nothing, does_then, does_step}
+use Rattle.mk_cycle.specs.EngineLaw.{IsFreeForCycle}
+use Rattle.mk_cycle.specs.Kinds.{sets_tallies}
+use Rattle.mk_cycle.specs.Tallying.{Sets, with_cycle_counted, with_tally}
+use Rattle.mk_cycle.specs.TurnKeeps.{InTurn, whole}
+use Rattle.mk_cycle.proofs.CleaningSteps.{calm_keeps}
+use Rattle.mk_cycle.proofs.KeptInParts.{gates_behind, gates_then, keeps_at_once, keeps_then}
+
+pub sets_nothing : (p : PassState) → Sets whole p p
+sets_nothing p =
+    let k = keeps_at_once whole p in
+    record { does = does_nothing sets_tallies p; call = k.call; steady = refl; counts = k.counts; gates = λ j lt. refl }
+
+pub sets_then : (f g : Steady → Steady) (p q r : PassState) → Sets f p q → Sets g q r → Sets (λ s. g (f s)) p r
+sets_then f g p q r a b =
+    let none : Steady → Steady = λ s. steady_of (world_of p) in
+    let k = keeps_then none p q r (record { call = a.call; steady = refl; counts = a.counts })
+    (record { call = b.call; steady = refl; counts = b.counts }) in
+    record {
+      does = does_then sets_tallies p q r a.does b.does;
+      call = k.call;
+      steady = b.steady ∙ ap g a.steady;
+      counts = k.counts;
+      gates = gates_then p q r a.call.pass a.gates b.gates;
+    }
+
+tally_behind : (c : Config) (w : World) (p : PassState) (n : Tally) (v : ℕ)
+    → steady_of (world_behind c w (event_of p (step.Tally n v))) ≡ with_tally n v (steady_of w)
+tally_behind c w p tally.Held v = refl
+tally_behind c w p tally.Fresh v = refl
+tally_behind c w p tally.Cycles v = refl
+tally_behind c w p tally.Released v = refl
+tally_behind c w p tally.Full v = refl
+
+tally_gates : (c : Config) (w : World) (p : PassState) (n : Tally) (v : ℕ)
+    → (world_behind c w (event_of p (step.Tally n v))).now.words.gates ≡ w.now.words.gates
+tally_gates c w p tally.Held v = refl
+tally_gates c w p tally.Fresh v = refl
+tally_gates c w p tally.Cycles v = refl
+tally_gates c w p tally.Released v = refl
+tally_gates c w p tally.Full v = refl
+
+nothing_seen : Steady → Steady → Steady
+nothing_seen t s = t
+
+module _ (p q : PassState) (t : InTurn p) (free : IsFreeForCycle p) (u : InTurn q) where
+  pub look_sets : (x : Word) → Acts p (step.Look x) q → Sets whole p q
+  look_sets x a =
+      let k = calm_keeps p (step.Look x) q a t u.history refl free whole refl in
+      record {
+        does = does_step sets_tallies p q (step.Look x) t.own a.makes refl;
+        call = k.call;
+        steady = k.steady;
+        counts = k.counts;
+        gates = gates_behind p (step.Look x) q a refl;
+      }
+
+  pub tally_sets : (n : Tally) (v : ℕ) → Acts p (step.Tally n v) q → Sets (with_tally n v) p q
+  unfolding nothing_seen
+  tally_sets n v a =
+      let k = calm_keeps p (step.Tally n v) q a t u.history refl free (nothing_seen (steady_of (world_of p))) refl in
+      record {
+        does = does_step sets_tallies p q (step.Tally n v) t.own a.makes refl;
+        call = k.call;
+        steady = ap (λ (x : World). steady_of x) a.world
+            ∙ tally_behind p.table.config (world_at a.makes) p n v
+            ∙ ap (λ (s : Steady). with_tally n v s) a.turn.steady;
+        counts = k.counts;
+        gates = gates_behind p (step.Tally n v) q a (tally_gates p.table.config (world_at a.makes) p n v);
+      }
+
+-- What a tally's word is goes by what only the holder changes.
+pub same_tally : (p q : PassState) (n : Tally) → steady_of (world_of q) ≡ steady_of (world_of p)
+    → named_word (now_of q).words (tally_word n) ≡ named_word (now_of p).words (tally_word n)
+same_tally p q tally.Held same = ap (λ (s : Steady). s.held) same
+same_tally p q tally.Fresh same = ap (λ (s : Steady). s.fresh) same
+same_tally p q tally.Cycles same = ap (λ (s : Steady). s.cycles) same
+same_tally p q tally.Released same = ap (λ (s : Steady). s.released) same
+same_tally p q tally.Full same = ap (λ (s : Steady). s.full) same
+
+-- What two looks tell of a page.
+pub page_read : (p q r : PassState) (page header used : ℕ) → Sets whole p q → Sets whole p r
+    → header ≡ header_at (now_of q).words page → used ≡ used_at (now_of r).words page
+    → ◌≡◌ {A = Page} (record { header = header; used = used }) (page_of (now_of p).words page)
+page_read p q r page header used a b head use_word =
+    let x : header ≡ header_at (now_of p).words page =
+    head ∙ ap (λ (s : Steady). (slice_index_or s.pages page free_page).header) a.steady in
+    let y : used ≡ used_at (now_of p).words page =
+    use_word ∙ ap (λ (s : Steady). (slice_index_or s.pages page free_page).used) b.steady in
+    ap (λ n. record { header = n; used = used }) x
+    ∙ ap (λ n. record { header = header_at (now_of p).words page; used = n }) y
+
+-- a tally that is raised by what it is found to be
+pub raised : (p a q : PassState) (n : Tally) (x : Word) (found more to : ℕ) → x ≡ tally_word n → Sets whole p a
+    → found ≡ named_word (now_of a).words x → to ≡ in_a_word (found + more) → Sets (with_tally n to) a q
+    → Sets (with_tally n (in_a_word (named_word (now_of p).words x + more))) p q
+raised p a q n x found more to is looks finds sum sets =
+    let same : named_word (now_of a).words x ≡ named_word (now_of p).words x =
+    ap (λ (y : Word). named_word (now_of a).words y) is ∙ same_tally p a n looks.steady
+    ∙ ap (λ (y : Word). named_word (now_of p).words y) (sym is) in
+    subst (λ (v : ℕ). Sets (with_tally n v) p q) (sum ∙ ap (λ (m : ℕ). in_a_word (m + more)) (finds ∙ same))
+    (sets_then whole (with_tally n to) p a q looks sets)
+
+-- the three tallies, one after the other
+
+with_three : ℕ → ℕ → ℕ → Steady → Steady
+with_three held cycles released s = record s { held = held; cycles = cycles; released = released }
+
+pub cycle_counted : (p a b q : PassState) (released : ℕ)
+    → Sets (with_tally tally.Held (words_held (now_of p).words)) p a
+    → Sets (with_tally tally.Cycles (in_a_word ((now_of a).words.cycles + 1))) a b
+    → Sets (with_tally tally.Released (in_a_word ((now_of b).words.released + released))) b q
+    → Sets (with_cycle_counted (now_of p).words released) p q
+unfolding with_three
+cycle_counted p a b q released held cycles more =
+    let v : Words = (now_of p).words in
+    let h : ℕ = words_held v in
+    let c : ℕ = in_a_word ((now_of a).words.cycles + 1) in
+    let r : ℕ = in_a_word ((now_of b).words.released + released) in
+    let both = sets_then (with_tally tally.Held h) (with_tally tally.Cycles c) p a b held cycles in
+    let all : Sets (with_three h c r) p q =
+    sets_then (λ s. record s { held = h; cycles = c }) (with_tally tally.Released r) p b q both more in
+    subst (λ (n : ℕ). Sets (with_three h (in_a_word (n + 1)) (in_a_word (v.released + released))) p q)
+    (ap (λ (s : Steady). s.cycles) held.steady)
+    (subst (λ (n : ℕ). Sets (with_three h c (in_a_word (n + released))) p q)
+    (ap (λ (s : Steady). s.released) cycles.steady ∙ ap (λ (s : Steady). s.released) held.steady) all)

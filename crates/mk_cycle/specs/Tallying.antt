@@ -1,0 +1,32 @@
+-- The tallies are set behind an `end`.
+use Rattle.std.specs.Prelude.{◌≡◌, ℕ, ◌+◌}
+use Rattle.mk_core.specs.declared.events.Tally.{Tally}
+use Rattle.mk_core.specs.declared.events.Tally.TheVariants as tally
+use Rattle.mk_core.specs.Counts.{in_a_word}
+use Rattle.mk_core.specs.Frames.{Steady, steady_of, CountsAreLeft}
+use Rattle.mk_core.specs.TurnConditions.{words_held}
+use Rattle.mk_core.specs.Words.{Words}
+use Rattle.mk_words.specs.States.{PassState, world_of}
+use Rattle.mk_turns.specs.Doing.{Does}
+use Rattle.mk_cycle.specs.Kinds.{sets_tallies}
+use Rattle.mk_cycle.specs.TurnKeeps.{KeepsCall, KeepsGates}
+
+-- From one to the other the holder looked and set tallies: what only it changes became this.
+pub record Sets (becomes : Steady → Steady) (p q : PassState) : Type 0 where
+  pub does : Does sets_tallies p q
+  pub call : KeepsCall p q
+  pub steady : steady_of (world_of q) ≡ becomes (steady_of (world_of p))
+  pub counts : CountsAreLeft p.table.config p.seen q.seen
+  pub gates : KeepsGates p q
+
+abbrev pub with_tally : Tally → ℕ → Steady → Steady
+with_tally tally.Held v s = record s { held = v }
+with_tally tally.Fresh v s = record s { fresh = v }
+with_tally tally.Cycles v s = record s { cycles = v }
+with_tally tally.Released v s = record s { released = v }
+with_tally tally.Full v s = record s { full = v }
+
+-- one cycle and so many released allocations more, and what the pages hold
+abbrev pub with_cycle_counted : Words → ℕ → Steady → Steady
+with_cycle_counted w released s =
+    record s { held = words_held w; cycles = in_a_word (w.cycles + 1); released = in_a_word (w.released + released) }

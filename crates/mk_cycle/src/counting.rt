@@ -1,0 +1,89 @@
+//! What a cycle released is counted before it is given back: by the snapshot and the marks of each page.
+ghost use Rattle.std.specs.Prelude.{◌≡◌, ◌<◌, ◌*◌, true, false, bit_and, count_ones};
+ghost use Rattle.mk_core.specs.Bits.{without};
+ghost use Rattle.mk_core.specs.Cells.{words_under};
+ghost use Rattle.mk_core.specs.Ranges.{is_word};
+ghost use Rattle.mk_core.specs.Words.{named_word};
+ghost use Rattle.mk_geom.specs.Headers.{header_of};
+ghost use Rattle.mk_words.specs.States.{now_of};
+ghost use Rattle.mk_cycle.specs.ReleasedPages.{IsOfOnePage, released_on, released_below};
+ghost use Rattle.mk_cycle.specs.EngineLaw.{IsFreeForCycle, IsAtPhase, is_register};
+ghost use Rattle.mk_cycle.specs.Freeing.{FreesNone};
+ghost use Rattle.mk_cycle.specs.TurnKeeps.{InTurn};
+
+use crate::bits::{FREED_END, without, words_under};
+use crate::finishing::Released;
+use crate::turn_steps;
+use mk_core::Word;
+use mk_words::{Turn, Words};
+
+/// What the words of a page tell: its released cells, their words, and its marked cells of the snapshot.
+fn released_cells(snapshot: u64, marks: u64, header: u64) -> Released
+    ensures count { result.count ≡ count_ones (without snapshot marks) }
+    ensures words { result.words ≡ count_ones (without snapshot marks) * words_under (header_of header) }
+    ensures kept { result.kept ≡ count_ones (bit_and snapshot marks) }
+    ensures few { IsOfOnePage result }
+{
+    let count = u64::from(without(snapshot, marks).count_ones());
+    Released {
+        count,
+        words: count * words_under(header),
+        kept: u64::from((snapshot & marks).count_ones()),
+    }
+}
+
+/// Looks at a word that is no register, while nothing is given back.
+fn look(turn: &mut Turn, words: &Words, x: Word) -> u64
+    requires one_table { turn.old.pass.table ≡ words.now }
+    requires free { IsFreeForCycle turn.old.pass }
+    requires phase { IsAtPhase turn.old.pass 4 }
+    requires in_range { is_word words.now.config x ≡ true }
+    requires no_register { is_register x ≡ false }
+    ensures op { turn.new.op ≡ turn.old.op }
+    ensures frees { FreesNone turn.old.pass turn.new.pass }
+    ensures is { InTurn turn.new.pass }
+    ensures reads { result ≡ named_word (now_of turn.new.pass).words x }
+{
+    turn_steps::look(turn, words, x)
+}
+
+/// What was released on a page.
+fn released_on(turn: &mut Turn, words: &Words, page: u64) -> Released
+    requires one_table { turn.old.pass.table ≡ words.now }
+    requires free { IsFreeForCycle turn.old.pass }
+    requires phase { IsAtPhase turn.old.pass 4 }
+    requires within { page < words.now.config.pages }
+    ensures op { turn.new.op ≡ turn.old.op }
+    ensures frees { FreesNone turn.old.pass turn.new.pass }
+    ensures exact { result ≡ released_on (now_of turn.old.pass).words page }
+    ensures few { IsOfOnePage result }
+{
+    let quarantine = look(turn, words, Word::Quar(page));
+    let marks = look(turn, words, Word::Mark(page));
+    let header = look(turn, words, Word::Head(page));
+    released_cells(quarantine / FREED_END, marks, header)
+}
+
+/// What was released on all pages.
+pub(crate) fn count_released(turn: &mut Turn, words: &Words) -> Released
+    requires one_table { turn.old.pass.table ≡ words.now }
+    requires free { IsFreeForCycle turn.old.pass }
+    requires phase { IsAtPhase turn.old.pass 4 }
+    ensures op { turn.new.op ≡ turn.old.op }
+    ensures frees { FreesNone turn.old.pass turn.new.pass }
+    ensures exact { result ≡ released_below (now_of turn.old.pass).words words.now.config.pages }
+{
+    words.is_within_limits();
+    let mut all = Released {
+        count: 0,
+        words: 0,
+        kept: 0,
+    };
+    for page in 0..words.pages() {
+        let here = released_on(turn, words, page);
+        all.count += here.count;
+        all.words += here.words;
+        all.kept += here.kept;
+    }
+    all
+}

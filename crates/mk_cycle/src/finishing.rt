@@ -1,0 +1,46 @@
+//! The end of a cycle.
+ghost use Rattle.std.specs.Prelude.{◌≡◌, length};
+ghost use Rattle.mk_cycle.specs.EngineLaw.{IsFreeForCycle, IsAtPhase};
+ghost use Rattle.mk_cycle.specs.FinishCycle.{FinishesCycle, HasReleased};
+
+use crate::bench::Bench;
+use crate::engine::Engine;
+use crate::giving::give_all_back;
+use crate::tallying::count_cycle;
+use crate::turn_steps::end;
+use mk_words::{Turn, Words};
+use std::sync::Wait;
+use std::thread::Threads;
+
+/// What a cycle released: allocations and their storage words; and how many allocations of its snapshot were kept.
+#[derive(Clone, Copy, Debug, PartialEq, Eq)]
+pub struct Released {
+    pub count: u64,
+    pub words: u64,
+    pub kept: u64,
+}
+
+/// Finishes the cycle that is on: what is left unmarked of its snapshot is released and given back, and the tallies are
+/// set. It waits until no other caller is in a call and no marker attends.
+pub fn finish_cycle<E: Engine, R: Threads + Wait + Sync>(
+    rt: &R,
+    words: &Words,
+    turn: Turn,
+    bench: &mut Bench<E>,
+) -> (Turn, Released)
+    requires one_table { turn.pass.table ≡ words.now }
+    requires made_for { E.made_for bench.old.engine ≡ words.now.config.pages }
+    requires book { length bench.old.book ≡ words.now.config.pages }
+    requires phase { IsAtPhase turn.pass 1 }
+    requires free { IsFreeForCycle turn.pass }
+    ensures op { result.0.op ≡ turn.op }
+    ensures made_for { E.made_for bench.new.engine ≡ E.made_for bench.old.engine }
+    ensures book { length bench.new.book ≡ length bench.old.book }
+    ensures law { FinishesCycle turn.pass result.0.pass }
+    ensures released { HasReleased turn.pass result.0.pass result.1 }
+{
+    let (mut turn, released) = give_all_back(rt, words, turn, &mut bench.engine);
+    end(&mut turn, words);
+    count_cycle(&mut turn, words, &mut bench.book, released.count);
+    (turn, released)
+}

@@ -1,0 +1,336 @@
+-- Each step of the turn's holder while a cycle marks beside others.
+use Rattle.std.proofs.Common.{◌≡◌, ◌≢◌, ◌∙◌, ℕ, ◌^◌, ◌<◌, Bool, true, false, List, [], ◌∷◌, ◌++◌, length, refl, sym, ap, subst, inl, inr, arith}
+use Rattle.std.specs.Prelude.{◌||◌, ◌&&◌, ◌==◌, not, nat_lt, if◌then◌else◌, Option, Some, None, slice_index, slice_set}
+use Rattle.std.specs.List.{list_all}
+use Rattle.std.proofs.lemmas.Bool.{and_from, and_parts, cases_lt, eqb-true, false_from_ne_true, lt-ltb}
+use Rattle.std.proofs.lemmas.List.{get_or-set_same, get_or-set_other, get_or_past, set_past}
+use Rattle.mk_geom.specs.declared.addresses.Cell.{Cell}
+use Rattle.mk_geom.specs.declared.pages.Place.{Place}
+use Rattle.mk_geom.specs.PageUses.{or_else}
+use Rattle.mk_geom.specs.Headers.{header_of}
+use Rattle.mk_core.specs.declared.config.Config.{Config}
+use Rattle.mk_core.specs.declared.events.Step.{Step}
+use Rattle.mk_core.specs.declared.events.Step.TheVariants as step
+use Rattle.mk_core.specs.declared.events.Word.{Word}
+use Rattle.mk_core.specs.declared.events.Word.TheVariants as word
+use Rattle.mk_core.specs.declared.seats.Flight.{Flight}
+use Rattle.mk_core.specs.declared.seats.Hand.{Hand}
+use Rattle.mk_core.specs.declared.seats.Holding.{Holding}
+use Rattle.mk_core.specs.declared.seats.Object.{Object}
+use Rattle.mk_core.specs.declared.seats.Placing.{Placing}
+use Rattle.mk_core.specs.declared.seats.Source.TheVariants.{Root}
+use Rattle.mk_core.specs.Accesses.{found}
+use Rattle.mk_core.specs.Bounded.{is_some_and}
+use Rattle.mk_core.specs.Cells.{cells_under, is_marked, pointed_cell, points_well}
+use Rattle.mk_core.specs.Cycles.{is_unmarked}
+use Rattle.mk_core.specs.Effects.{chosen, hand_given}
+use Rattle.mk_core.specs.Frames.{Steady, steady_of}
+use Rattle.mk_core.specs.Growing.{Finding}
+use Rattle.mk_core.specs.History.{World, world_behind}
+use Rattle.mk_core.specs.Moments.{Moment, flight_of, is_held, is_number_of, is_phase}
+use Rattle.mk_core.specs.NewPlaces.{object_made, bits_made}
+use Rattle.mk_core.specs.Ranges.{has_gates, is_word}
+use Rattle.mk_core.specs.StopConditions.{marks_by_hand, marks_place}
+use Rattle.mk_core.specs.TurnConditions.{place_now}
+use Rattle.mk_core.specs.Words.{Words, header_at, named_word, phase_of}
+use Rattle.mk_core.proofs.Lengths.{histories_keep_lengths}
+use Rattle.mk_core.proofs.PointedPages.{pointed_within}
+use Rattle.mk_guard.proofs.Changes.{headers_kind, is_head, marks_kind}
+use Rattle.mk_guard.proofs.Wells.{is_well, well_is, wells_from}
+use Rattle.mk_guard.specs.Guard.{IsMarking}
+use Rattle.mk_frames.proofs.LastEvents.{stands}
+use Rattle.mk_marker.proofs.PointedCells.{pointed_is_cell}
+use Rattle.mk_words.specs.States.{PassState, TurnState, now_of, call_of, event_of}
+use Rattle.mk_words.specs.Steps.{Finds, IsEnabledTo, found_by}
+use Rattle.mk_words.specs.TurnSteps.{Acts, world_at}
+use Rattle.mk_words.proofs.Made.{stands_behind_others}
+use Rattle.mk_turns.proofs.Doing.{does_step}
+use Rattle.mk_tracing.specs.Grays.{IsInHand, IsReached, MarksReached, TracesReached}
+use Rattle.mk_tracing.specs.Stops.{hand_of, is_root}
+use Rattle.mk_tracing.proofs.MaySteps.{marks_by}
+use Rattle.mk_tracing.proofs.MoreMarks.{marked_now}
+use Rattle.mk_tracing.proofs.Steps.{found_there}
+use Rattle.mk_cycle.specs.EngineLaw.{is_register}
+use Rattle.mk_cycle.specs.Kinds.{begins_marking}
+use Rattle.mk_cycle.specs.TurnKeeps.{InTurn, KeepsTurn, whole}
+use Rattle.mk_cycle.proofs.Allowed.{protocol}
+use Rattle.mk_cycle.proofs.CleaningSteps.{calm_keeps}
+use Rattle.mk_cycle.proofs.KeptInParts.{held_so}
+use Rattle.mk_cycle.proofs.MayAct.{may_act}
+use Rattle.mk_cycle.proofs.OwnSteps.{done_in, keeps_call, keeps_counts}
+use Rattle.mk_engines.specs.Beside.{FindsInRoot, GoesBeside, IsBeside, IsOpenToLook, KeepsOtherGates, StaysWell, found_well, gives_no_hand, looks_at_root}
+use Rattle.mk_engines.proofs.MarksBeside.{still_beside}
+use Rattle.mk_engines.proofs.Since.{done_step, keeps_step}
+
+-- words that give no hand
+
+pub no_register : (x : Word) → gives_no_hand x ≡ true → is_register x ≡ false
+no_register (word.Reg j r) h = cc
+no_register _ h = refl
+
+no_root : (x : Word) → gives_no_hand x ≡ true → is_root x ≡ false
+no_root (word.Reg j r) h = cc
+no_root (word.Global g) h = cc
+no_root _ h = refl
+
+no_heap_word : (c : Config) (m : Moment) (x : Word) → gives_no_hand x ≡ true → TracesReached c m (step.Look x)
+no_heap_word c m (word.Heap n) h = cc
+no_heap_word c m _ h = tt
+
+root_is_no_heap_word : (c : Config) (m : Moment) (x : Word) → is_root x ≡ true → TracesReached c m (step.Look x)
+root_is_no_heap_word c m (word.Heap n) h = cc
+root_is_no_heap_word c m _ h = tt
+
+-- Which steps may come.
+
+module _ (p : PassState) (t : InTurn p) (b : IsBeside p) where
+  pub may_look_at_root : (x : Word) → is_word p.table.config x ≡ true → is_root x ≡ true → IsOpenToLook p x
+      → IsEnabledTo p (step.Look x)
+  may_look_at_root x range root seen =
+      may_act p (step.Look x) (protocol p t b.free) t.holds b.free.decided refl range (gates x root seen) refl refl
+    where
+      gates : (y : Word) → is_root y ≡ true → IsOpenToLook p y
+          → has_gates p.table.config (now_of p).words p.seat (call_of p) (step.Look y) ≡ true
+      gates (word.Reg j r) h o = o j r refl
+      gates (word.Global g) h o = refl
+      gates _ h o = cc
+
+  pub may_open : (j : ℕ) → j < p.table.config.callers → is_number_of p.seat j ≡ false
+      → is_held (now_of p).words j ≡ true
+      → IsEnabledTo p (step.Open j)
+  may_open j lt other held =
+      may_act p (step.Open j) (protocol p t b.free) t.holds b.free.decided refl
+      (and_from (nat_lt j p.table.config.callers) (not (is_number_of p.seat j))
+      (lt-ltb j p.table.config.callers lt) (ap not other))
+      held (ap (λ (n : ℕ). not (n == 3)) b.marking) b.free.gone
+
+  hand_marks : (cell : Cell) (r : IsReached p cell)
+      → marks_by_hand p.table.config.pages (now_of p).words (hand_of p) cell.page (2 ^ cell.index) ≡ true
+  hand_marks cell r =
+      marks_by p.table.config.pages (now_of p).words
+      (hand_of p) r.value cell r.in_hand.hand r.in_hand.is r.in_hand.value r.points
+
+  pub may_mark_beside : (cell : Cell) → IsReached p cell → IsEnabledTo p (step.Mark cell.page (2 ^ cell.index))
+  may_mark_beside cell r =
+      let within = pointed_within p.table.config.pages (now_of p).words r.value cell r.points in
+      may_act p (step.Mark cell.page (2 ^ cell.index)) (protocol p t b.free) t.holds b.free.decided refl
+      (lt-ltb cell.page p.table.config.pages within.0) refl
+      (ap (λ (n : ℕ). (n == 1) || (n == 2)) b.marking)
+      (ap (λ (x : Bool). x || marks_place (now_of p).words (object_made p.table.config (call_of p).op)
+      (place_now p.table.config (now_of p) (call_of p)) cell.page (2 ^ cell.index))
+      (hand_marks cell r))
+
+-- One step.
+module _ (t u : TurnState) (s : Step) (a : Acts t.pass s u.pass) (was : InTurn t.pass) (is : InTurn u.pass)
+    (b : IsBeside t.pass) (same : u.op ≡ t.op) where
+  abbrev c : Config
+  c = t.pass.table.config
+
+  phase_there : phase_of (world_at a.makes).now.words ≡ 1
+  phase_there = ap (λ (x : Steady). x.phase) a.turn.steady ∙ b.marking
+
+  pub stays_well : is_head s ≡ false → StaysWell t.pass u.pass
+  stays_well none v h =
+      let d = stands_behind_others t.pass u.pass s a.makes was.own is.history in
+      let early : IsMarking (world_at a.makes).now.words = inl phase_there in
+      let others = (d.admitted.turn was.holds).well (inl b.marking) v h in
+      ap (λ (w : World). points_well c.pages w.now.words v) a.world
+      ∙ well_is c (world_behind c (world_at a.makes) (event_of t.pass s)).now.words v
+      (wells_from c (world_at a.makes).now.words (world_behind c (world_at a.makes) (event_of t.pass s)).now.words
+      (headers_kind c (world_at a.makes).now t.pass.seat s none)
+      (marks_kind c (world_at a.makes).now t.pass.seat s early d.meets) v
+      (is_well c (world_at a.makes).now.words v others))
+
+  pub goes_step : begins_marking s ≡ true → is_head s ≡ false → looks_at_root s ≡ false → KeepsTurn whole t.pass u.pass
+      → TracesReached c (world_at a.makes).now s → GoesBeside t u
+  goes_step kind none plain keeps rule =
+      record {
+        table = ap (λ (x : PassState). x.table) a.makes.is;
+        op = same;
+        beside = still_beside t.pass u.pass b keeps;
+        marks = record {
+          does = does_step begins_marking t.pass u.pass s was.own a.makes kind;
+          keeps = keeps;
+          reached = keeps_step t.pass s u.pass a.makes TracesReached was.own rule;
+          found =
+              ap (λ (xs : List Finding). list_all (found_well c.pages (now_of u.pass).words) xs)
+              (done_step t.pass s u.pass a.makes was.own)
+              ∙ and_from (not (looks_at_root s) || points_well c.pages (now_of u.pass).words (found_by a.makes)) true
+              (ap (λ (x : Bool). not x || points_well c.pages (now_of u.pass).words (found_by a.makes)) plain) refl;
+          well = stays_well none;
+        };
+      }
+
+module _ (t u : TurnState) (was : InTurn t.pass) (is : InTurn u.pass) (b : IsBeside t.pass) (same : u.op ≡ t.op) where
+  pub goes_look : (x : Word) → Acts t.pass (step.Look x) u.pass → gives_no_hand x ≡ true → GoesBeside t u
+  goes_look x a plain =
+      goes_step t u (step.Look x) a was is b same refl refl (no_root x plain)
+      (calm_keeps t.pass (step.Look x) u.pass a was is.history refl b.free whole refl)
+      (no_heap_word t.pass.table.config (world_at a.makes).now x plain)
+
+  pub goes_hold : (j : ℕ) → Acts t.pass (step.Hold j) u.pass → GoesBeside t u
+  goes_hold j a =
+      goes_step t u (step.Hold j) a was is b same refl refl refl
+      (calm_keeps t.pass (step.Hold j) u.pass a was is.history refl b.free whole refl) tt
+
+  pub goes_open : (j : ℕ) → Acts t.pass (step.Open j) u.pass → GoesBeside t u
+  goes_open j a =
+      goes_step t u (step.Open j) a was is b same refl refl refl
+      (calm_keeps t.pass (step.Open j) u.pass a was is.history refl b.free whole refl) tt
+
+  pub finds_in_root : (x : Word) (n : ℕ) → Acts t.pass (step.Look x) u.pass → Finds t.pass (step.Look x) n u.pass
+      → is_root x ≡ true
+      → FindsInRoot x n t u
+  finds_in_root x n a f root =
+      let keeps = calm_keeps t.pass (step.Look x) u.pass a was is.history refl b.free whole refl in
+      record {
+        table = ap (λ (y : PassState). y.table) a.makes.is;
+        op = same;
+        beside = still_beside t.pass u.pass b keeps;
+        does = does_step begins_marking t.pass u.pass (step.Look x) was.own a.makes refl;
+        keeps = keeps;
+        reached = keeps_step t.pass (step.Look x) u.pass a.makes TracesReached was.own
+            (root_is_no_heap_word t.pass.table.config (world_at a.makes).now x root);
+        done = done_step t.pass (step.Look x) u.pass f.makes was.own
+            ∙ ap (λ (v : ℕ). record { event = event_of t.pass (step.Look x); found = v } ∷ []) (sym f.finds);
+        well = stays_well t u (step.Look x) a was is b same refl;
+      }
+
+-- the hand behind a look
+
+module _ (p q : PassState) (x : Word) (a : Acts p (step.Look x) q) where
+  hand_now : hand_of q ≡ or_else (hand_given p.table.config (world_at a.makes).now p.seat x
+      (found p.table.config (world_at a.makes).now (event_of p (step.Look x)))) (hand_of p)
+  hand_now =
+      ap (λ (w : World). w.now.seats.holding.hand) a.world
+      ∙ ap (λ (h : Holding). or_else (hand_given p.table.config (world_at a.makes).now p.seat x
+      (found p.table.config (world_at a.makes).now (event_of p (step.Look x)))) h.hand) a.holding
+
+  pub root_hand : (n : ℕ) → Finds p (step.Look x) n q → is_root x ≡ true → IsInHand q n
+  root_hand n f root =
+      record {
+        hand = record { value = found p.table.config (world_at a.makes).now (event_of p (step.Look x)); source = Root };
+        is = hand_now ∙ by x (found p.table.config (world_at a.makes).now (event_of p (step.Look x))) root;
+        value = ap (λ (w : World). named_word w.now.words x) (sym a.world) ∙ found_there p q x n f;
+        reached = refl;
+      }
+    where
+      by : (y : Word) (value : ℕ) → is_root y ≡ true
+          → or_else (hand_given p.table.config (world_at a.makes).now p.seat y value) (hand_of p)
+          ≡ Some (record { value = value; source = Root })
+      by (word.Reg j r) value h = refl
+      by (word.Global g) value h = refl
+      by _ value h = cc
+
+-- A mark by the hand: the cell's page has a header, so it isn't the place of a New.
+
+no_header : (n : ℕ) → n ≡ 0 → cells_under (header_of n) ≡ 0
+no_header n z = ap (λ (i : ℕ). cells_under (header_of i)) z
+
+no_place : (w : Words) (o : Object) (place : Option Place) (page value : ℕ) → header_at w page ≢ 0
+    → marks_place w o place page value ≡ false
+no_place w o None page value ne = refl
+no_place w o (Some x) page value ne =
+    false_from_ne_true (marks_place w o (Some x) page value) (λ h.
+    let parts = and_parts (is_phase w 1 && (page == x.page) && (header_at w page == 0)) (value == bits_made o) h in
+    let two = and_parts (is_phase w 1 && (page == x.page)) (header_at w page == 0) parts.0 in
+    ne (eqb-true (header_at w page) 0 two.1))
+
+module _ (t u : TurnState) (was : InTurn t.pass) (is : InTurn u.pass) (b : IsBeside t.pass) (same : u.op ≡ t.op)
+    (cell : Cell) (a : Acts t.pass (step.Mark cell.page (2 ^ cell.index)) u.pass) (r : IsReached t.pass cell) where
+  points_there : pointed_cell t.pass.table.config.pages (world_at a.makes).now.words.pages r.value ≡ Some cell
+  points_there = ap (λ (x : Steady). pointed_cell t.pass.table.config.pages x.pages r.value) a.turn.steady ∙ r.points
+
+  phase_then : phase_of (world_at a.makes).now.words ≡ 1
+  phase_then = ap (λ (x : Steady). x.phase) a.turn.steady ∙ b.marking
+
+  has_header : header_at (world_at a.makes).now.words cell.page ≢ 0
+  has_header z =
+      let d = stands_behind_others t.pass u.pass (step.Mark cell.page (2 ^ cell.index)) a.makes was.own is.history in
+      let known = stands t.pass.table.config (t.pass.seen ++ a.makes.others) d.history in
+      let lt = pointed_is_cell t.pass.table.config (world_at a.makes) known.all.order.laid
+      (ap (λ (n : ℕ). n == 4) phase_then) r.value cell points_there in
+      let none = no_header (header_at (world_at a.makes).now.words cell.page) z in
+      absurd (omega arith)
+
+  mark_keeps : KeepsTurn whole t.pass u.pass
+  mark_keeps =
+      let c : Config = t.pass.table.config in
+      let m : Moment = (world_at a.makes).now in
+      let f : Flight = flight_of m t.pass.seat in
+      let placed : Placing = m.seats.holding.placing in
+      let then_placed : Placing = chosen placed (place_now c m f) in
+      record {
+        call =
+            keeps_call t.pass (step.Mark cell.page (2 ^ cell.index)) u.pass a was.own was.holds is.history (λ n. refl)
+            (λ n. ap (λ (x : Bool). done_in (record m.seats.holding { placing = if x then then_placed else placed }))
+            (no_place m.words (object_made c f.op) (place_now c m f) cell.page (2 ^ cell.index) has_header))
+            refl;
+        steady = ap (λ (x : World). steady_of x) a.world ∙ a.turn.steady;
+        counts =
+            keeps_counts t.pass (step.Mark cell.page (2 ^ cell.index)) u.pass a was.own was.holds is.history
+            (λ n. refl) refl;
+      }
+
+  hand_there : (world_at a.makes).now.seats.holding.hand ≡ Some r.in_hand.hand
+  hand_there = ap (λ (h : Holding). h.hand) a.holding ∙ r.in_hand.is
+
+  marks_reached : MarksReached t.pass.table.config (world_at a.makes).now cell.page (2 ^ cell.index)
+  marks_reached =
+      record {
+        by_hand =
+            marks_by t.pass.table.config.pages (world_at a.makes).now.words (world_at a.makes).now.seats.holding.hand
+            r.value cell r.in_hand.hand hand_there r.in_hand.value points_there;
+        reached = ap (λ (o : Option Hand). is_some_and (λ (h : Hand). is_unmarked h.source) o) hand_there
+            ∙ r.in_hand.reached;
+      }
+
+  pub goes_mark : GoesBeside t u
+  goes_mark =
+      goes_step t u (step.Mark cell.page (2 ^ cell.index)) a was is b same refl refl refl mark_keeps marks_reached
+
+  pub marked_there : is_marked (now_of u.pass).words cell ≡ true
+  marked_there =
+      let c : Config = t.pass.table.config in
+      let x : Words = (world_at a.makes).now.words in
+      let within = pointed_within c.pages x r.value cell points_there in
+      ap (λ (v : World). is_marked v.now.words cell) a.world
+      ∙ marked_now x (world_behind c (world_at a.makes)
+      (event_of t.pass (step.Mark cell.page (2 ^ cell.index)))).now.words cell
+      (subst (λ (n : ℕ). cell.page < n) (sym (histories_keep_lengths c (t.pass.seen ++ a.makes.others)).marks) within.0)
+      within.1 refl
+
+-- gates
+
+open_at : (gs : List ℕ) (j : ℕ) → (slice_index (slice_set gs j 0) j == 2) ≡ false
+open_at gs j = elim (cases_lt j (length gs)) [
+  | inl near ↦ ap (λ (n : ℕ). n == 2) (get_or-set_same gs j 0 0 near)
+  | inr past ↦ ap (λ (ys : List ℕ). slice_index ys j == 2) (set_past gs j 0 past)
+      ∙ ap (λ (n : ℕ). n == 2) (get_or_past gs j 0 past)
+]
+
+module _ (p : PassState) (s : Step) (q : PassState) (a : Acts p s q) where
+  others_behind : (caller : ℕ) → ((j : ℕ) → j ≢ caller
+      → slice_index (world_behind p.table.config (world_at a.makes) (event_of p s)).now.words.gates j
+      ≡ slice_index (world_at a.makes).now.words.gates j) → KeepsOtherGates caller p q
+  others_behind caller same j lt ne =
+      ap (λ (w : World). is_held w.now.words j) a.world
+      ∙ ap (λ (n : ℕ). n == 2) (same j ne)
+      ∙ held_so _ _ (a.turn.held_gates j) (a.turn.other_gates j)
+
+pub hold_others : (p : PassState) (caller : ℕ) (q : PassState) → Acts p (step.Hold caller) q
+    → KeepsOtherGates caller p q
+hold_others p caller q a =
+    others_behind p (step.Hold caller) q a caller
+    (λ j ne. get_or-set_other (world_at a.makes).now.words.gates caller j _ 0 ne)
+
+pub open_others : (p : PassState) (caller : ℕ) (q : PassState) → Acts p (step.Open caller) q
+    → KeepsOtherGates caller p q
+open_others p caller q a =
+    others_behind p (step.Open caller) q a caller
+    (λ j ne. get_or-set_other (world_at a.makes).now.words.gates caller j 0 0 ne)
+
+pub opened : (p : PassState) (caller : ℕ) (q : PassState) → Acts p (step.Open caller) q
+    → is_held (now_of q).words caller ≡ false
+opened p caller q a =
+    ap (λ (w : World). is_held w.now.words caller) a.world ∙ open_at (world_at a.makes).now.words.gates caller

@@ -1,0 +1,4 @@
+pub mod TracedMarks
+pub mod Since
+pub mod MarksBeside
+pub mod BesideSteps

@@ -1,0 +1,275 @@
+-- What is marked beside others, in parts.
+use Rattle.std.proofs.Common.{◌≡◌, ◌∙◌, ℕ, ◌<◌, Bool, true, false, List, [], ◌∷◌, ◌++◌, refl, sym, ap, subst, inl, inr}
+use Rattle.std.specs.Prelude.{◌||◌, not, ◌==◌, nat_lt}
+use Rattle.std.specs.List.{list_all, list_any}
+use Rattle.std.proofs.lemmas.Bool.{and_from, and_parts, cases_eq, eq-eqb, ltb-true, or_right}
+use Rattle.std.proofs.lemmas.List.Folds.{list_all-append, list_any-append}
+use Rattle.mk_core.specs.declared.config.Config.{Config}
+use Rattle.mk_core.specs.declared.events.Event.{Event}
+use Rattle.mk_core.specs.declared.events.Step.TheVariants as step
+use Rattle.mk_core.specs.declared.events.Word.{Word}
+use Rattle.mk_core.specs.declared.events.Word.TheVariants as word
+use Rattle.mk_core.specs.Cells.{points_well}
+use Rattle.mk_core.specs.Frames.{Steady}
+use Rattle.mk_core.specs.Growing.{Finding}
+use Rattle.mk_core.specs.Moments.{is_held, is_number_of}
+use Rattle.mk_core.specs.Ranges.{is_word}
+use Rattle.mk_core.specs.Words.{Words}
+use Rattle.mk_words.specs.States.{PassState, TurnState, now_of, event_of}
+use Rattle.mk_turns.specs.Doing.{Does}
+use Rattle.mk_turns.proofs.Doing.{does_nothing, does_then}
+use Rattle.mk_tracing.specs.Grays.{TracesReached}
+use Rattle.mk_tracing.specs.Stops.{is_root}
+use Rattle.mk_cycle.specs.Holding.{IsHeldOrOwn}
+use Rattle.mk_cycle.specs.Kinds.{begins_marking}
+use Rattle.mk_cycle.specs.TurnKeeps.{KeepsTurn, KeepsGates, whole}
+use Rattle.mk_cycle.proofs.KeptInParts.{free_then, gates_then, keeps_at_once, keeps_then, same_config}
+use Rattle.mk_engines.specs.Beside.{FindsInRoot, GoesBeside, IsBeside, IsOpenToLook, KeepsOtherGates, LooksAt, MarksBeside, MarksReachedAlone, StaysWell, done_since, found_well, is_same_root, looks_at, looks_at_root}
+use Rattle.mk_engines.proofs.Since.{done_then, nothing_done, nothing_keeps, rule_then}
+
+-- The turn goes on being free, and the cycle marking.
+pub still_beside : (p q : PassState) → IsBeside p → KeepsTurn whole p q → IsBeside q
+still_beside p q b k =
+    record { free = free_then p q k.call b.free; marking = ap (λ (x : Steady). x.phase) k.steady ∙ b.marking }
+
+pub beside_nothing : (p : PassState) → MarksBeside p p
+beside_nothing p =
+    record {
+      does = does_nothing begins_marking p;
+      keeps = keeps_at_once whole p;
+      reached = nothing_keeps TracesReached p;
+      found = ap (λ (xs : List Finding). list_all (found_well p.table.config.pages (now_of p).words) xs)
+          (nothing_done p);
+      well = λ u h. h;
+    }
+
+pub goes_nowhere : (t : TurnState) → IsBeside t.pass → GoesBeside t t
+goes_nowhere t b = record { table = refl; op = refl; beside = b; marks = beside_nothing t.pass }
+
+-- What is found points well behind more marks.
+
+all_on : (test more : Finding → Bool) → ((f : Finding) → test f ≡ true → more f ≡ true) → (xs : List Finding)
+    → list_all test xs ≡ true → list_all more xs ≡ true
+all_on test more h [] is = refl
+all_on test more h (x ∷ xs) is =
+    let parts = and_parts (test x) (list_all test xs) is in
+    and_from (more x) (list_all more xs) (h x parts.0) (all_on test more h xs parts.1)
+
+or_on : (a b more : Bool) → (b ≡ true → more ≡ true) → (a || b) ≡ true → (a || more) ≡ true
+or_on true b more h is = refl
+or_on false b more h is = h is
+
+found_on : (pages : ℕ) (w v : Words) → ((u : ℕ) → points_well pages w u ≡ true → points_well pages v u ≡ true)
+    → (xs : List Finding) → list_all (found_well pages w) xs ≡ true → list_all (found_well pages v) xs ≡ true
+found_on pages w v well xs is =
+    all_on (found_well pages w) (found_well pages v)
+    (λ f h. or_on (not (looks_at_root f.event.step)) (points_well pages w f.found) (points_well pages v f.found)
+    (well f.found) h)
+    xs is
+
+-- Two parts, where the first is of these events.
+module _ (p : PassState) (xs : List Event) (r : PassState) where
+  two_parts : MarksBeside p (record p { seen = p.seen ++ xs }) → MarksBeside (record p { seen = p.seen ++ xs }) r
+      → MarksBeside p r
+  two_parts a b =
+      let q : PassState = record p { seen = p.seen ++ xs } in
+      let pages : ℕ = p.table.config.pages in
+      record {
+        does = does_then begins_marking p q r a.does b.does;
+        keeps = keeps_then whole p q r a.keeps b.keeps;
+        reached = rule_then p xs r b.does.more b.does.is TracesReached a.reached b.reached;
+        found =
+            ap (λ (fs : List Finding). list_all (found_well pages (now_of r).words) fs)
+            (done_then p xs r b.does.more b.does.is)
+            ∙ list_all-append (found_well pages (now_of r).words) (done_since p q) (done_since q r)
+            ∙ and_from (list_all (found_well pages (now_of r).words) (done_since p q))
+            (list_all (found_well pages (now_of r).words) (done_since q r))
+            (found_on pages (now_of q).words (now_of r).words b.well (done_since p q) a.found) b.found;
+        well = λ u h. b.well u (a.well u h);
+      }
+
+  root_part : (x : Word) (n : ℕ) → IsBeside p → Does begins_marking p (record p { seen = p.seen ++ xs })
+      → KeepsTurn whole p (record p { seen = p.seen ++ xs }) → MarksReachedAlone p (record p { seen = p.seen ++ xs })
+      → StaysWell p (record p { seen = p.seen ++ xs })
+      → done_since p (record p { seen = p.seen ++ xs }) ≡ record { event = event_of p (step.Look x); found = n } ∷ []
+      → MarksBeside (record p { seen = p.seen ++ xs }) r → points_well p.table.config.pages (now_of r).words n ≡ true
+      → MarksBeside p r
+  root_part x n beside does keeps reached well done b here =
+      let q : PassState = record p { seen = p.seen ++ xs } in
+      let pages : ℕ = p.table.config.pages in
+      record {
+        does = does_then begins_marking p q r does b.does;
+        keeps = keeps_then whole p q r keeps b.keeps;
+        reached = rule_then p xs r b.does.more b.does.is TracesReached reached b.reached;
+        found =
+            ap (λ (fs : List Finding). list_all (found_well pages (now_of r).words) fs)
+            (done_then p xs r b.does.more b.does.is)
+            ∙ list_all-append (found_well pages (now_of r).words) (done_since p q) (done_since q r)
+            ∙ and_from (list_all (found_well pages (now_of r).words) (done_since p q))
+            (list_all (found_well pages (now_of r).words) (done_since q r))
+            (ap (λ (fs : List Finding). list_all (found_well pages (now_of r).words) fs) done
+            ∙ and_from (not (is_root x) || points_well pages (now_of r).words n) true
+            (or_right (not (is_root x)) (points_well pages (now_of r).words n) here) refl)
+            b.found;
+        well = λ u h. b.well u (well u h);
+      }
+
+  looked_first : (x : Word) → Does begins_marking (record p { seen = p.seen ++ xs }) r
+      → LooksAt x p (record p { seen = p.seen ++ xs }) → LooksAt x p r
+  looked_first x d here =
+      let q : PassState = record p { seen = p.seen ++ xs } in
+      let test : Finding → Bool = λ (f : Finding). looks_at x f.event.step in
+      ap (λ (fs : List Finding). list_any test fs) (done_then p xs r d.more d.is)
+      ∙ list_any-append test (done_since p q) (done_since q r)
+      ∙ ap (λ (b : Bool). b || list_any test (done_since q r)) here
+
+  looked_second : (x : Word) → Does begins_marking (record p { seen = p.seen ++ xs }) r
+      → LooksAt x (record p { seen = p.seen ++ xs }) r → LooksAt x p r
+  looked_second x d here =
+      let q : PassState = record p { seen = p.seen ++ xs } in
+      let test : Finding → Bool = λ (f : Finding). looks_at x f.event.step in
+      ap (λ (fs : List Finding). list_any test fs) (done_then p xs r d.more d.is)
+      ∙ list_any-append test (done_since p q) (done_since q r)
+      ∙ or_right (list_any test (done_since p q)) (list_any test (done_since q r)) here
+
+-- One part behind another.
+
+pub beside_then : (p q r : PassState) → MarksBeside p q → MarksBeside q r → MarksBeside p r
+beside_then p q r a b =
+    subst (λ (x : PassState). MarksBeside p x → MarksBeside x r → MarksBeside p r) (sym a.does.is)
+    (two_parts p a.does.more r) a b
+
+pub goes_then : (t u v : TurnState) → GoesBeside t u → GoesBeside u v → GoesBeside t v
+goes_then t u v a b =
+    record {
+      table = b.table ∙ a.table;
+      op = b.op ∙ a.op;
+      beside = b.beside;
+      marks = beside_then t.pass u.pass v.pass a.marks b.marks;
+    }
+
+-- A root was looked at in the first part, or in the second.
+
+pub looked_then : (x : Word) (p q r : PassState) → Does begins_marking p q → Does begins_marking q r
+    → LooksAt x p q → LooksAt x p r
+looked_then x p q r d e here =
+    subst (λ (y : PassState). Does begins_marking y r → LooksAt x p y → LooksAt x p r) (sym d.is)
+    (looked_first p d.more r x) e here
+
+pub then_looked : (x : Word) (p q r : PassState) → Does begins_marking p q → Does begins_marking q r
+    → LooksAt x q r → LooksAt x p r
+then_looked x p q r d e here =
+    subst (λ (y : PassState). Does begins_marking y r → LooksAt x y r → LooksAt x p r) (sym d.is)
+    (looked_second p d.more r x) e here
+
+-- A look at a root, and the marks behind it by which its value points well.
+
+same_root : (x : Word) → is_root x ≡ true → is_same_root x x ≡ true
+same_root (word.Reg j r) h = and_from (j == j) (r == r) (eq-eqb j j refl) (eq-eqb r r refl)
+same_root (word.Global g) h = eq-eqb g g refl
+same_root _ h = cc
+
+module _ (x : Word) (n : ℕ) (t u v : TurnState) (beside : IsBeside t.pass) (f : FindsInRoot x n t u)
+    (b : GoesBeside u v) where
+  pub root_then : points_well t.pass.table.config.pages (now_of v.pass).words n ≡ true → GoesBeside t v
+  root_then here =
+      record {
+        table = b.table ∙ f.table;
+        op = b.op ∙ f.op;
+        beside = b.beside;
+        marks =
+            subst (λ (y : PassState). Does begins_marking t.pass y → KeepsTurn whole t.pass y
+            → MarksReachedAlone t.pass y
+            → StaysWell t.pass y → done_since t.pass y ≡ record
+            { event = event_of t.pass (step.Look x); found = n } ∷ []
+            → MarksBeside y v.pass → points_well t.pass.table.config.pages (now_of v.pass).words n ≡ true
+            → MarksBeside t.pass v.pass)
+            (sym f.does.is) (root_part t.pass f.does.more v.pass x n beside)
+            f.does f.keeps f.reached f.well f.done b.marks here;
+      }
+
+  pub root_looked : is_root x ≡ true → LooksAt x t.pass v.pass
+  root_looked root =
+      looked_then x t.pass u.pass v.pass f.does b.marks.does
+      (ap (λ (fs : List Finding). list_any (λ (g : Finding). looks_at x g.event.step) fs) f.done
+      ∙ ap (λ (c : Bool). c || false) (same_root x root))
+
+-- gates
+
+pub gates_at_once : (p : PassState) → KeepsGates p p
+gates_at_once p j lt = refl
+
+pub gates_on : (t u v : TurnState) → GoesBeside t u → KeepsGates t.pass u.pass → KeepsGates u.pass v.pass
+    → KeepsGates t.pass v.pass
+gates_on t u v on a b = gates_then t.pass u.pass v.pass on.marks.keeps.call.pass a b
+
+pub others_on : (caller : ℕ) (t u v : TurnState) → GoesBeside t u → KeepsOtherGates caller t.pass u.pass
+    → KeepsOtherGates caller u.pass v.pass → KeepsOtherGates caller t.pass v.pass
+others_on caller t u v on a b j lt ne =
+    b j (subst (λ (c : Config). j < c.callers) (sym (same_config t.pass u.pass on.marks.keeps.call.pass)) lt) ne
+    ∙ a j lt ne
+
+pub gates_others : (caller : ℕ) (p q : PassState) → KeepsGates p q → KeepsOtherGates caller p q
+gates_others caller p q k j lt ne = k j lt
+
+-- All but one gate is as it was, and so is the one.
+pub gates_back : (caller : ℕ) (p q : PassState) → KeepsOtherGates caller p q
+    → is_held (now_of q).words caller ≡ is_held (now_of p).words caller → KeepsGates p q
+gates_back caller p q others same j lt = elim (cases_eq j caller) [
+  | inr ne ↦ others j lt ne
+  | inl e ↦
+      subst (λ (i : ℕ). is_held (now_of q).words i ≡ is_held (now_of p).words i) (sym e) same
+]
+
+pub still_own : (t u : TurnState) (caller : ℕ) → GoesBeside t u → is_number_of t.pass.seat caller ≡ false
+    → is_number_of u.pass.seat caller ≡ false
+still_own t u caller on other =
+    ap (λ (x : PassState). is_number_of x.seat caller) on.marks.keeps.call.pass ∙ other
+
+-- A gate that was held, or the own one, is so still.
+pub still_held : (t u : TurnState) (caller : ℕ) → GoesBeside t u → KeepsGates t.pass u.pass
+    → caller < t.pass.table.config.callers
+    → IsHeldOrOwn t.pass caller → IsHeldOrOwn u.pass caller
+still_held t u caller on gates lt h =
+    ap (λ (x : PassState). is_number_of x.seat caller || is_held (now_of u.pass).words caller) on.marks.keeps.call.pass
+    ∙ ap (λ (b : Bool). is_number_of t.pass.seat caller || b) (gates caller lt) ∙ h
+
+pub held_is : (p : PassState) (caller : ℕ) → is_held (now_of p).words caller ≡ true → IsHeldOrOwn p caller
+held_is p caller h = or_right (is_number_of p.seat caller) (is_held (now_of p).words caller) h
+
+pub own_is : (p : PassState) (caller : ℕ) → is_number_of p.seat caller ≡ true → IsHeldOrOwn p caller
+own_is p caller h = ap (λ (b : Bool). b || is_held (now_of p).words caller) h
+
+pub open_register : (p : PassState) (caller register : ℕ) → IsHeldOrOwn p caller
+    → IsOpenToLook p (word.Reg caller register)
+open_register p caller register h k r e = subst (λ (i : ℕ). IsHeldOrOwn p i) (caller_of e) h
+  where
+    number : Word → ℕ
+    number (word.Reg j s) = j
+    number _ = 0
+
+    caller_of : word.Reg caller register ≡ word.Reg k r → caller ≡ k
+    caller_of is = ap number is
+
+pub open_global : (p : PassState) (g : ℕ) → IsOpenToLook p (word.Global g)
+open_global p g k r e = cc
+
+-- Each root was looked at.
+pub all_looked : (p q : PassState) → ((k r : ℕ) → k < p.table.config.callers → r < 8 → LooksAt (word.Reg k r) p q)
+    → ((g : ℕ) → g < 64 → LooksAt (word.Global g) p q)
+    → (x : Word) → is_root x ≡ true → is_word p.table.config x ≡ true → LooksAt x p q
+all_looked p q registers globals (word.Reg k r) root h =
+    let parts = and_parts (nat_lt k p.table.config.callers) (nat_lt r 8) h in
+    registers k r (ltb-true k p.table.config.callers parts.0) (ltb-true r 8 parts.1)
+all_looked p q registers globals (word.Global g) root h = globals g (ltb-true g 64 h)
+all_looked p q registers globals _ root h = cc
+
+-- A root that was looked at was so over more of the turn.
+
+pub looked_on : (x : Word) (t u v : TurnState) → GoesBeside t u → GoesBeside u v → LooksAt x t.pass u.pass
+    → LooksAt x t.pass v.pass
+looked_on x t u v a b here = looked_then x t.pass u.pass v.pass a.marks.does b.marks.does here
+
+pub on_looked : (x : Word) (t u v : TurnState) → GoesBeside t u → GoesBeside u v → LooksAt x u.pass v.pass
+    → LooksAt x t.pass v.pass
+on_looked x t u v a b here = then_looked x t.pass u.pass v.pass a.marks.does b.marks.does here

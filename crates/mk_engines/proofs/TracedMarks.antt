@@ -1,0 +1,182 @@
+-- Tracing in the stop meets the law of engines.
+use Rattle.std.proofs.Common.{◌≡◌, ◌∙◌, ℕ, ◌+◌, Bool, true, false, List, [], ◌∷◌, refl, sym, ap}
+use Rattle.std.specs.Prelude.{not, ◌&&◌, slice_index_or, count_by, cond}
+use Rattle.std.proofs.lemmas.List.Sums.{sum_by-cons}
+use Rattle.mk_never.specs.declared.operations.Op.{Op}
+use Rattle.mk_never.specs.declared.operations.Op.TheVariants as op
+use Rattle.mk_core.specs.declared.config.Config.{Config}
+use Rattle.mk_core.specs.declared.events.Seat.{Seat}
+use Rattle.mk_core.specs.declared.events.Seat.TheVariants.{Caller, Marker, Host}
+use Rattle.mk_core.specs.declared.events.Step.{Step}
+use Rattle.mk_core.specs.declared.events.Step.TheVariants as step
+use Rattle.mk_core.specs.declared.seats.Flight.{Flight}
+use Rattle.mk_core.specs.declared.seats.Stage.{Stage}
+use Rattle.mk_core.specs.declared.seats.Stage.TheVariants as stage
+use Rattle.mk_core.specs.Calls.{at_rest, is_under_turn}
+use Rattle.mk_core.specs.ClosedMarks.{MarksAreClosed}
+use Rattle.mk_core.specs.Frames.{Steady, CountsAreLeft}
+use Rattle.mk_core.specs.Growing.{Finding}
+use Rattle.mk_core.specs.History.{IsHistory}
+use Rattle.mk_core.specs.Moments.{Moment, flight_of}
+use Rattle.mk_core.specs.NewPlaces.{is_run_gone}
+use Rattle.mk_core.specs.Readings.{Holds, is_idle}
+use Rattle.mk_core.specs.Words.{Words}
+use Rattle.mk_protocol.specs.Protocol.{Protocol, has_stage}
+use Rattle.mk_protocol.proofs.Protocols.{lists_keep_the_protocol}
+use Rattle.mk_words.specs.States.{PassState, world_of, now_of}
+use Rattle.mk_words.specs.Steps.{IsEnabledTo}
+use Rattle.mk_turns.specs.Doing.{Does, are_of, done_in}
+use Rattle.mk_turns.proofs.Doing.{does_nothing}
+use Rattle.mk_tracing.specs.Grays.{TracesReached}
+use Rattle.mk_tracing.specs.Stops.{IsReady, IsWanted, is_loaded, is_loaded_at}
+use Rattle.mk_tracing.specs.Tracing.{Counted, Traces, Untouched, untouched_of, is_tracing, is_want}
+use Rattle.mk_cycle.specs.EngineLaw.{BeginsMarking, ClosesMarks, IsFreeForCycle, is_pending_free, is_pending_free_at}
+use Rattle.mk_cycle.specs.Kinds.{begins_marking, closes_marks, is_want as is_wish}
+use Rattle.mk_cycle.specs.TurnKeeps.{Done, KeepsCall, KeepsTurn, but_phase, whole}
+use Rattle.mk_cycle.proofs.KeptInParts.{keeps_at_once}
+
+-- A call that is free for a cycle has loaded what it loads.
+
+loaded_at : (x : Stage) (o : Op) → has_stage o x ≡ true → (not (is_idle x) && is_under_turn o) ≡ true
+    → is_pending_free_at o x ≡ false → is_loaded_at x ≡ true
+loaded_at stage.Turn o has turn decided = refl
+loaded_at stage.Give o has turn decided = refl
+loaded_at x (op.New d ty full) has turn decided = cc
+loaded_at x (op.Free p) has turn decided = cc
+loaded_at x o has turn decided = absurd (never (not (is_idle x)) turn)
+  where
+    never : (b : Bool) → (b && false) ≡ true → ⊥
+    never true e = cc
+    never false e = cc
+
+loaded_of : (c : Config) (m : Moment) (seat : Seat) → Protocol c m → Holds c m seat
+    → is_pending_free (flight_of m seat) ≡ false → is_loaded seat (flight_of m seat) ≡ true
+loaded_of c m (Caller k) p holds decided =
+    loaded_at (flight_of m (Caller k)).stage (flight_of m (Caller k)).op (p.stage k holds.0) holds.1 decided
+loaded_of c m (Marker k) p holds decided = refl
+loaded_of c m Host p holds decided = refl
+
+pub ready_of : (p : PassState) → IsHistory p.table.config p.seen → Holds p.table.config (now_of p) p.seat
+    → IsFreeForCycle p → IsReady p
+ready_of p history holds free =
+    let protocol = lists_keep_the_protocol p.table.config p.seen history.within_limits history.enabled in
+    record { loaded = loaded_of p.table.config (now_of p) p.seat protocol holds free.decided }
+
+-- Its kinds are those of the law.
+
+closing_kind : (s : Step) → is_tracing s ≡ true → closes_marks s ≡ true
+closing_kind step.Want h = refl
+closing_kind (step.Look x) h = refl
+closing_kind (step.Mark p v) h = refl
+closing_kind (step.Undirty p) h = refl
+closing_kind (step.Black p v) h = refl
+closing_kind (step.Unblack p) h = refl
+closing_kind _ h = cc
+
+both_parts : (a b : Bool) → (a && b) ≡ true → (a ≡ true) × (b ≡ true)
+both_parts true b h = (refl, h)
+both_parts false b h = cc
+
+and_true : (a b : Bool) → a ≡ true → b ≡ true → (a && b) ≡ true
+and_true true b one two = two
+and_true false b one two = one
+
+closing_kinds : (xs : List Finding) → are_of is_tracing xs ≡ true → are_of closes_marks xs ≡ true
+closing_kinds [] h = refl
+closing_kinds (x ∷ xs) h =
+    let parts = both_parts (is_tracing x.event.step) (are_of is_tracing xs) h in
+    and_true (closes_marks x.event.step) (are_of closes_marks xs) (closing_kind x.event.step parts.0)
+    (closing_kinds xs parts.1)
+
+same_wish : (s : Step) → is_wish s ≡ is_want s
+same_wish step.Want = refl
+same_wish _ = refl
+
+same_count : (xs : List Finding)
+    → count_by (λ (x : Finding). is_wish x.event.step) xs ≡ count_by (λ (x : Finding). is_want x.event.step) xs
+same_count [] = refl
+same_count (x ∷ xs) =
+    sum_by-cons (λ (y : Finding). cond (is_wish y.event.step) 1 0) x xs
+    ∙ ap (λ (b : Bool). cond b 1 0 + count_by (λ (y : Finding). is_wish y.event.step) xs) (same_wish x.event.step)
+    ∙ ap (λ (n : ℕ). cond (is_want x.event.step) 1 0 + n) (same_count xs)
+    ∙ sym (sum_by-cons (λ (y : Finding). cond (is_want y.event.step) 1 0) x xs)
+
+-- What tracing doesn't touch is kept.
+
+module _ (p q : PassState) (pass : q ≡ record p { seen = q.seen })
+    (same : untouched_of (world_of q) ≡ untouched_of (world_of p)) where
+  flights : (now_of q).seats.flights ≡ (now_of p).seats.flights
+  flights = ap (λ (x : Untouched). x.flights) same
+
+  same_flight : (seat : Seat) → flight_of (now_of q) seat ≡ flight_of (now_of p) seat
+  same_flight (Caller k) = ap (λ (fs : List Flight). slice_index_or fs k at_rest) flights
+  same_flight (Marker k) = refl
+  same_flight Host = refl
+
+  done_as : Untouched → Done
+  done_as x = record { placing = x.placing; freed = x.freed_run; cycle = x.cycle }
+
+  gone_as : Words → Untouched → Bool
+  gone_as w x = is_run_gone (record w { pages = x.pages; heap = x.heap }) x.freed_run
+
+  same_gone : is_run_gone (now_of q).words (now_of q).seats.holding.freed ≡ is_run_gone (now_of p).words
+      (now_of p).seats.holding.freed
+  unfolding gone_as
+  same_gone = ap (λ (x : Untouched). gone_as (now_of q).words x) same
+
+  pub keeps_call : KeepsCall p q
+  unfolding done_as
+  keeps_call =
+      record {
+        pass = pass;
+        call = ap (λ (x : PassState). flight_of (now_of q) x.seat) pass ∙ same_flight p.seat;
+        done = ap done_as same;
+        gone = λ g. same_gone ∙ g;
+      }
+
+  steady_as : Untouched → Steady
+  steady_as x =
+      record {
+        turn = x.turn;
+        phase = 0;
+        held = x.held;
+        fresh = x.fresh;
+        cycles = x.cycles;
+        released = x.released;
+        full = x.full;
+        pages = x.pages;
+        freed = x.freed;
+        snapshot = x.snapshot;
+        fresh_words = x.fresh_words;
+        allocations = x.allocations;
+      }
+
+  pub keeps_turn : CountsAreLeft p.table.config p.seen q.seen → KeepsTurn but_phase p q
+  unfolding steady_as
+  keeps_turn counts = record { call = keeps_call; steady = ap steady_as same; counts = counts }
+
+pub closes_by_tracing : (p q : PassState) → Counted is_tracing TracesReached is_want p q 1 → IsWanted q
+    → IsEnabledTo q step.Close → MarksAreClosed q.table.config (world_of q) → ClosesMarks p q
+closes_by_tracing p q counted wanted close closed =
+    let t : Traces is_tracing TracesReached p q = counted.traces in
+    let d : Does is_tracing p q = t.does in
+    let pass : q ≡ record p { seen = q.seen } = d.is ∙ ap (λ (x : PassState). record p { seen = x.seen }) (sym d.is) in
+    record {
+      does = record {
+        more = d.more;
+        is = d.is;
+        own_or_others = d.own_or_others;
+        of_kinds = closing_kinds
+            (done_in p d.more) d.of_kinds;
+      };
+      one_want = same_count (done_in p d.more) ∙ counted.count;
+      keeps = keeps_turn p q pass t.untouched t.counts;
+      phase = wanted.phase;
+      close = close;
+      closed = closed;
+    }
+
+-- Nothing is a beginning of the marking.
+pub begins_with_nothing : (p : PassState) → BeginsMarking p p
+begins_with_nothing p =
+    record { does = does_nothing begins_marking p; keeps = keeps_at_once whole p; gates = λ j lt. refl }

@@ -1,0 +1,28 @@
+use Rattle.std.proofs.Common.{arith, below_more}
+use Rattle.mk_core.specs.declared.events.Word.TheVariants as word
+use Rattle.mk_engines.proofs.MarksBeside.{gates_at_once, gates_on, goes_nowhere, goes_then, looked_on, on_looked}
+use Rattle.mk_engines.proofs.roots.mark_registers.Goals as goal
+
+pub loop-caller-init : goal.loop-caller-init
+loop-caller-init g c =
+    record {
+      on = goes_nowhere c.args.turn.now c.requires.beside;
+      gates = gates_at_once c.args.turn.now.pass;
+      looked = λ k lt. absurd (omega arith);
+    }
+
+pub loop-caller-preserved : goal.loop-caller-preserved
+loop-caller-preserved g c =
+    let t = c.args.turn.now in
+    let u = c.loop-caller.turn in
+    let v = c.mark_caller.new.turn in
+    let before = c.loop-caller.invariant in
+    record {
+      on = goes_then t u v before.on c.mark_caller.ensures.on;
+      gates = gates_on t u v before.on before.gates c.mark_caller.ensures.gates;
+      looked =
+          below_more _ _
+          (λ k lt r few. looked_on (word.Reg k r) t u v before.on c.mark_caller.ensures.on (before.looked k lt r few))
+          (λ r few. on_looked (word.Reg c.loop-caller.caller r) t u v before.on c.mark_caller.ensures.on
+          (c.mark_caller.ensures.looked r few));
+    }

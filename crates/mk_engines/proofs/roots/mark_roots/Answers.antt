@@ -1,0 +1,28 @@
+use Rattle.std.proofs.Common.{◌<◌, subst}
+use Rattle.mk_core.specs.declared.events.Word.TheVariants as word
+use Rattle.mk_words.specs.States.{WordsState}
+use Rattle.mk_engines.proofs.MarksBeside.{all_looked, goes_then, looked_on, on_looked}
+use Rattle.mk_engines.proofs.roots.mark_roots.Goals as goal
+
+pub returns-clause-on : goal.returns-clause-on
+returns-clause-on g c =
+    goes_then c.args.turn.now c.mark_registers.new.turn c.mark_globals.new.turn c.mark_registers.ensures.on
+    c.mark_globals.ensures.on
+
+pub returns-clause-roots : goal.returns-clause-roots
+returns-clause-roots g c =
+    let t = c.args.turn.now in
+    let u = c.mark_registers.new.turn in
+    let v = c.mark_globals.new.turn in
+    let marks = (returns-clause-on g c).marks in
+    record {
+      looked =
+          all_looked t.pass v.pass
+          (λ k r lt few. looked_on (word.Reg k r) t u v c.mark_registers.ensures.on c.mark_globals.ensures.on
+          (c.mark_registers.ensures.looked k
+          (subst (λ (w : WordsState). k < w.config.callers) c.requires.one_table lt) r few))
+          (λ i lt. on_looked (word.Global i) t u v c.mark_registers.ensures.on c.mark_globals.ensures.on
+          (c.mark_globals.ensures.looked i lt));
+      found = marks.found;
+      reached = marks.reached;
+    }

@@ -1,0 +1,5 @@
+use Rattle.mk_engines.proofs.TracedMarks.{begins_with_nothing}
+use Rattle.mk_engines.proofs.stop_engine.StopEngineEngine.begin.Goals as goal
+
+pub returns-clause-law : goal.returns-clause-law
+returns-clause-law g c = begins_with_nothing c.args._turn.now.pass

@@ -1,0 +1,12 @@
+use Rattle.mk_engines.proofs.TracedMarks.{closes_by_tracing, ready_of}
+use Rattle.mk_engines.proofs.stopping.close_by_tracing.Goals as goal
+
+pub close_marks-requires-clause-ready : goal.close_marks-requires-clause-ready
+close_marks-requires-clause-ready g c =
+    ready_of c.args.stop.now.pass c.is_in_order.ensures.history c.is_in_order.ensures.turn.holds c.requires.free
+
+pub returns-clause-law : goal.returns-clause-law
+returns-clause-law g c =
+    closes_by_tracing c.args.stop.now.pass c.close_marks.new.stop.pass c.close_marks.ensures.traces
+    c.close_marks.ensures.wanted
+    c.close_marks.ensures.closes c.close_marks.ensures.closed

@@ -1,0 +1,98 @@
+//! Steps of a turn while a cycle marks, beside callers and markers.
+ghost use Rattle.std.specs.Prelude.{◌≡◌, ◌<◌, ◌^◌, true, false};
+ghost use Rattle.mk_core.specs.Cells.{is_marked};
+ghost use Rattle.mk_core.specs.Moments.{is_held, is_number_of};
+ghost use Rattle.mk_core.specs.Ranges.{is_word};
+ghost use Rattle.mk_core.specs.Words.{named_word};
+ghost use Rattle.mk_words.specs.States.{now_of};
+ghost use Rattle.mk_cycle.specs.TurnKeeps.{KeepsGates};
+ghost use Rattle.mk_tracing.specs.Grays.{IsInHand, IsReached};
+ghost use Rattle.mk_tracing.specs.Stops.{hand_of, is_root};
+ghost use Rattle.mk_engines.specs.Beside.{FindsInRoot, GoesBeside, IsBeside, IsOpenToLook, KeepsOtherGates};
+ghost use Rattle.mk_engines.specs.Beside.{gives_no_hand};
+
+use crate::bits::bit;
+use mk_core::Word;
+use mk_geom::Cell;
+use mk_words::{Turn, Words};
+
+/// Looks at a word that gives no hand.
+pub(crate) fn look_at(words: &Words, turn: &mut Turn, x: Word) -> u64
+    requires one_table { turn.old.pass.table ≡ words.now }
+    requires beside { IsBeside turn.old.pass }
+    requires in_range { is_word words.now.config x ≡ true }
+    requires plain { gives_no_hand x ≡ true }
+    ensures on { GoesBeside turn.old turn.new }
+    ensures gates { KeepsGates turn.old.pass turn.new.pass }
+    ensures hand { hand_of turn.new.pass ≡ hand_of turn.old.pass }
+    ensures reads { result ≡ named_word (now_of turn.new.pass).words x }
+{
+    turn.is_in_order();
+    let found = turn.look(words, x);
+    turn.is_in_order();
+    found
+}
+
+/// Looks at a register or a global, whose value is then the hand.
+pub(crate) fn look_at_root(words: &Words, turn: &mut Turn, x: Word) -> u64
+    requires one_table { turn.old.pass.table ≡ words.now }
+    requires beside { IsBeside turn.old.pass }
+    requires in_range { is_word words.now.config x ≡ true }
+    requires root { is_root x ≡ true }
+    requires seen { IsOpenToLook turn.old.pass x }
+    ensures finds { FindsInRoot x result turn.old turn.new }
+    ensures gates { KeepsGates turn.old.pass turn.new.pass }
+    ensures hand { IsInHand turn.new.pass result }
+{
+    turn.is_in_order();
+    let found = turn.look(words, x);
+    turn.is_in_order();
+    found
+}
+
+/// Marks the cell into which the hand points.
+pub(crate) fn mark_cell(words: &Words, turn: &mut Turn, cell: Cell)
+    requires one_table { turn.old.pass.table ≡ words.now }
+    requires beside { IsBeside turn.old.pass }
+    requires reached { IsReached turn.old.pass cell }
+    ensures on { GoesBeside turn.old turn.new }
+    ensures gates { KeepsGates turn.old.pass turn.new.pass }
+    ensures marked { is_marked (now_of turn.new.pass).words cell ≡ true }
+{
+    turn.is_in_order();
+    turn.mark(words, cell.page, bit(cell.index));
+    turn.is_in_order();
+}
+
+/// Tries to hold the gate of another caller, which isn't held yet.
+pub(crate) fn try_hold(words: &Words, turn: &mut Turn, caller: u64) -> bool
+    requires one_table { turn.old.pass.table ≡ words.now }
+    requires beside { IsBeside turn.old.pass }
+    requires within { caller < words.now.config.callers }
+    requires another { is_number_of turn.old.pass.seat caller ≡ false }
+    requires open { is_held (now_of turn.old.pass).words caller ≡ false }
+    ensures on { GoesBeside turn.old turn.new }
+    ensures others { KeepsOtherGates caller turn.old.pass turn.new.pass }
+    ensures held { is_held (now_of turn.new.pass).words caller ≡ result }
+{
+    turn.is_in_order();
+    let held = turn.try_hold(words, caller).is_ok();
+    turn.is_in_order();
+    held
+}
+
+/// Opens the gate of another caller, which is held.
+pub(crate) fn open_gate(words: &Words, turn: &mut Turn, caller: u64)
+    requires one_table { turn.old.pass.table ≡ words.now }
+    requires beside { IsBeside turn.old.pass }
+    requires within { caller < words.now.config.callers }
+    requires another { is_number_of turn.old.pass.seat caller ≡ false }
+    requires held { is_held (now_of turn.old.pass).words caller ≡ true }
+    ensures on { GoesBeside turn.old turn.new }
+    ensures others { KeepsOtherGates caller turn.old.pass turn.new.pass }
+    ensures opened { is_held (now_of turn.new.pass).words caller ≡ false }
+{
+    turn.is_in_order();
+    turn.open_gate(words, caller);
+    turn.is_in_order();
+}

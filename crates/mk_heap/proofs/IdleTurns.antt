@@ -1,0 +1,190 @@
+-- The host's turn before an `over`: whether a cycle is on, and that none is behind the end of one.
+use Rattle.std.proofs.Common.{◌≡◌, ◌⊎◌, ℕ, zero, suc, ◌≤◌, ◌%◌, true, false, List, refl, sym, ap, subst, ◌∙◌, inl, inr, arith}
+use Rattle.std.specs.Prelude.{not, None}
+use Rattle.std.proofs.lemmas.Bool.{true≢false}
+use Rattle.mk_core.specs.declared.config.Config.{Config}
+use Rattle.mk_core.specs.declared.events.Seat.TheVariants.{Host}
+use Rattle.mk_core.specs.declared.events.Step.TheVariants as step
+use Rattle.mk_core.specs.declared.events.Word.TheVariants as word
+use Rattle.mk_core.specs.declared.seats.Holding.{Holding}
+use Rattle.mk_core.specs.Allocations.{PlacedAllocation, held_words, fresh_words_of}
+use Rattle.mk_core.specs.Counts.{TalliesAreExact, TalliesAreTidy, fulls, in_a_word, releases}
+use Rattle.mk_core.specs.Frames.{Steady}
+use Rattle.mk_core.specs.History.{IsHistory}
+use Rattle.mk_core.specs.Moments.{is_held, none_is_held}
+use Rattle.mk_core.specs.NewPlaces.{is_run_gone}
+use Rattle.mk_core.specs.Words.{phase_of}
+use Rattle.mk_core.proofs.AllBelow.{all_below-at}
+use Rattle.mk_protocol.specs.Protocol.{has_place}
+use Rattle.mk_protocol.proofs.Asked.{give_phase}
+use Rattle.mk_words.specs.Seats.{has_over}
+use Rattle.mk_words.specs.States.{PassState, now_of, world_of}
+use Rattle.mk_words.specs.Steps.{Finds}
+use Rattle.mk_words.specs.TurnSteps.{Acts, IsFresh}
+use Rattle.mk_words.proofs.Made.{made}
+use Rattle.mk_words.proofs.OverPhases.{end_is_behind_over}
+use Rattle.mk_cycle.specs.BeginCycle.{BeginsCycle}
+use Rattle.mk_cycle.specs.EngineLaw.{IsAtPhase, IsFreeForCycle, is_pending_free}
+use Rattle.mk_cycle.specs.FinishCycle.{FinishesCycle}
+use Rattle.mk_cycle.specs.TurnKeeps.{Done, InTurn, KeepsGates, KeepsTurn, but_phase, whole}
+use Rattle.mk_cycle.proofs.BeginSteps.{all_from}
+use Rattle.mk_cycle.proofs.CleaningSteps.{calm_keeps}
+use Rattle.mk_cycle.proofs.KeptInParts.{free_then, gates_behind, keeps_less, same_config}
+use Rattle.mk_heap.specs.Ending.{EndsCycle, IsIdleTurn}
+
+at_most_one : (n : ℕ) → n ≤ 1 → (n ≡ 0) ⊎ (n ≡ 1)
+at_most_one zero le = inl refl
+at_most_one (suc zero) le = inr refl
+at_most_one (suc (suc n)) le = absurd (omega arith)
+
+-- Directly behind its `take` a turn has a cycle on or none, and is free for one.
+
+pub fresh_phase : (p : PassState) → IsFresh p None → IsHistory p.table.config p.seen → has_over p.seen ≡ false
+    → (IsAtPhase p 0) ⊎ (IsAtPhase p 1)
+fresh_phase p f history before = elim (give_phase (phase_of (now_of p).words) f.phase) [
+  | inl low ↦ at_most_one (phase_of (now_of p).words) low
+  | inr five ↦ absurd (true≢false (sym (end_is_behind_over p.table.config p.seen history five) ∙ before))
+]
+
+pub fresh_free : (p : PassState) → IsFresh p None → IsFreeForCycle p
+fresh_free p f =
+    record {
+      decided = ap is_pending_free f.call;
+      unplaced = ap (λ (h : Holding). has_place h.placing) f.holding;
+      gone = ap (λ (h : Holding). is_run_gone (now_of p).words h.freed) f.holding;
+    }
+
+-- The look at the phase finds it, and keeps all.
+
+pub phase_found : (p q : PassState) (n : ℕ) → InTurn p → IsHistory q.table.config q.seen
+    → Finds p (step.Look word.Phase) n q → n % 8 ≡ phase_of (now_of p).words
+phase_found p q n t history f =
+    let there = made p (step.Look word.Phase) q f.makes t.own history in
+    ap (λ (i : ℕ). i % 8) f.finds ∙ ap (λ (s : Steady). s.phase) ((there.frame.turn t.holds).0).steady
+
+pub look_keeps : (p q : PassState) → InTurn p → IsFreeForCycle p → IsHistory q.table.config q.seen
+    → Acts p (step.Look word.Phase) q → KeepsTurn whole p q
+look_keeps p q t free history a = calm_keeps p (step.Look word.Phase) q a t history refl free whole refl
+
+-- So it tells whether a cycle is on, which is finished then.
+
+pub none_is_on : (p q : PassState) (n : ℕ) → InTurn p → IsFresh p None → has_over p.seen ≡ false
+    → IsHistory q.table.config q.seen → Finds p (step.Look word.Phase) n q → (n % 8 ≡ 1 → ⊥) → IsAtPhase p 0
+none_is_on p q n t fresh before history f other = elim (fresh_phase p fresh t.history before) [
+  | inl none ↦ none
+  | inr on ↦ absurd (other (phase_found p q n t history f ∙ on))
+]
+
+pub ends_none : (p q : PassState) (n : ℕ) → Finds p (step.Look word.Phase) n q → IsAtPhase p 0 → EndsCycle p q
+ends_none p q n f none =
+    record {
+      looked = q;
+      looks = f.makes;
+      phase = inl none;
+      none = λ h. refl;
+      on = λ (one : IsAtPhase p 1). absurd (omega arith);
+    }
+
+pub ends_one : (p q r : PassState) (n : ℕ) → Finds p (step.Look word.Phase) n q → IsAtPhase p 1 → FinishesCycle q r
+    → EndsCycle p r
+ends_one p q r n f on law =
+    record {
+      looked = q;
+      looks = f.makes;
+      phase = inr on;
+      none = λ (none : IsAtPhase p 0). absurd (omega arith);
+      on = λ h. law;
+    }
+
+-- What is exact and tidy stays so where all but the phase is kept.
+
+pub exact_kept : (p q : PassState) → KeepsTurn but_phase p q → TalliesAreExact p.table.config p.seen
+    → TalliesAreExact q.table.config q.seen
+exact_kept p q k x =
+    let c : Config = p.table.config in
+    let same : q.table.config ≡ c = same_config p q k.call.pass in
+    let xs : List PlacedAllocation = (world_of q).allocations in
+    let allocations : xs ≡ (world_of p).allocations = ap (λ (s : Steady). s.allocations) k.steady in
+    record {
+      held =
+          ap (λ (s : Steady). s.held) k.steady ∙ x.held
+          ∙ sym (ap (λ (d : Config). held_words d xs) same
+          ∙ ap (λ (ys : List PlacedAllocation). held_words c ys) allocations);
+      fresh =
+          ap (λ (s : Steady). s.fresh) k.steady ∙ x.fresh
+          ∙ sym (ap (λ (d : Config). in_a_word (fresh_words_of d xs)) same
+          ∙ ap (λ (ys : List PlacedAllocation). in_a_word (fresh_words_of c ys)) allocations);
+    }
+
+pub tidy_kept : (p q : PassState) → KeepsTurn but_phase p q → TalliesAreTidy p.table.config p.seen
+    → TalliesAreTidy q.table.config q.seen
+tidy_kept p q k x =
+    let same : q.table.config ≡ p.table.config = same_config p q k.call.pass in
+    record {
+      cycles = ap (λ (s : Steady). s.cycles) k.steady ∙ x.cycles ∙ ap in_a_word (sym k.counts.ends);
+      released =
+          ap (λ (s : Steady). s.released) k.steady ∙ x.released
+          ∙ ap in_a_word (sym (ap (λ (s : Steady). releases s.allocations) k.steady));
+      full =
+          ap (λ (s : Steady). s.full) k.steady ∙ x.full ∙ ap in_a_word (sym k.counts.fulls)
+          ∙ ap (λ (d : Config). in_a_word (fulls d q.seen)) (sym same);
+    }
+
+-- No gate is held where none was, by the same holder.
+pub none_held_kept : (p q : PassState) → q ≡ record p { seen = q.seen } → KeepsGates p q
+    → none_is_held p.table.config.callers (now_of p).words ≡ true
+    → none_is_held q.table.config.callers (now_of q).words ≡ true
+none_held_kept p q is keeps none =
+    let n : ℕ = p.table.config.callers in
+    subst (λ (c : Config). none_is_held c.callers (now_of q).words ≡ true) (sym (same_config p q is))
+    (all_from n (λ j. not (is_held (now_of q).words j))
+    (λ j lt. ap not (keeps j lt) ∙ all_below-at n j (λ i. not (is_held (now_of p).words i)) none lt))
+
+-- What is idle: a turn in which the look found no cycle on, and one in which a cycle was finished.
+
+pub looked_idle : (p q : PassState) → p.seat ≡ Host → InTurn p → IsFresh p None → IsHistory q.table.config q.seen
+    → Acts p (step.Look word.Phase) q → IsAtPhase p 0 → TalliesAreExact p.table.config p.seen
+    → TalliesAreTidy p.table.config p.seen → IsIdleTurn q
+looked_idle p q host t f history a none exact tidy =
+    let keeps = look_keeps p q t (fresh_free p f) history a in
+    let less = keeps_less whole but_phase p q keeps in
+    record {
+      seat = ap (λ (r : PassState). r.seat) keeps.call.pass ∙ host;
+      phase = ap (λ (s : Steady). s.phase) keeps.steady ∙ none;
+      free = free_then p q keeps.call (fresh_free p f);
+      gates = none_held_kept p q keeps.call.pass (gates_behind p (step.Look word.Phase) q a refl) f.gates;
+      exact = exact_kept p q less exact;
+      tidy = tidy_kept p q less tidy;
+    }
+
+pub finished_idle : (p q : PassState) → p.seat ≡ Host → IsFreeForCycle p → FinishesCycle p q
+    → TalliesAreExact p.table.config p.seen → TalliesAreTidy p.table.config p.seen → IsIdleTurn q
+finished_idle p q host free f exact tidy =
+    let same : q.table.config ≡ p.table.config = same_config p q f.pass in
+    record {
+      seat = ap (λ (r : PassState). r.seat) f.pass ∙ host;
+      phase = f.phase;
+      free = record {
+        decided = ap is_pending_free f.call ∙ free.decided;
+        unplaced = ap (λ (x : Done). has_place x.placing) f.done ∙ free.unplaced;
+        gone = f.gone;
+      };
+      gates =
+          subst (λ (c : Config). none_is_held c.callers (now_of q).words ≡ true) (sym same) f.gates;
+      exact = f.exact exact;
+      tidy = f.tidy tidy;
+    }
+
+-- A cycle that was begun in an idle turn may be finished there.
+pub begun_free : (p q : PassState) → IsFreeForCycle p → BeginsCycle p q → IsFreeForCycle q
+begun_free p q free b =
+    record {
+      decided = ap is_pending_free b.call ∙ free.decided;
+      unplaced = ap (λ (x : Done). has_place x.placing) b.done ∙ free.unplaced;
+      gone = b.gone;
+    }
+
+pub cycle_idle : (p b q : PassState) → IsIdleTurn p → BeginsCycle p b → FinishesCycle b q → IsIdleTurn q
+cycle_idle p b q idle begins finishes =
+    finished_idle b q (ap (λ (r : PassState). r.seat) begins.pass ∙ idle.seat) (begun_free p b idle.free begins)
+    finishes (begins.exact idle.exact) (begins.tidy idle.tidy)

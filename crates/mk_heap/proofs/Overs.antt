@@ -1,0 +1,130 @@
+-- The host says that all is over, and gives its turn back.
+use Rattle.std.proofs.Common.{◌≡◌, ◌⊎◌, ℕ, ◌+◌, ◌/◌, ◌%◌, ◌^◌, ◌≤◌, Bool, true, false, refl, ap, subst, ◌∙◌, inl, inr, arith}
+use Rattle.std.specs.Prelude.{◌&&◌, ◌==◌, count_by}
+use Rattle.std.proofs.lemmas.Bool.{and_from, eq-eqb, ne_eqb}
+use Rattle.std.proofs.lemmas.List.Sums.{count_by-le-length}
+use Rattle.mk_core.specs.declared.events.Seat.{Seat}
+use Rattle.mk_core.specs.declared.events.Seat.TheVariants.{Host}
+use Rattle.mk_core.specs.declared.events.Step.TheVariants as step
+use Rattle.mk_core.specs.Counts.{TalliesAreExact}
+use Rattle.mk_core.specs.Frames.{Steady}
+use Rattle.mk_core.specs.History.{World}
+use Rattle.mk_core.specs.Moments.{Moment, flight_of, none_is_held}
+use Rattle.mk_core.specs.NewPlaces.{is_run_gone}
+use Rattle.mk_core.specs.Ranges.{has_phase}
+use Rattle.mk_core.specs.Readings.{is_in}
+use Rattle.mk_core.specs.TurnConditions.{is_decided, words_held}
+use Rattle.mk_core.specs.Words.{phase_of}
+use Rattle.mk_layout.specs.SettledPages.{IsSettled}
+use Rattle.mk_protocol.proofs.Asked.{give_phase}
+use Rattle.mk_words.specs.States.{PassState, call_of, now_of, world_of}
+use Rattle.mk_words.specs.Steps.{IsEnabledTo}
+use Rattle.mk_words.specs.TurnSteps.{Acts, world_at}
+use Rattle.mk_words.proofs.Made.{made}
+use Rattle.mk_words.proofs.Tallies.{settled_tallies}
+use Rattle.mk_cycle.specs.EngineLaw.{IsAtPhase, IsFreeForCycle}
+use Rattle.mk_cycle.specs.TurnKeeps.{InTurn, KeepsTurn, but_phase}
+use Rattle.mk_cycle.proofs.Allowed.{protocol}
+use Rattle.mk_cycle.proofs.KeptInParts.{free_then, gates_behind}
+use Rattle.mk_cycle.proofs.MayAct.{may_act}
+use Rattle.mk_cycle.proofs.OwnSteps.{keeps_call, keeps_counts, steady_behind}
+use Rattle.mk_heap.specs.Ending.{IsIdleTurn}
+use Rattle.mk_heap.proofs.IdleTurns.{exact_kept, none_held_kept}
+
+over_phase : (n markers : ℕ) → n % 8 ≡ 0 → n / 8 ≡ markers → markers ≤ 8 → (n + 5) % 2 ^ 64 % 8 ≡ 5
+over_phase n markers none high few = omega arith
+
+module _ (p q : PassState) (t : InTurn p) (idle : IsIdleTurn p) (u : InTurn q) (a : Acts p step.Over q) where
+  abbrev w : World
+  w = world_at a.makes
+
+  phase_there : (w.now.words.phase + 5) % 2 ^ 64 % 8 ≡ 5
+  phase_there =
+      let there = (made p step.Over q a.makes t.own u.history).protocol in
+      let low : w.now.words.phase % 8 ≡ 0 = ap (λ (s : Steady). s.phase) a.turn.steady ∙ idle.phase in
+      let few : count_by is_in w.now.seats.markers ≤ 8 =
+      subst (λ (n : ℕ). count_by is_in w.now.seats.markers ≤ n) there.markers
+      (count_by-le-length is_in w.now.seats.markers) in
+      over_phase w.now.words.phase (count_by is_in w.now.seats.markers) low there.high few
+
+  pub over_at_five : IsAtPhase q 5
+  over_at_five = ap (λ (x : World). phase_of x.now.words) a.world ∙ phase_there
+
+  pub over_keeps : KeepsTurn but_phase p q
+  over_keeps =
+      record {
+        call = keeps_call p step.Over q a t.own t.holds u.history (λ n. refl) (λ n. refl) refl;
+        steady = steady_behind p step.Over q a t.own t.holds u.history but_phase (λ x. refl);
+        counts = keeps_counts p step.Over q a t.own t.holds u.history (λ n. refl) refl;
+      }
+
+-- What the host's turn is where it may be given back.
+pub record MayGive (p : PassState) : Type 0 where
+  pub seat : p.seat ≡ Host
+  pub phase : has_phase (phase_of (now_of p).words) step.Give ≡ true
+  pub free : IsFreeForCycle p
+  pub gates : none_is_held p.table.config.callers (now_of p).words ≡ true
+  pub exact : TalliesAreExact p.table.config p.seen
+
+pub give_allowed : (p : PassState) → InTurn p → MayGive p → IsEnabledTo p step.Give
+give_allowed p t may =
+    may_act p step.Give (protocol p t may.free) t.holds may.free.decided refl refl may.gates may.phase
+    (and_from (decided && gone && held) fresh
+    (and_from (decided && gone) held (and_from decided gone rests may.free.gone)
+    (eq-eqb m.words.held (words_held m.words) tallies.0)) (eq-eqb m.words.fresh m.fresh_words tallies.1))
+  where
+    m : Moment
+    m = now_of p
+
+    decided : Bool
+    decided = is_decided (call_of p).stage
+
+    gone : Bool
+    gone = is_run_gone m.words m.seats.holding.freed
+
+    held : Bool
+    held = m.words.held == words_held m.words
+
+    fresh : Bool
+    fresh = m.words.fresh == m.fresh_words
+
+    rests : is_decided (call_of p).stage ≡ true
+    rests = ap (λ (s : Seat). is_decided (flight_of (now_of p) s).stage) may.seat
+
+    not_releasing : (n : ℕ) → (n ≤ 1) ⊎ (n ≡ 5) → (n == 4) ≡ false
+    not_releasing n (inl low) = ne_eqb n 4 (λ four. omega arith)
+    not_releasing n (inr five) = ne_eqb n 4 (λ four. omega arith)
+
+    settled : IsSettled (world_of p)
+    settled =
+        record {
+          releasing = not_releasing (phase_of m.words) (give_phase (phase_of m.words) may.phase);
+          placing = may.free.unplaced;
+          gone = may.free.gone;
+        }
+
+    tallies : ((now_of p).words.held ≡ words_held (now_of p).words) × ((now_of p).words.fresh ≡ (now_of p).fresh_words)
+    tallies = settled_tallies p.table.config p.seen t.history settled may.exact
+
+-- An idle turn may be given back, and one behind the `over`.
+
+pub idle_may_give : (p : PassState) → IsIdleTurn p → MayGive p
+idle_may_give p idle =
+    record {
+      seat = idle.seat;
+      phase = ap (λ (n : ℕ). has_phase n step.Give) idle.phase;
+      free = idle.free;
+      gates = idle.gates;
+      exact = idle.exact;
+    }
+
+pub over_may_give : (p q : PassState) → InTurn p → IsIdleTurn p → InTurn q → Acts p step.Over q → MayGive q
+over_may_give p q t idle u a =
+    let keeps = over_keeps p q t idle u a in
+    record {
+      seat = ap (λ (r : PassState). r.seat) keeps.call.pass ∙ idle.seat;
+      phase = ap (λ (n : ℕ). has_phase n step.Give) (over_at_five p q t idle u a);
+      free = free_then p q keeps.call idle.free;
+      gates = none_held_kept p q keeps.call.pass (gates_behind p step.Over q a refl) idle.gates;
+      exact = exact_kept p q keeps idle.exact;
+    }

@@ -1,0 +1,86 @@
+use Rattle.std.proofs.Common.{◌≡◌, sym, ◌∙◌, ap, subst}
+use Rattle.mk_core.specs.declared.events.Seat.{Seat}
+use Rattle.mk_core.specs.declared.events.Seat.TheVariants.{Host}
+use Rattle.mk_words.specs.Seats.{Has}
+use Rattle.mk_words.specs.States.{PassState}
+use Rattle.mk_cycle.specs.TurnKeeps.{but_phase, whole}
+use Rattle.mk_cycle.proofs.Allowed.{in_turn}
+use Rattle.mk_cycle.proofs.KeptInParts.{free_then, keeps_less}
+use Rattle.mk_heap.proofs.BeforeOver.{taken_overs}
+use Rattle.mk_heap.proofs.IdleTurns.{
+  ends_none,
+  ends_one,
+  exact_kept,
+  finished_idle,
+  fresh_free,
+  look_keeps,
+  looked_idle,
+  none_is_on,
+  phase_found,
+  tidy_kept,
+}
+use Rattle.mk_heap.proofs.MovedHosts.{turn_moves}
+use Rattle.mk_heap.proofs.ending.take_idle_turn.Goals as goal
+
+pub returns-then-found-eq1-clause-takes : goal.returns-then-found-eq1-clause-takes
+returns-then-found-eq1-clause-takes g c =
+    let t = c.take_turn-turn in
+    let o = c.is_in_order-2.ensures in
+    let p : PassState = t.result.pass in
+    let q : PassState = c.look-found.new.self.pass in
+    let turn = in_turn p t.result.op o.own o.turn o.history in
+    let f = c.look-found.ensures.finds in
+    let on = sym (phase_found p q c.look-found.result turn c.is_in_order-3.ensures.history f) ∙ c.if-found-eq1.true in
+    record {
+      taken = p;
+      takes = t.ensures.takes;
+      ends = ends_one p q c.finish_cycle.result.0.pass c.look-found.result f on c.finish_cycle.ensures.law;
+    }
+
+pub returns-then-found-eq1-clause-idle : goal.returns-then-found-eq1-clause-idle
+returns-then-found-eq1-clause-idle g c =
+    let t = c.take_turn-turn in
+    let o = c.is_in_order-2.ensures in
+    let p : PassState = t.result.pass in
+    let q : PassState = c.look-found.new.self.pass in
+    let turn = in_turn p t.result.op o.own o.turn o.history in
+    let seat : p.seat ≡ Host =
+    ap (λ (r : PassState). r.seat) (turn_moves c.args.home p t.ensures.takes).is ∙ c.requires.seat in
+    let free = fresh_free p t.ensures.fresh in
+    let keeps = look_keeps p q turn free c.is_in_order-3.ensures.history c.look-found.ensures.acts in
+    let less = keeps_less whole but_phase p q keeps in
+    finished_idle q c.finish_cycle.result.0.pass (ap (λ (r : PassState). r.seat) keeps.call.pass ∙ seat)
+    (free_then p q keeps.call free) c.finish_cycle.ensures.law
+    (exact_kept p q less t.ensures.exact) (tidy_kept p q less t.ensures.tidy)
+
+pub returns-else-found-eq1-clause-takes : goal.returns-else-found-eq1-clause-takes
+returns-else-found-eq1-clause-takes g c =
+    let t = c.take_turn-turn in
+    let o = c.is_in_order-2.ensures in
+    let p : PassState = t.result.pass in
+    let q : PassState = c.look-found.new.self.pass in
+    let turn = in_turn p t.result.op o.own o.turn o.history in
+    let f = c.look-found.ensures.finds in
+    let host = subst (λ (s : Seat). Has c.args.home.seats s) c.requires.seat c.is_in_order.ensures.own in
+    let before = taken_overs c.args.home p t.ensures.takes host o.history ∙ c.requires.before_over in
+    let none =
+    none_is_on p q c.look-found.result turn t.ensures.fresh before c.is_in_order-3.ensures.history f
+    c.if-found-eq1.false in
+    record { taken = p; takes = t.ensures.takes; ends = ends_none p q c.look-found.result f none }
+
+pub returns-else-found-eq1-clause-idle : goal.returns-else-found-eq1-clause-idle
+returns-else-found-eq1-clause-idle g c =
+    let t = c.take_turn-turn in
+    let o = c.is_in_order-2.ensures in
+    let p : PassState = t.result.pass in
+    let q : PassState = c.look-found.new.self.pass in
+    let turn = in_turn p t.result.op o.own o.turn o.history in
+    let history = c.is_in_order-3.ensures.history in
+    let host = subst (λ (s : Seat). Has c.args.home.seats s) c.requires.seat c.is_in_order.ensures.own in
+    let before = taken_overs c.args.home p t.ensures.takes host o.history ∙ c.requires.before_over in
+    let none =
+    none_is_on p q c.look-found.result turn t.ensures.fresh before history c.look-found.ensures.finds
+    c.if-found-eq1.false in
+    let seat : p.seat ≡ Host =
+    ap (λ (r : PassState). r.seat) (turn_moves c.args.home p t.ensures.takes).is ∙ c.requires.seat in
+    looked_idle p q seat turn t.ensures.fresh history c.look-found.ensures.acts none t.ensures.exact t.ensures.tidy

@@ -1,0 +1,59 @@
+use Rattle.std.proofs.Common.{refl, sym, ◌∙◌, arith}
+use Rattle.mk_core.specs.declared.events.Step.TheVariants as step
+use Rattle.mk_words.specs.States.{PassState}
+use Rattle.mk_cycle.specs.EngineLaw.{IsAtPhase}
+use Rattle.mk_cycle.proofs.Allowed.{in_turn}
+use Rattle.mk_heap.specs.Ending.{IsIdleTurn}
+use Rattle.mk_heap.specs.Hosts.{HostState}
+use Rattle.mk_heap.proofs.BeforeOver.{hosts_seat, none_by_phase, step_overs}
+use Rattle.mk_heap.proofs.HostsKept.{home_host, home_is}
+use Rattle.mk_heap.proofs.IdleTurns.{cycle_idle}
+use Rattle.mk_heap.proofs.MovedHosts.{begin_moves, finish_moves, idle_moves, moved_is_host, moves_more}
+use Rattle.mk_heap.proofs.Overs.{give_allowed, idle_may_give}
+use Rattle.mk_heap.proofs.Telling.{given_no_turn}
+use Rattle.mk_heap.proofs.hosts.Host.cycle.Goals as goal
+
+pub give-back-requires-clause-enabled : goal.give-back-requires-clause-enabled
+give-back-requires-clause-enabled g c =
+    let o = c.is_in_order-2.ensures in
+    let p : PassState = c.take_idle_turn-turn.result.pass in
+    let b : PassState = c.begin_cycle.new.turn.pass in
+    let r : PassState = c.finish_cycle-turn.result.0.pass in
+    let idle : IsIdleTurn r =
+    cycle_idle p b r c.take_idle_turn-turn.ensures.idle c.begin_cycle.ensures.law c.finish_cycle-turn.ensures.law in
+    give_allowed r (in_turn r c.finish_cycle-turn.result.0.op o.own o.turn o.history) (idle_may_give r idle)
+
+pub invariant_of-self : goal.invariant_of-self
+invariant_of-self g c =
+    let s = c.self.inside in
+    let h : HostState = home_host c.in-Some.home s.callers s.markers in
+    let is =
+    home_is s.pass c.in-Some.home s.callers s.markers (sym c.take.ensures.value ∙ c.in-Some.is) c.self.invariant in
+    let p : PassState = c.take_idle_turn-turn.result.pass in
+    let b : PassState = c.begin_cycle.new.turn.pass in
+    let r : PassState = c.finish_cycle-turn.result.0.pass in
+    let q : PassState = c.give-back.result in
+    let idle = idle_moves h.pass p c.take_idle_turn-turn.ensures.takes in
+    let begun = begin_moves h.pass p b idle c.begin_cycle.ensures.law in
+    let ended = finish_moves h.pass b r begun c.finish_cycle-turn.ensures.law in
+    moved_is_host h q is (moves_more h.pass r q step.Give ended c.give-back.ensures.acts.makes)
+    c.is_in_order-3.ensures.history (given_no_turn r q c.give-back.ensures.acts)
+
+pub returns-clause-overs : goal.returns-clause-overs
+returns-clause-overs g c =
+    let s = c.self.inside in
+    let h : HostState = home_host c.in-Some.home s.callers s.markers in
+    let is =
+    home_is s.pass c.in-Some.home s.callers s.markers (sym c.take.ensures.value ∙ c.in-Some.is) c.self.invariant in
+    let p : PassState = c.take_idle_turn-turn.result.pass in
+    let b : PassState = c.begin_cycle.new.turn.pass in
+    let r : PassState = c.finish_cycle-turn.result.0.pass in
+    let idle = idle_moves h.pass p c.take_idle_turn-turn.ensures.takes in
+    let begun = begin_moves h.pass p b idle c.begin_cycle.ensures.law in
+    let ended = finish_moves h.pass b r begun c.finish_cycle-turn.ensures.law in
+    let none : IsAtPhase r 0 = c.finish_cycle-turn.ensures.law.phase in
+    step_overs r c.give-back.result step.Give c.give-back.ensures.acts.makes
+    (hosts_seat h r is c.is_in_order.ensures.own ended) c.is_in_order-3.ensures.history refl
+    ∙ none_by_phase r.table.config r.seen c.is_in_order-2.ensures.history
+    (λ (five : IsAtPhase r 5). absurd (omega arith))
+    ∙ sym c.requires.before_over

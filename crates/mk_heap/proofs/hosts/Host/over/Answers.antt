@@ -1,0 +1,46 @@
+use Rattle.std.proofs.Common.{sym, ◌∙◌}
+use Rattle.mk_core.specs.declared.events.Step.TheVariants as step
+use Rattle.mk_words.specs.States.{PassState}
+use Rattle.mk_cycle.proofs.Allowed.{in_turn}
+use Rattle.mk_heap.specs.Hosts.{HostState}
+use Rattle.mk_heap.proofs.HostsKept.{home_host, home_is}
+use Rattle.mk_heap.proofs.IdleTurns.{tidy_kept}
+use Rattle.mk_heap.proofs.MovedHosts.{idle_moves, moved_is_host, moves_more}
+use Rattle.mk_heap.proofs.Overs.{give_allowed, over_keeps, over_may_give}
+use Rattle.mk_heap.proofs.Telling.{given_no_turn}
+use Rattle.mk_heap.proofs.hosts.Host.over.Goals as goal
+
+pub give-back-requires-clause-enabled : goal.give-back-requires-clause-enabled
+give-back-requires-clause-enabled g c =
+    let o = c.is_in_order.ensures in
+    let v = c.is_in_order-2.ensures in
+    let p : PassState = c.take_idle_turn-turn.result.pass in
+    let q : PassState = c.over.new.self.pass in
+    let t = in_turn p c.take_idle_turn-turn.result.op o.own o.turn o.history in
+    let u = in_turn q c.over.new.self.op v.own v.turn v.history in
+    give_allowed q u (over_may_give p q t c.take_idle_turn-turn.ensures.idle u c.over.ensures.acts)
+
+pub give-back-requires-clause-tidy : goal.give-back-requires-clause-tidy
+give-back-requires-clause-tidy g c =
+    let o = c.is_in_order.ensures in
+    let v = c.is_in_order-2.ensures in
+    let p : PassState = c.take_idle_turn-turn.result.pass in
+    let q : PassState = c.over.new.self.pass in
+    let idle = c.take_idle_turn-turn.ensures.idle in
+    let t = in_turn p c.take_idle_turn-turn.result.op o.own o.turn o.history in
+    let u = in_turn q c.over.new.self.op v.own v.turn v.history in
+    tidy_kept p q (over_keeps p q t idle u c.over.ensures.acts) idle.tidy
+
+pub invariant_of-self : goal.invariant_of-self
+invariant_of-self g c =
+    let s = c.self.inside in
+    let h : HostState = home_host c.in-Some.home s.callers s.markers in
+    let is =
+    home_is s.pass c.in-Some.home s.callers s.markers (sym c.take.ensures.value ∙ c.in-Some.is) c.self.invariant in
+    let p : PassState = c.take_idle_turn-turn.result.pass in
+    let q : PassState = c.over.new.self.pass in
+    let r : PassState = c.give-back.result in
+    let idle = idle_moves h.pass p c.take_idle_turn-turn.ensures.takes in
+    let said = moves_more h.pass p q step.Over idle c.over.ensures.acts.makes in
+    moved_is_host h r is (moves_more h.pass q r step.Give said c.give-back.ensures.acts.makes)
+    c.is_in_order-3.ensures.history (given_no_turn q r c.give-back.ensures.acts)

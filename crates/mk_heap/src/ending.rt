@@ -1,0 +1,110 @@
+//! The host's cycles, and the end of a heap.
+ghost use Rattle.std.specs.Prelude.{◌≡◌, None, length, false};
+ghost use Rattle.mk_core.specs.declared.events.Seat.TheVariants as seat;
+ghost use Rattle.mk_core.specs.declared.events.Step.TheVariants as step;
+ghost use Rattle.mk_words.specs.Seats.{has_over};
+ghost use Rattle.mk_words.specs.Steps.{IsEnabledTo};
+ghost use Rattle.mk_heap.specs.Ending.{CallersAreJoined, IsIdleTurn, MakesCycle, SaysOver, TakesIdleTurn};
+ghost use Rattle.mk_heap.specs.Hosts.{with_seen};
+
+use crate::heaps::Heap;
+use crate::hosts::Host;
+use mk_core::Word;
+use mk_cycle::{Bench, Engine, begin_cycle, finish_cycle};
+use mk_waiting::take_turn;
+use mk_words::{Pass, Turn, Words};
+use std::sync::Wait;
+use std::thread::Threads;
+
+impl Host {
+    /// Finishes a cycle that is on, and says to the markers that all is over. No caller is made behind it.
+    pub fn over<E: Engine, R: Threads + Wait + Sync>(
+        &mut self,
+        rt: &R,
+        heap: &Heap,
+        bench: &mut Bench<E>,
+    )
+        requires one_table { self.old.pass.table ≡ heap.now }
+        requires made_for { E.made_for bench.old.engine ≡ heap.now.config.pages }
+        requires book { length bench.old.book ≡ heap.now.config.pages }
+        requires joined { CallersAreJoined self.old }
+        requires before_over { has_over self.old.pass.seen ≡ false }
+        ensures made_for { E.made_for bench.new.engine ≡ E.made_for bench.old.engine }
+        ensures book { length bench.new.book ≡ length bench.old.book }
+        ensures host { self.new ≡ with_seen self.old self.new.pass.seen }
+        ensures over { SaysOver self.old.pass self.new.pass }
+    {
+        let words = &heap.words;
+        let Some(home) = self.pass.take() else {
+            unreachable!()
+        };
+        let mut turn = take_idle_turn(rt, words, home, bench);
+        turn.is_in_order();
+        turn.over(words);
+        turn.is_in_order();
+        let back = turn.give(words);
+        back.is_in_order();
+        self.pass = Some(back);
+    }
+
+    /// Makes one cycle, when a cycle that is on is finished.
+    pub fn cycle<E: Engine, R: Threads + Wait + Sync>(
+        &mut self,
+        rt: &R,
+        heap: &Heap,
+        bench: &mut Bench<E>,
+    )
+        requires one_table { self.old.pass.table ≡ heap.now }
+        requires made_for { E.made_for bench.old.engine ≡ heap.now.config.pages }
+        requires book { length bench.old.book ≡ heap.now.config.pages }
+        requires before_over { has_over self.old.pass.seen ≡ false }
+        ensures made_for { E.made_for bench.new.engine ≡ E.made_for bench.old.engine }
+        ensures book { length bench.new.book ≡ length bench.old.book }
+        ensures host { self.new ≡ with_seen self.old self.new.pass.seen }
+        ensures cycle { MakesCycle self.old.pass self.new.pass }
+        ensures overs { has_over self.new.pass.seen ≡ has_over self.old.pass.seen }
+    {
+        let words = &heap.words;
+        let Some(home) = self.pass.take() else {
+            unreachable!()
+        };
+        home.is_in_order();
+        let mut turn = take_idle_turn(rt, words, home, bench);
+        begin_cycle(rt, words, &mut turn, bench);
+        let (turn, _) = finish_cycle(rt, words, turn, bench);
+        turn.is_in_order();
+        let back = turn.give(words);
+        back.is_in_order();
+        self.pass = Some(back);
+    }
+}
+
+/// Takes the host's turn, and finishes a cycle that is on.
+fn take_idle_turn<E: Engine, R: Threads + Wait + Sync>(
+    rt: &R,
+    words: &Words,
+    home: Pass,
+    bench: &mut Bench<E>,
+) -> Turn
+    requires one_table { home.table ≡ words.now }
+    requires made_for { E.made_for bench.old.engine ≡ words.now.config.pages }
+    requires book { length bench.old.book ≡ words.now.config.pages }
+    requires seat { home.seat ≡ seat.Host }
+    requires enabled { IsEnabledTo home (step.Take None) }
+    requires before_over { has_over home.seen ≡ false }
+    ensures made_for { E.made_for bench.new.engine ≡ E.made_for bench.old.engine }
+    ensures book { length bench.new.book ≡ length bench.old.book }
+    ensures takes { TakesIdleTurn home result.pass }
+    ensures idle { IsIdleTurn result.pass }
+{
+    home.is_in_order();
+    let mut turn = take_turn(rt, words, home, None);
+    turn.is_in_order();
+    let found = turn.look(words, Word::Phase);
+    turn.is_in_order();
+    if found % 8 == 1 {
+        finish_cycle(rt, words, turn, bench).0
+    } else {
+        turn
+    }
+}

@@ -1,0 +1,66 @@
+-- A run is unmapped and wiped, and then the gates are opened.
+use Rattle.std.proofs.Common.{◌≡◌, ℕ, ◌<◌, Bool, true, false, [], refl, sym, ◌∙◌, ap, subst}
+use Rattle.std.specs.Prelude.{◌||◌, not}
+use Rattle.mk_core.specs.declared.seats.RunPages.{RunPages}
+use Rattle.mk_core.specs.Frames.{Steady}
+use Rattle.mk_core.specs.Moments.{is_held, is_number_of, others_are_held}
+use Rattle.mk_core.specs.NewPlaces.{is_run_gone}
+use Rattle.mk_frames.proofs.Tests.{all_below_from}
+use Rattle.mk_words.specs.States.{PassState, WordsState, now_of, world_of}
+use Rattle.mk_objects.specs.Deciding.{ClearsRun, is_following}
+use Rattle.mk_objects.specs.FreeParts.{HasGates, RunIsUnmapped, RunIsWiped, SetsGates, Unmaps, Wipes, all_others}
+use Rattle.mk_objects.specs.FreeParts.{is_clearing, is_settling, no_gate}
+use Rattle.mk_objects.proofs.DecidedFrees.{Stays, clearing_follows, gates_stay, settling_follows, stays_then}
+use Rattle.mk_objects.proofs.DecidedFrees.{unmaps_stay, wipes_stay}
+use Rattle.mk_objects.proofs.ReachedParts.{reached_world, same_kinds}
+
+-- Where the others' gates are held, all but the own one are.
+pub stopped_by : (p : PassState)
+    → ((j : ℕ) → j < p.table.config.callers → is_held (now_of p).words j ≡ all_others p.seat j)
+    → others_are_held p.table.config.callers (now_of p).words p.seat ≡ true
+stopped_by p held =
+    all_below_from p.table.config.callers (λ j. is_number_of p.seat j || is_held (now_of p).words j)
+    (λ j lt. ap (λ b. is_number_of p.seat j || b) (held j lt) ∙ either (is_number_of p.seat j))
+  where
+    either : (b : Bool) → (b || not b) ≡ true
+    either true = refl
+    either false = refl
+
+-- what each part leaves
+
+unmapped_now : (p q : PassState) (run : RunPages) → Unmaps p run q → RunIsUnmapped p.seat run (world_of p) (world_of q)
+unmapped_now p q run a = reached_world is_clearing p q (RunIsUnmapped p.seat run (world_of p)) [] a
+
+wiped_now : (p q : PassState) (run : RunPages) → Wipes p run q → RunIsWiped p.seat run (world_of p) (world_of q)
+wiped_now p q run a = reached_world is_clearing p q (RunIsWiped p.seat run (world_of p)) [] a
+
+pub unmapped_held : (p q : PassState) (run : RunPages) → Unmaps p run q
+    → ((j : ℕ) → j < p.table.config.callers → is_held (now_of p).words j ≡ all_others p.seat j)
+    → (j : ℕ) → j < q.table.config.callers → is_held (now_of q).words j ≡ all_others q.seat j
+unmapped_held p q run a held =
+    subst (λ (x : PassState). (j : ℕ) → j < x.table.config.callers → is_held (now_of q).words j ≡ all_others x.seat j)
+    (sym a.same)
+    (λ j lt. (unmapped_now p q run a).changes.gates j ∙ held j lt)
+
+-- and all
+pub clears : (p a b q : PassState) (run : RunPages) → Unmaps p run a → Wipes a run b → SetsGates is_settling b no_gate q
+    → is_run_gone (now_of q).words (now_of q).seats.holding.freed ≡ true → ClearsRun p q
+clears p a b q run unmaps wipes opens gone =
+    let one = unmapped_now p a run unmaps in
+    let two = wiped_now a b run wipes in
+    let three = reached_world is_settling b q (HasGates b.seat b.table.config.callers no_gate (world_of b)) [] opens in
+    let cleared : Stays is_clearing p b =
+    stays_then is_clearing is_clearing is_clearing (same_kinds is_clearing) (same_kinds is_clearing) p a b
+    (unmaps_stay p a run unmaps) (wipes_stay a b run wipes) in
+    let table : b.table ≡ p.table = ap (λ (x : PassState). x.table) cleared.same in
+    record {
+      stays = stays_then is_clearing is_settling is_following clearing_follows settling_follows p b q cleared
+          (gates_stay is_settling b q no_gate opens);
+      held = ap (λ (x : Steady). x.held) three.but_gates.steady ∙ ap (λ (x : Steady). x.held) two.changes.steady
+          ∙ ap (λ (x : Steady). x.held) one.changes.steady;
+      fresh = ap (λ (x : Steady). x.fresh) three.but_gates.steady ∙ ap (λ (x : Steady). x.fresh) two.changes.steady
+          ∙ ap (λ (x : Steady). x.fresh) one.changes.steady;
+      gone = gone;
+      gates = subst (λ (t : WordsState). (j : ℕ) → j < t.config.callers → is_held (now_of q).words j ≡ false) table
+          (λ j lt. three.held j lt);
+    }

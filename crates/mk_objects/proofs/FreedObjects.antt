@@ -1,0 +1,215 @@
+-- The object of a Free: the allocation that its register points into, by what the layout and the images say of it.
+use Rattle.std.proofs.Common.{◌≡◌, ◌≢◌, ℕ, ◌+◌, ◌*◌, ◌/◌, ◌<◌, ◌≤◌, true, false, List, length, map, refl, sym, ◌∙◌}
+use Rattle.std.proofs.Common.{ap, subst, inl, inr, arith}
+use Rattle.std.specs.Prelude.{◌==◌, not, Some, slice_set}
+use Rattle.std.proofs.lemmas.Bool.{and_parts, cases_Bool, cases_lt, cond-false, eqb-true, false_from_ne_true}
+use Rattle.std.proofs.lemmas.Bool.{not-true, true≢false}
+use Rattle.std.proofs.lemmas.List.{get_or_past}
+use Rattle.mk_never.specs.declared.values.Value.TheVariants.{Ptr}
+use Rattle.mk_never.specs.NeverHeap.{register_at}
+use Rattle.mk_never.specs.Types.{is_large, kinds_of}
+use Rattle.mk_geom.specs.declared.addresses.Cell.{Cell}
+use Rattle.mk_geom.specs.Headers.{header_of}
+use Rattle.mk_core.specs.declared.events.Seat.{Seat}
+use Rattle.mk_core.specs.declared.seats.Flight.{Flight}
+use Rattle.mk_core.specs.declared.seats.Object.{Object}
+use Rattle.mk_core.specs.Accesses.{caller_number}
+use Rattle.mk_core.specs.Allocations.{PlacedAllocation, cell_of_allocation, freed_where_it_stands, held_words}
+use Rattle.mk_core.specs.Allocations.{is_mapped, never_granted, placed_at, stands_in, storage_words}
+use Rattle.mk_core.specs.Calls.{p_of}
+use Rattle.mk_core.specs.Cells.{first_word, header_in, heads_run, is_freed, is_unmapped_header, words_under}
+use Rattle.mk_core.specs.History.{IsHistory, never_behind}
+use Rattle.mk_geom.specs.Classes.{class_words_of}
+use Rattle.mk_core.specs.NewPlaces.{class_made, header_made, is_small_object, pages_made, target, unmapped_header}
+use Rattle.mk_core.specs.ObjectHeaders.{IsSized, ShowsPart}
+use Rattle.mk_core.specs.StandingAllocations.{object_placed}
+use Rattle.mk_core.specs.Words.{header_at}
+use Rattle.mk_core.proofs.CellsOfAllocations.{stands_in_its_cell}
+use Rattle.mk_core.proofs.ObjectHeaders.{made_is_mapped, part_heads_run, small_heads_none, unmapped_is_unmapped}
+use Rattle.mk_core.proofs.Sizes.{large_count, large_is_not_small}
+use Rattle.mk_core.proofs.StandingAllocations.{cells_begin, first_page_shows, run_begins, typed_size}
+use Rattle.mk_images.proofs.KnownWorlds.{known_world}
+use Rattle.mk_images.specs.OthersSay.{IsLaidOut, OthersSay}
+use Rattle.mk_invariant.proofs.Histories.{histories_keep_the_invariant}
+use Rattle.mk_invariant.proofs.Joined.{told_to_images}
+use Rattle.mk_words.specs.States.{PassState, call_of, now_of, world_of}
+use Rattle.mk_objects.specs.Placing.{IsOutOfStop}
+use Rattle.mk_objects.specs.Retired.{freed_and_fresh}
+use Rattle.mk_objects.specs.Retiring.{IsFreeAt, loaded_free, value_of}
+use Rattle.mk_objects.proofs.FoundCells.{points_now, target_of}
+use Rattle.mk_objects.proofs.FreedTold.{freed_told}
+use Rattle.mk_objects.proofs.HeldFreed.{freed_one, held_part, held_set, large_part, live_part, small_part}
+use Rattle.mk_objects.proofs.LoadedFrees.{loaded_undecided}
+use Rattle.mk_objects.proofs.Looks.{acting_caller}
+use Rattle.mk_objects.proofs.MayAct.{free_is_acting, off_four}
+
+-- The register of the Free has a pointer to this unreleased allocation, whose cell it is.
+pub record IsObjectAt (p : PassState) (r : ℕ) (cell : Cell) : Type 0 where
+  pub number : ℕ
+  pub ty : ℕ
+  pub offset : ℕ
+  pub value : value_of p r ≡ Ptr number ty offset
+  pub unreleased : (placed_at (world_of p).allocations number).released ≡ false
+  pub is : cell_of_allocation p.table.config (placed_at (world_of p).allocations number) ≡ cell
+
+pub object_at : (p : PassState) (r u : ℕ) (cell : Cell) → IsHistory p.table.config p.seen
+    → IsFreeAt p r (loaded_free r u) → (u == 0) ≡ false
+    → target p.table.config.pages (now_of p).words (call_of p) ≡ Some cell → IsObjectAt p r cell
+object_at p r u cell h at some is =
+    let free = loaded_undecided p r u at some in
+    let caller = acting_caller p (free_is_acting (call_of p) free) in
+    let t = points_now p caller.number caller.is h free in
+    let own : Cell = cell_of_allocation p.table.config (placed_at (world_of p).allocations t.number) in
+    let there : Some own ≡ Some cell =
+    sym (target_of p.table.config.pages (now_of p).words (call_of p) own free t.cell) ∙ is in
+    record {
+      number = t.number;
+      ty = t.ty;
+      offset = t.offset;
+      value = ap (λ (s : Seat). register_at (never_behind p.table.config p.seen) (caller_number s) r) caller.is
+          ∙ ap (λ (f : Flight). register_at (never_behind p.table.config p.seen) caller.number (p_of f.op))
+          (sym at.call) ∙ t.value;
+      unreleased = t.unreleased;
+      is = cc there;
+    }
+
+module _ (p : PassState) (r : ℕ) (cell : Cell) (h : IsHistory p.table.config p.seen) (x : IsObjectAt p r cell) where
+  abbrev pub own : PlacedAllocation
+  own = placed_at (world_of p).allocations x.number
+
+  abbrev pub object : Object
+  object = object_placed p.table.config own
+
+  others : OthersSay p.table.config (world_of p)
+  others =
+      told_to_images p.table.config (world_of p) (never_behind p.table.config p.seen)
+      (known_world p.table.config p.seen h.within_limits h.enabled)
+      (histories_keep_the_invariant p.table.config p.seen h)
+
+  laid : IsLaidOut p.table.config (now_of p).words (now_of p).seats.holding.freed own
+  laid = others.laid_out x.number x.unreleased
+
+  sized : IsSized object
+  sized = typed_size p.table.config own h.within_limits laid.stands.typed
+
+  pub its_freed : IsOutOfStop (now_of p) → is_freed (now_of p).words cell ≡ own.freed
+  its_freed low =
+      ap (λ (y : Cell). is_freed (now_of p).words y) (sym x.is)
+      ∙ freed_told p.table.config p.seen x.number h (off_four (now_of p) low) x.unreleased
+
+  pub its_words : words_under (header_in (now_of p).words cell.page) ≡ storage_words p.table.config own
+  its_words =
+      ap (λ (y : Cell). words_under (header_in (now_of p).words y.page)) (sym x.is)
+      ∙ (cells_begin p.table.config (now_of p).words own h.within_limits laid.stands laid.headers).1
+
+  part : ShowsPart object 0 (header_in (now_of p).words cell.page)
+  part =
+      subst (λ (y : Cell). ShowsPart object 0 (header_in (now_of p).words y.page)) x.is
+      (first_page_shows p.table.config (now_of p).words own sized laid.headers)
+
+  pub its_size : heads_run (header_in (now_of p).words cell.page) ≡ is_large (kinds_of p.table.config.types own.ty)
+  its_size = elim (cases_Bool (is_small_object object)) [
+    | inl small ↦
+        (small_heads_none object 0 (header_in (now_of p).words cell.page) part small).0
+        ∙ sym (large_is_not_small (kinds_of p.table.config.types own.ty) ∙ ap not small)
+    | inr large ↦
+        part_heads_run object (header_in (now_of p).words cell.page) part large
+        ∙ sym (large_is_not_small (kinds_of p.table.config.types own.ty) ∙ ap not large)
+  ]
+
+  stands : stands_in (now_of p).words cell own ≡ true
+  stands =
+      ap (λ (y : Cell). stands_in (now_of p).words y own) (sym x.is)
+      ∙ stands_in_its_cell p.table.config (now_of p).words own h.within_limits laid.stands laid.headers
+
+  -- None but it stands in its cell.
+  alone : (i : ℕ) → i ≢ x.number → stands_in (now_of p).words cell (placed_at (world_of p).allocations i) ≡ false
+  alone i ne = false_from_ne_true _ (λ there.
+      let a : PlacedAllocation = placed_at (world_of p).allocations i in
+      let one = and_parts (not a.released) (a.base == first_word (now_of p).words cell) there in
+      let two = and_parts (not own.released) (own.base == first_word (now_of p).words cell) stands in
+      others.apart i x.number (not-true a.released one.0) x.unreleased ne
+      (eqb-true a.base (first_word (now_of p).words cell) one.1
+      ∙ sym (eqb-true own.base (first_word (now_of p).words cell) two.1)))
+
+  pub granted : x.number < length (world_of p).allocations
+  granted = elim (cases_lt x.number (length (world_of p).allocations)) [
+    | inl lt ↦ lt
+    | inr past ↦
+        let none = get_or_past (world_of p).allocations x.number never_granted past in
+        absurd (true≢false (ap (λ (y : PlacedAllocation). y.released) (sym none) ∙ x.unreleased))
+  ]
+
+  pub it_is_freed : map (freed_where_it_stands (now_of p).words (Some cell)) (world_of p).allocations
+      ≡ slice_set (world_of p).allocations x.number (freed_and_fresh own)
+  it_is_freed = freed_one (now_of p).words cell (world_of p).allocations x.number granted stands alone
+
+  -- what is held behind it
+
+  held_behind : held_words p.table.config (map (freed_where_it_stands (now_of p).words (Some cell))
+      (world_of p).allocations) + held_part p.table.config own
+      ≡ held_words p.table.config (world_of p).allocations + held_part p.table.config (freed_and_fresh own)
+  held_behind =
+      ap (λ (xs : List PlacedAllocation). held_words p.table.config xs + held_part p.table.config own) it_is_freed
+      ∙ held_set p.table.config (world_of p).allocations x.number (freed_and_fresh own) granted
+
+  pub small_held : heads_run (header_in (now_of p).words cell.page) ≡ false
+      → held_words p.table.config (map (freed_where_it_stands (now_of p).words (Some cell)) (world_of p).allocations)
+      ≡ held_words p.table.config (world_of p).allocations
+  small_held small =
+      let same = small_part p.table.config own (sym its_size ∙ small) in
+      let behind = held_behind in
+      omega arith
+
+  pub large_held : heads_run (header_in (now_of p).words cell.page) ≡ true → own.freed ≡ false
+      → held_words p.table.config (map (freed_where_it_stands (now_of p).words (Some cell)) (world_of p).allocations)
+      + words_under (header_in (now_of p).words cell.page)
+      ≡ held_words p.table.config (world_of p).allocations
+  large_held large live =
+      let none = large_part p.table.config own (sym its_size ∙ large) in
+      let some = live_part p.table.config own x.unreleased live in
+      let size = its_words in
+      let behind = held_behind in
+      omega arith
+
+  -- the pages of a large one
+
+  not_small : heads_run (header_in (now_of p).words cell.page) ≡ true → is_small_object object ≡ false
+  not_small large = false_from_ne_true (is_small_object object) (λ small.
+      true≢false (sym large ∙ (small_heads_none object 0 (header_in (now_of p).words cell.page) part small).0))
+
+  pub record HasRun (count : ℕ) : Type 0 where
+    pub some : 1 ≤ count
+    pub few : count ≤ 64
+    pub within : cell.page + count ≤ p.table.config.pages
+    pub mapped : (d : ℕ) → d < count → header_at (now_of p).words (cell.page + d) ≢ unmapped_header count d
+
+  pub its_run : (count : ℕ) → heads_run (header_in (now_of p).words cell.page) ≡ true → own.freed ≡ false
+      → 64 * count ≡ words_under (header_in (now_of p).words cell.page) → HasRun count
+  its_run count large live words =
+      let small = not_small large in
+      let size : storage_words p.table.config own ≡ 64 * pages_made object =
+      cond-false (is_small_object object) (class_words_of (class_made object)) (64 * pages_made object) small in
+      let all : count ≡ pages_made object = omega (arith, words, its_words, size) in
+      let range = large_count object sized small in
+      let begins = run_begins object own.base small laid.stands.begins in
+      let first = begins.1 in
+      let ends = laid.stands.within in
+      let page : own.base / 64 ≡ cell.page = ap (λ (y : Cell). y.page) x.is in
+      let low = range.0 in
+      let high = range.1 in
+      record {
+        some = omega arith;
+        few = omega arith;
+        within = omega arith;
+        mapped = λ d lt e.
+            let near : d < pages_made object = omega arith in
+            let made : header_at (now_of p).words (cell.page + d) ≡ header_made object d =
+            ap (λ i. header_at (now_of p).words (i + d)) (sym page)
+            ∙ laid.mapped (live_mapped own x.unreleased live) d near in
+            true≢false (sym (unmapped_is_unmapped count d (omega arith, omega arith) lt)
+            ∙ ap (λ (n : ℕ). is_unmapped_header (header_of n)) (sym e ∙ made) ∙ made_is_mapped object d sized near);
+      }
+    where
+      live_mapped : (a : PlacedAllocation) → a.released ≡ false → a.freed ≡ false → is_mapped p.table.config a ≡ true
+      live_mapped a unreleased live = rw (unreleased, live) refl

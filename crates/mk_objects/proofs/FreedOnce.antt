@@ -1,0 +1,274 @@
+-- Of the events of a Free's turn one frees its object: a `quar` of its own.
+use Rattle.std.proofs.Common.{◌≡◌, Bool, true, false, List, [], ◌∷◌, ◌++◌, refl, sym, ◌∙◌, ap, subst, append-nil}
+use Rattle.std.proofs.Common.{append_assoc, inl, inr, arith}
+use Rattle.std.proofs.lemmas.Bool.{cases_Bool, true≢false}
+use Rattle.mk_core.specs.declared.config.Config.{Config}
+use Rattle.mk_core.specs.declared.events.Event.{Event}
+use Rattle.mk_core.specs.declared.events.Seat.{Seat}
+use Rattle.mk_core.specs.declared.events.Step.{Step}
+use Rattle.mk_core.specs.declared.events.Step.TheVariants as step
+use Rattle.mk_core.specs.declared.seats.Flight.{Flight}
+use Rattle.mk_core.specs.Allocations.{PlacedAllocation, unreleased_storage}
+use Rattle.mk_core.specs.Counts.{decides_freed}
+use Rattle.mk_core.specs.Growing.{is_one_of}
+use Rattle.mk_core.specs.History.{IsHistory, World, left}
+use Rattle.mk_core.specs.Moments.{Moment, flight_of}
+use Rattle.mk_core.specs.Readings.{Holds}
+use Rattle.mk_core.proofs.HistoryParts.{earlier_part_is_history}
+use Rattle.mk_protocol.proofs.Actors.{is_holders}
+use Rattle.mk_protocol.proofs.Frames.{other_seat}
+use Rattle.mk_protocol.proofs.Known.{holds_turn}
+use Rattle.mk_protocol.proofs.Orderly.{same_holder}
+use Rattle.mk_protocol.proofs.OrderlyLists.{actor_of}
+use Rattle.mk_protocol.proofs.Views.{view_of}
+use Rattle.mk_frames.proofs.Holders.{acts_as_holder}
+use Rattle.mk_frames.proofs.LastEvents.{comes_last, stands}
+use Rattle.mk_turns.specs.Doing.{Does}
+use Rattle.mk_words.specs.States.{PassState, WordsState, event_of, now_of, world_of}
+use Rattle.mk_words.specs.TurnSteps.{turn_stays}
+use Rattle.mk_objects.specs.Dues.{FreesOnce, FreesOnly, IsOverQuarter, event_frees}
+use Rattle.mk_objects.specs.Retired.{IsDueSince}
+use Rattle.mk_objects.specs.Unchanged.{IsAsLeft}
+use Rattle.mk_objects.proofs.ListParts.{in_parts, none_behind, one_behind}
+use Rattle.mk_objects.proofs.Reaching.{MadeIn}
+use Rattle.mk_objects.proofs.TurnEvents.{Another, ComesBy, KeptInTurn, Own, along_others, along_turn}
+
+abbrev pub is_quar : Step → Bool
+is_quar (step.Quar p v) = true
+is_quar _ = false
+
+frees_none : (c : Config) (m : Moment) (f : Flight) (x : Step) → is_quar x ≡ false → decides_freed c m f x ≡ false
+frees_none c m f (step.Quar p v) h = cc
+frees_none c m f _ h = refl
+
+quar_is_holders : (x : Step) → is_quar x ≡ true → is_holders x ≡ true
+quar_is_holders (step.Quar p v) h = refl
+quar_is_holders _ h = cc
+
+-- Only the turn's holder frees.
+others_free_none : (c : Config) (s : Seat) (es : List Event) (e : Event) → IsHistory c (es ++ e ∷ [])
+    → Holds c (left c es).now s
+    → is_one_of (s ∷ []) e.seat ≡ false → is_quar e.step ≡ false
+others_free_none c s es e h holds other = elim (cases_Bool (is_quar e.step)) [
+  | inr other_kind ↦ other_kind
+  | inl same_kind ↦
+      let last = comes_last c es e h in
+      let m : Moment = (left c es).now in
+      let orderly = (stands c es last.before).known.now.orderly in
+      absurd (other_seat s e.seat other (same_holder c (view_of m) e.seat s orderly
+      (acts_as_holder c m e.seat e.step (actor_of c m e.seat e.step orderly last.meets)
+      (quar_is_holders e.step same_kind))
+      (holds_turn c m s orderly holds)))
+]
+
+-- nothing behind a list
+frees_at_once : (c : Config) (seen : List Event) (xs : List PlacedAllocation) → FreesOnly c seen xs seen
+frees_at_once c seen xs before e behind is frees = absurd (none_behind seen before e behind is)
+
+-- one event more
+frees_more : (c : Config) (seen es : List Event) (xs : List PlacedAllocation) (e : Event) → FreesOnly c seen xs es
+    → (event_frees c es e ≡ true → (left c (es ++ e ∷ [])).allocations ≡ xs) → FreesOnly c seen xs (es ++ e ∷ [])
+frees_more c seen es xs e only last before x behind is frees =
+    elim (in_parts es (e ∷ []) (seen ++ before) x behind is) [
+      | inl here ↦ only before x here.rest here.is frees
+      | inr there ↦
+          let one = one_behind es e there.rest x behind (is ∙ ap (λ (l : List Event). l ++ x ∷ behind) there.is) in
+          let front : seen ++ before ≡ es = there.is ∙ ap (λ (l : List Event). es ++ l) one.0 ∙ append-nil es in
+          let it : x ≡ e = sym one.1 in
+          ap (λ (l : List Event). (left c (l ++ x ∷ [])).allocations) front
+          ∙ ap (λ (y : Event). (left c (es ++ y ∷ [])).allocations) it
+          ∙ last (ap (λ (y : Event). event_frees c es y) one.1 ∙ ap (λ (l : List Event). event_frees c l x) (sym front)
+          ∙ frees)
+    ]
+
+-- and a list behind another
+frees_then : (c : Config) (seen more rest : List Event) (xs : List PlacedAllocation)
+    → FreesOnly c seen xs (seen ++ more)
+    → FreesOnly c (seen ++ more) xs (seen ++ more ++ rest) → FreesOnly c seen xs (seen ++ more ++ rest)
+frees_then c seen more rest xs first second before x behind is frees =
+    elim (in_parts (seen ++ more) rest (seen ++ before) x behind is) [
+      | inl here ↦ first before x here.rest here.is frees
+      | inr there ↦
+          ap (λ (l : List Event). (left c (l ++ x ∷ [])).allocations) there.is
+          ∙ second there.rest x behind (is ∙ ap (λ (l : List Event). l ++ x ∷ behind) there.is)
+          (ap (λ (l : List Event). event_frees c l x) (sym there.is) ∙ frees)
+    ]
+
+-- Over a part of the turn without a `quar` none frees.
+pub record FreesNot (kinds : Step → Bool) : Type 0 where
+  pub stays : (x : Step) → kinds x ≡ true → turn_stays x ≡ true
+  pub no_quar : (x : Step) → kinds x ≡ true → is_quar x ≡ false
+
+none_kept : (c : Config) (s : Seat) (kinds : Step → Bool) (seen : List Event) (xs : List PlacedAllocation)
+    → ((x : Step) → kinds x ≡ true → is_quar x ≡ false) → KeptInTurn c s kinds (FreesOnly c seen xs)
+none_kept c s kinds seen xs no_quar es e h holds comes only =
+    frees_more c seen es xs e only (λ frees. absurd (true≢false
+    (sym frees ∙ frees_none c (left c es).now (flight_of (left c es).now e.seat) e.step (kind comes))))
+  where
+    kind : ComesBy s kinds e → is_quar e.step ≡ false
+    kind (Own same of_kind) = no_quar e.step of_kind
+    kind (Another other) = others_free_none c s es e h holds other
+
+none_frees : (kinds : Step → Bool) (p q : PassState) (xs : List PlacedAllocation) → FreesNot kinds → Does kinds p q
+    → IsHistory q.table.config q.seen → Holds p.table.config (now_of p) p.seat
+    → FreesOnly p.table.config p.seen xs q.seen
+none_frees kinds p q xs not d h holds =
+    along_turn p kinds not.stays (FreesOnly p.table.config p.seen xs)
+    (none_kept p.table.config p.seat kinds p.seen xs not.no_quar)
+    q d h holds (frees_at_once p.table.config p.seen xs)
+
+-- The `quar` frees once,
+
+abbrev none : Step → Bool
+none x = false
+
+abbrev FreesAt : PassState → Step → Type 0
+FreesAt p x =
+    (v : World) → IsAsLeft p.seat (world_of p) v → decides_freed p.table.config v.now (flight_of v.now p.seat) x ≡ true
+
+pub frees_now : (p q : PassState) (x : Step) → MadeIn p p.seen x q → IsHistory q.table.config q.seen
+    → Holds p.table.config (now_of p) p.seat
+    → FreesAt p x → FreesOnce p q
+frees_now p q x m h holds frees =
+    let c : Config = p.table.config in
+    let e : Event = event_of p x in
+    let es : List Event = p.seen ++ m.others in
+    let seen : q.seen ≡ es ++ e ∷ [] = ap (λ (y : PassState). y.seen) m.same in
+    let whole : IsHistory c (es ++ e ∷ []) = subst (λ (y : PassState). IsHistory y.table.config y.seen) m.same h in
+    let left_now : (left c (es ++ e ∷ [])).allocations ≡ (world_of q).allocations =
+    ap (λ (y : PassState). (world_of y).allocations) (sym m.same) in
+    let xs : List PlacedAllocation = (world_of q).allocations in
+    let before : FreesOnly c p.seen xs es =
+    along_others p none (λ y (no : none y ≡ true). absurd (true≢false (sym no))) (FreesOnly c p.seen xs)
+    (none_kept c p.seat none p.seen xs (λ y (no : none y ≡ true). absurd (true≢false (sym no)))) m.others
+    (earlier_part_is_history c es (e ∷ []) whole) holds m.of_others (frees_at_once c p.seen xs) in
+    record {
+      before = m.others;
+      event = e;
+      behind = [];
+      is = seen;
+      frees = frees (left c es) m.kept;
+      leaves = left_now;
+      only = subst (λ (l : List Event). FreesOnly c p.seen xs l) (sym seen)
+          (frees_more c p.seen es xs e before (λ f. left_now));
+    }
+
+-- with a part of the turn before it,
+
+record OnceFrom (c : Config) (seen : List Event) (r : PassState) : Type 0 where
+  before : List Event
+  event : Event
+  behind : List Event
+  is : r.seen ≡ seen ++ before ++ event ∷ behind
+  frees : event_frees c (seen ++ before) event ≡ true
+  leaves : (left c (seen ++ before ++ event ∷ [])).allocations ≡ (world_of r).allocations
+  only : FreesOnly c seen (world_of r).allocations r.seen
+
+pub once_behind : (kinds : Step → Bool) (p q r : PassState) → FreesNot kinds → Does kinds p q
+    → IsHistory q.table.config q.seen
+    → Holds p.table.config (now_of p) p.seat → FreesOnce q r → FreesOnce p r
+once_behind kinds p q r not d h holds o =
+    by d.more (ap (λ (x : PassState). x.seen) d.is) (none_frees kinds p q (world_of r).allocations not d h holds)
+    (subst (λ (x : PassState). OnceFrom x.table.config q.seen r) d.is
+    (record {
+      before = o.before;
+      event = o.event;
+      behind = o.behind;
+      is = o.is;
+      frees = o.frees;
+      leaves = o.leaves;
+      only = o.only;
+    }))
+  where
+    by : (more : List Event) → q.seen ≡ p.seen ++ more → FreesOnly p.table.config p.seen (world_of r).allocations q.seen
+        → OnceFrom p.table.config q.seen r → FreesOnce p r
+    by more seen none once =
+        let c : Config = p.table.config in
+        let there : OnceFrom c (p.seen ++ more) r = subst (λ (l : List Event). OnceFrom c l r) seen once in
+        let first : FreesOnly c p.seen (world_of r).allocations (p.seen ++ more) =
+        subst (λ (l : List Event). FreesOnly c p.seen (world_of r).allocations l) seen none in
+        let rest : List Event = there.before ++ there.event ∷ there.behind in
+        let parts : (p.seen ++ more) ++ rest ≡ r.seen =
+        sym (append_assoc (p.seen ++ more) there.before (there.event ∷ there.behind)) ∙ sym there.is in
+        let joined : p.seen ++ (more ++ there.before) ≡ p.seen ++ more ++ there.before =
+        sym (append_assoc p.seen more there.before) in
+        record {
+          before = more ++ there.before;
+          event = there.event;
+          behind = there.behind;
+          is = there.is ∙ ap (λ (l : List Event). l ++ there.event ∷ there.behind) (sym joined);
+          frees = ap (λ (l : List Event). event_frees c l there.event) joined ∙ there.frees;
+          leaves = ap (λ (l : List Event). (left c (l ++ there.event ∷ [])).allocations) joined ∙ there.leaves;
+          only = subst (λ (l : List Event). FreesOnly c p.seen (world_of r).allocations l) parts
+              (frees_then c p.seen more rest (world_of r).allocations first
+              (subst (λ (l : List Event). FreesOnly c (p.seen ++ more) (world_of r).allocations l) (sym parts)
+              there.only));
+        }
+
+-- and with one behind it, which leaves the allocations.
+pub once_before : (kinds : Step → Bool) (p q r : PassState) → FreesNot kinds → FreesOnce p q → p.table ≡ q.table
+    → Does kinds q r
+    → IsHistory r.table.config r.seen → Holds q.table.config (now_of q) q.seat
+    → (world_of r).allocations ≡ (world_of q).allocations
+    → FreesOnce p r
+once_before kinds p q r not o table d h holds same =
+    let c : Config = p.table.config in
+    let xs : List PlacedAllocation = (world_of r).allocations in
+    let seen : r.seen ≡ q.seen ++ d.more = ap (λ (x : PassState). x.seen) d.is in
+    let was : q.seen ≡ p.seen ++ (o.before ++ o.event ∷ o.behind) = o.is
+    ∙ append_assoc p.seen o.before (o.event ∷ o.behind) in
+    let second : FreesOnly c q.seen xs r.seen =
+    subst (λ (t : WordsState). FreesOnly t.config q.seen xs r.seen) (sym table)
+    (none_frees kinds q r xs not d h holds) in
+    record {
+      before = o.before;
+      event = o.event;
+      behind = o.behind ++ d.more;
+      is = seen ∙ ap (λ (l : List Event). l ++ d.more) o.is
+          ∙ append_assoc (p.seen ++ o.before) (o.event ∷ o.behind) d.more;
+      frees = o.frees;
+      leaves = o.leaves ∙ sym same;
+      only = subst (λ (l : List Event). FreesOnly c p.seen xs l)
+          (ap (λ (l : List Event). l ++ d.more) (sym was) ∙ sym seen)
+          (frees_then c p.seen (o.before ++ o.event ∷ o.behind) d.more xs
+          (subst (λ (l : List Event). FreesOnly c p.seen xs l) was
+          (subst (λ (ys : List PlacedAllocation). FreesOnly c p.seen ys q.seen) (sym same) o.only))
+          (subst (λ (l : List Event). FreesOnly c l xs (l ++ d.more)) was
+          (subst (λ (l : List Event). FreesOnly c q.seen xs l) seen second)));
+    }
+
+-- So it is due, where more than a quarter of the held words is fresh now,
+
+pub due_since : (p q : PassState) → FreesOnce p q → IsOverQuarter p.table.config (world_of q).allocations
+    → IsDueSince p q
+due_since p q o quarter =
+    record {
+      before = o.before;
+      event = o.event;
+      behind = o.behind;
+      is = o.is;
+      due = record {
+        decides = o.frees;
+        quarter = subst (λ (xs : List PlacedAllocation). IsOverQuarter p.table.config xs) (sym o.leaves) quarter;
+      };
+    }
+
+-- and only there.
+pub due_then : (p q : PassState) → FreesOnce p q → IsDueSince p q
+    → IsOverQuarter p.table.config (world_of q).allocations
+due_then p q o d =
+    subst (λ (xs : List PlacedAllocation). IsOverQuarter p.table.config xs)
+    (o.only d.before d.event d.behind d.is d.due.decides) d.due.quarter
+
+-- Where none frees, none is due.
+
+no_quarter : (c : Config) → IsOverQuarter c [] → ⊥
+unfolding unreleased_storage
+no_quarter c q = absurd (omega arith)
+
+pub none_due : (kinds : Step → Bool) (p q : PassState) → FreesNot kinds → Does kinds p q
+    → IsHistory q.table.config q.seen → Holds p.table.config (now_of p) p.seat → IsDueSince p q → ⊥
+none_due kinds p q not d h holds x =
+    let free = none_frees kinds p q [] not d h holds x.before x.event x.behind x.is x.due.decides in
+    no_quarter p.table.config (subst (λ (xs : List PlacedAllocation). IsOverQuarter p.table.config xs) free
+    x.due.quarter)

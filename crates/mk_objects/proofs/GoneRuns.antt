@@ -1,0 +1,74 @@
+-- A run that the call has unmapped and wiped stays so, while gates are opened and tallies set.
+use Rattle.std.proofs.Common.{◌≡◌, true, false, List, [], ◌∷◌, ◌++◌, refl, sym, ◌∙◌, ap, subst}
+use Rattle.std.specs.Prelude.{Option, Some, None}
+use Rattle.std.proofs.lemmas.Bool.{true≢false}
+use Rattle.mk_core.specs.declared.config.Config.{Config}
+use Rattle.mk_core.specs.declared.events.Event.{Event}
+use Rattle.mk_core.specs.declared.events.Seat.{Seat}
+use Rattle.mk_core.specs.declared.events.Step.{Step}
+use Rattle.mk_core.specs.declared.events.Step.TheVariants as step
+use Rattle.mk_core.specs.declared.seats.Holding.{Holding}
+use Rattle.mk_core.specs.declared.seats.RunPages.{RunPages}
+use Rattle.mk_core.specs.Growing.{AreOfOthers}
+use Rattle.mk_core.specs.History.{IsHistory, World, left, world_behind}
+use Rattle.mk_core.specs.NewPlaces.{is_run_gone}
+use Rattle.mk_core.specs.Readings.{Holds}
+use Rattle.mk_zeros.specs.ZeroLaws.{stores}
+use Rattle.mk_invariant.proofs.RunWords.{gone_behind}
+use Rattle.mk_frames.proofs.LastEvents.{ComesLast, comes_last, stands}
+use Rattle.mk_frames.proofs.RunsStill.{holder_finds}
+use Rattle.mk_turns.specs.Doing.{Does}
+use Rattle.mk_words.specs.States.{PassState, now_of}
+use Rattle.mk_words.specs.TurnSteps.{turn_stays}
+use Rattle.mk_objects.specs.FreeParts.{is_settling}
+use Rattle.mk_objects.proofs.TurnEvents.{Another, KeptInTurn, Own, along_turn}
+
+abbrev pub IsGoneIn : World → Type 0
+IsGoneIn w = is_run_gone w.now.words w.now.seats.holding.freed ≡ true
+
+settling_stays : (x : Step) → is_settling x ≡ true → turn_stays x ≡ true
+settling_stays (step.Look x) h = refl
+settling_stays (step.Open j) h = refl
+settling_stays (step.Tally n v) h = refl
+settling_stays _ h = cc
+
+settling_stores_none : (x : Step) → is_settling x ≡ true → stores x ≡ false
+settling_stores_none (step.Look x) h = refl
+settling_stores_none (step.Open j) h = refl
+settling_stores_none (step.Tally n v) h = refl
+settling_stores_none _ h = cc
+
+same_run : (c : Config) (w : World) (s : Seat) (x : Step) → is_settling x ≡ true
+    → (world_behind c w (record { seat = s; step = x })).now.seats.holding.freed ≡ w.now.seats.holding.freed
+same_run c w s (step.Look x) h = refl
+same_run c w s (step.Open j) h = refl
+same_run c w s (step.Tally n v) h = refl
+same_run c w s _ h = cc
+
+gone_on : (c : Config) (es : List Event) (e : Event) → IsHistory c es → ComesLast c es e → is_settling e.step ≡ true
+    → (freed : Option RunPages) → (left c es).now.seats.holding.freed ≡ freed → IsGoneIn (left c es)
+    → is_run_gone (world_behind c (left c es) e).now.words freed ≡ true
+gone_on c es e h last kind None is gone = refl
+gone_on c es e h last kind (Some run) is gone =
+    let st = stands c es h in
+    gone_behind c (left c es) st.known st.all.order.laid run is gone e.seat e.step last.meets
+    (λ store. absurd (true≢false (sym store ∙ settling_stores_none e.step kind)))
+
+gone_kept : (c : Config) (s : Seat) → KeptInTurn c s is_settling (λ es. IsGoneIn (left c es))
+unfolding AreOfOthers
+gone_kept c s es e h holds (Own same kind) gone =
+    let last = comes_last c es e h in
+    subst (λ (w : World). IsGoneIn w) (sym last.leaves)
+    (ap (λ (freed : Option RunPages). is_run_gone (world_behind c (left c es) e).now.words freed)
+    (same_run c (left c es) e.seat e.step kind)
+    ∙ gone_on c es e last.before last kind (left c es).now.seats.holding.freed refl gone)
+gone_kept c s es e h holds (Another other) gone =
+    let found = holder_finds c s es (e ∷ []) h (other, tt) holds in
+    ap (λ (y : Holding). is_run_gone (left c (es ++ e ∷ [])).now.words y.freed) found.holding ∙ found.gone gone
+
+pub still_gone : (p q : PassState) → Does is_settling p q → IsHistory q.table.config q.seen
+    → Holds p.table.config (now_of p) p.seat
+    → IsGoneIn (left p.table.config p.seen) → IsGoneIn (left p.table.config q.seen)
+still_gone p q d h holds gone =
+    along_turn p is_settling settling_stays (λ es. IsGoneIn (left p.table.config es))
+    (gone_kept p.table.config p.seat) q d h holds gone

@@ -1,0 +1,94 @@
+-- What one freed object changes among the allocations, and of the held words.
+use Rattle.std.proofs.Common.{◌≡◌, ◌≢◌, ℕ, ◌+◌, ◌<◌, Bool, true, false, List, [], ◌∷◌, length, map, refl, sym, ◌∙◌}
+use Rattle.std.proofs.Common.{ap, inl, inr, arith}
+use Rattle.std.specs.Prelude.{◌&&◌, not, Some, if◌then◌else◌, slice_set, sum_by}
+use Rattle.std.proofs.lemmas.Bool.{cases_eq, cond-false, cond-true}
+use Rattle.std.proofs.lemmas.List.{ext_get_or, get_or-set_other, get_or-set_same, length-map, length-set}
+use Rattle.std.proofs.lemmas.List.Sums.{sum_by-cons, sum_by-set}
+use Rattle.mk_never.specs.Types.{is_large, kinds_of}
+use Rattle.mk_geom.specs.declared.addresses.Cell.{Cell}
+use Rattle.mk_geom.specs.Storages.{Storage}
+use Rattle.mk_geom.specs.StorageWords.{mapped_words}
+use Rattle.mk_core.specs.declared.config.Config.{Config}
+use Rattle.mk_core.specs.Allocations.{PlacedAllocation, freed_where_it_stands, held_words, is_mapped, never_granted}
+use Rattle.mk_core.specs.Allocations.{placed_at, stands_in, storage_of, storage_words, unreleased_storage}
+use Rattle.mk_core.specs.Words.{Words}
+use Rattle.mk_core.proofs.ChangedAllocations.{changed_at, freed_leaves}
+use Rattle.mk_objects.specs.Retired.{freed_and_fresh}
+
+-- what one allocation holds
+abbrev pub held_part : Config → PlacedAllocation → ℕ
+held_part c a = if is_mapped c a then storage_words c a else 0
+
+abbrev words_mapped : Storage → ℕ
+words_mapped s = if s.mapped then s.words else 0
+
+held_first : (c : Config) (a : PlacedAllocation) (xs : List PlacedAllocation) (b : Bool) → a.released ≡ b
+    → mapped_words (if b then unreleased_storage c xs else storage_of c a ∷ unreleased_storage c xs) ≡ held_part c
+    a + held_words c xs
+held_first c a xs true is =
+    let none : held_part c a ≡ 0 = ap (λ r. if not r && not
+    (a.freed && is_large (kinds_of c.types a.ty)) then storage_words c a else 0) is in omega arith
+held_first c a xs false is = sum_by-cons words_mapped (storage_of c a) (unreleased_storage c xs)
+
+pub held_sum : (c : Config) (xs : List PlacedAllocation) → held_words c xs ≡ sum_by (held_part c) xs
+unfolding unreleased_storage
+held_sum c [] = refl
+held_sum c (a ∷ xs) =
+    held_first c a xs a.released refl ∙ ap (λ n. held_part c a + n) (held_sum c xs)
+    ∙ sym (sum_by-cons (held_part c) a xs)
+
+pub held_set : (c : Config) (xs : List PlacedAllocation) (n : ℕ) (y : PlacedAllocation) → n < length xs
+    → held_words c (slice_set xs n y) + held_part c (placed_at xs n) ≡ held_words c xs + held_part c y
+held_set c xs n y lt =
+    let one = sum_by-set (held_part c) xs n y never_granted lt in
+    let before = held_sum c xs in
+    let behind = held_sum c (slice_set xs n y) in
+    omega arith
+
+-- A free changes the allocation that stands in the cell, and no other.
+pub freed_one : (w : Words) (cell : Cell) (xs : List PlacedAllocation) (n : ℕ) → n < length xs
+    → stands_in w cell (placed_at xs n) ≡ true
+    → ((i : ℕ) → i ≢ n → stands_in w cell (placed_at xs i) ≡ false)
+    → map (freed_where_it_stands w (Some cell)) xs ≡ slice_set xs n (freed_and_fresh (placed_at xs n))
+freed_one w cell xs n lt stands others =
+    ext_get_or never_granted (map (freed_where_it_stands w (Some cell)) xs)
+    (slice_set xs n (freed_and_fresh (placed_at xs n)))
+    (length-map xs (freed_where_it_stands w (Some cell)) ∙ sym (length-set xs n (freed_and_fresh (placed_at xs n))))
+    (λ i le. elim (cases_eq i n) [
+      | inl e ↦
+          changed_at (freed_where_it_stands w (Some cell)) xs i (freed_leaves w (Some cell)).none
+          ∙ ap (λ j. freed_where_it_stands w (Some cell) (placed_at xs j)) e
+          ∙ cond-true (stands_in w cell (placed_at xs n)) (freed_and_fresh (placed_at xs n)) (placed_at xs n) stands
+          ∙ sym (get_or-set_same xs n (freed_and_fresh (placed_at xs n)) never_granted lt)
+          ∙ ap (λ j. placed_at (slice_set xs n (freed_and_fresh (placed_at xs n))) j) (sym e)
+      | inr ne ↦
+          changed_at (freed_where_it_stands w (Some cell)) xs i (freed_leaves w (Some cell)).none
+          ∙ cond-false (stands_in w cell (placed_at xs i)) (freed_and_fresh (placed_at xs i)) (placed_at xs i)
+          (others i ne)
+          ∙ sym (get_or-set_other xs n i (freed_and_fresh (placed_at xs n)) never_granted ne)
+    ])
+
+-- A small object that is freed stays mapped, and a large one doesn't.
+pub small_part : (c : Config) (a : PlacedAllocation) → is_large (kinds_of c.types a.ty) ≡ false
+    → held_part c (freed_and_fresh a) ≡ held_part c a
+small_part c a small = by a.released a.freed (is_large (kinds_of c.types a.ty)) small
+  where
+    by : (released freed large : Bool) → large ≡ false
+        → (if not released && not (true && large) then storage_words c a else 0) ≡ (if not released && not
+        (freed && large) then storage_words c a else 0)
+    by released true large is = refl
+    by released false large is = ap (λ b. if not released && not b then storage_words c a else 0) is
+
+pub large_part : (c : Config) (a : PlacedAllocation) → is_large (kinds_of c.types a.ty) ≡ true
+    → held_part c (freed_and_fresh a) ≡ 0
+large_part c a large =
+    ap (λ b. if not a.released && not b then storage_words c a else 0) large ∙ by a.released
+  where
+    by : (released : Bool) → (if not released && false then storage_words c a else 0) ≡ 0
+    by true = refl
+    by false = refl
+
+pub live_part : (c : Config) (a : PlacedAllocation) → a.released ≡ false → a.freed ≡ false
+    → held_part c a ≡ storage_words c a
+live_part c a unreleased live = rw (unreleased, live) refl

@@ -1,0 +1,186 @@
+-- A large object is freed and counted, while all others are stopped.
+use Rattle.std.proofs.Common.{◌≡◌, ◌↔◌, ℕ, ◌+◌, ◌*◌, ◌<◌, ◌^◌, Bool, true, false, List, [], map, refl, sym, ◌∙◌, ap}
+use Rattle.std.proofs.Common.{subst, arith}
+use Rattle.std.specs.Prelude.{IsTrue, Option, Some, None, if◌then◌else◌, slice_index_or}
+use Rattle.mk_geom.specs.declared.addresses.Cell.{Cell}
+use Rattle.mk_geom.specs.declared.headers.Header.{Header}
+use Rattle.mk_geom.specs.declared.headers.Header.TheVariants.{Block, Free, Later, LeafBlock, LeafRun, Run}
+use Rattle.mk_geom.specs.declared.pages.Page.{Page}
+use Rattle.mk_geom.specs.PageUses.{or_else}
+use Rattle.mk_geom.specs.Storages.{free_page}
+use Rattle.mk_core.specs.declared.events.Answer.TheVariants as answer
+use Rattle.mk_core.specs.declared.events.Tally.TheVariants as tally
+use Rattle.mk_core.specs.declared.seats.Holding.{Holding}
+use Rattle.mk_core.specs.declared.seats.RunPages.{RunPages}
+use Rattle.mk_core.specs.Allocations.{PlacedAllocation, freed_where_it_stands, fresh_words_of, held_words}
+use Rattle.mk_core.specs.Cells.{header_in, heads_run, run_headed, words_under}
+use Rattle.mk_core.specs.Counts.{in_a_word}
+use Rattle.mk_core.specs.Effects.{words_freed}
+use Rattle.mk_core.specs.Frames.{Steady, steady_of}
+use Rattle.mk_core.specs.History.{IsHistory}
+use Rattle.mk_core.specs.Moments.{is_held}
+use Rattle.mk_core.specs.Readings.{Holds}
+use Rattle.mk_words.specs.States.{PassState, WordsState, now_of, world_of}
+use Rattle.mk_objects.specs.Deciding.{ClearsRun, FreesCell, MayFree, StaysSo, is_following}
+use Rattle.mk_objects.specs.Dues.{FreesOnce}
+use Rattle.mk_objects.specs.FreeParts.{Changes, SetsTally, is_settling, with_tally}
+use Rattle.mk_objects.specs.Placing.{OnlyLooks, is_look}
+use Rattle.mk_objects.specs.Retiring.{HasFreed, IsFreedAt}
+use Rattle.mk_objects.specs.Unmapping.{IsStillMapped}
+use Rattle.mk_objects.proofs.DecidedFrees.{Stays, decides_before, following_not, freed_decides, held_stays}
+use Rattle.mk_objects.proofs.DecidedFrees.{look_settles, looks_stay, settling_follows, stays_now, stays_then}
+use Rattle.mk_objects.proofs.FreedObjects.{HasRun, IsObjectAt, its_freed, its_run, large_held, object_at, own}
+use Rattle.mk_objects.proofs.FreedOnce.{once_before}
+use Rattle.mk_objects.proofs.GoneRuns.{IsGoneIn, still_gone}
+use Rattle.mk_objects.proofs.JoinedLooks.{looks_left}
+use Rattle.mk_objects.proofs.ReachedParts.{reached_world, same_kinds}
+use Rattle.mk_objects.proofs.SmallFrees.{exact_from, freed_now, fresh_told_by, over_quarter}
+
+-- what heads a run
+pub record HeadsRun (x : Option Header) (count : ℕ) : Type 0 where
+  pub heads : heads_run x ≡ true
+  pub words : words_under x ≡ 64 * count
+
+same_count : (page n count : ℕ)
+    → ◌≡◌ {A = Option RunPages} (Some (record { page = page; count = n }))
+    (Some (record { page = page; count = count })) → n ≡ count
+same_count page n count is =
+    let one : ◌≡◌ {A = RunPages} (record { page = page; count = n }) (record { page = page; count = count }) =
+    cc is in ap (λ (x : RunPages). x.count) one
+
+heads_by : (x : Option Header) (page count : ℕ) → run_headed x page ≡ Some (record { page = page; count = count })
+    → HeadsRun x count
+heads_by (Some (Run n mapped)) page count is =
+    record { heads = refl; words = ap (λ i. 64 * i) (same_count page n count is) }
+heads_by (Some (LeafRun n)) page count is =
+    record { heads = refl; words = ap (λ i. 64 * i) (same_count page n count is) }
+heads_by (Some Free) page count is = cc
+heads_by (Some (Block class)) page count is = cc
+heads_by (Some (LeafBlock class)) page count is = cc
+heads_by (Some (Later d mapped)) page count is = cc
+heads_by None page count is = cc
+
+-- and what heads none
+pub heads_none : (x : Option Header) (page : ℕ) → run_headed x page ≡ None → heads_run x ≡ false
+heads_none (Some (Run n mapped)) page is = cc
+heads_none (Some (LeafRun n)) page is = cc
+heads_none _ page is = refl
+
+module _ (p : PassState) (reg u : ℕ) (cell : Cell) (count : ℕ) (may : MayFree p reg u cell)
+    (before : IsHistory p.table.config p.seen)
+    (run : run_headed (header_in (now_of p).words cell.page) cell.page ≡ Some
+    (record { page = cell.page; count = count })) where
+  abbrev pub object : IsObjectAt p reg cell
+  object = object_at p reg u cell before may.free may.some may.target
+
+  heads : HeadsRun (header_in (now_of p).words cell.page) count
+  heads = heads_by (header_in (now_of p).words cell.page) cell.page count run
+
+  live : (own p reg cell before object).freed ≡ false
+  live = sym (its_freed p reg cell before object may.phase) ∙ may.live
+
+  pub run_is : HasRun p reg cell before object count
+  run_is = its_run p reg cell before object count heads.heads live (sym heads.words)
+
+  pub held_then : held_words p.table.config (map (freed_where_it_stands (now_of p).words (Some cell))
+      (world_of p).allocations) + 64 * count
+      ≡ (now_of p).words.held
+  held_then =
+      let sum = large_held p reg cell before object heads.heads live in
+      let words = heads.words in
+      let exact = may.exact.held in
+      omega arith
+
+  no_words : words_freed (now_of p).words (Some cell) ≡ 0
+  no_words = ap (λ b. if b then 0 else words_under (header_in (now_of p).words cell.page)) heads.heads
+
+  module _ (q : PassState) (freed : HasFreed p cell q) where
+    now : IsFreedAt p.table.config p.seat cell (world_of p) (world_of q)
+    now = freed_now p q cell freed
+
+    pub run_freed : (now_of q).seats.holding.freed ≡ Some (record { page = cell.page; count = count })
+    run_freed = ap (λ (h : Holding). h.freed) now.holding
+        ∙ ap (λ (x : Option RunPages). or_else x (now_of p).seats.holding.freed) run
+
+    pub run_mapped : (d : ℕ) → d < count → IsStillMapped (now_of q).words (record { page = cell.page; count = count }) d
+    run_mapped d lt e =
+        run_is.mapped d lt
+        (ap (λ (ps : List Page). (slice_index_or ps (cell.page + d) free_page).header)
+        (sym (ap (λ (x : Steady). x.pages) now.steady)) ∙ e)
+
+    table : p.table ≡ q.table
+    table = sym (ap (λ (x : PassState). x.table) freed.same)
+
+    module _ (a b d r : PassState) (n : ℕ) (clears : ClearsRun q a) (looks : OnlyLooks a b)
+        (tallied : SetsTally b tally.Held n d)
+        (looks_again : OnlyLooks d r) where
+      settles : Stays is_settling a r
+      settles =
+          stays_then is_settling is_look is_settling (same_kinds is_settling) look_settles a d r
+          (stays_then is_look is_settling is_settling look_settles (same_kinds is_settling) a b d
+          (looks_stay a b looks) (held_stays b d n tallied))
+          (looks_stay d r looks_again)
+
+      follows : Stays is_following q r
+      follows = stays_then is_following is_settling is_following (same_kinds is_following) settling_follows q a r
+          clears.stays settles
+
+      stays : StaysSo q.seat (world_of q) (world_of r)
+      stays = stays_now is_following q r follows
+
+      counted : Changes b.seat (with_tally tally.Held n) (world_of b) (world_of d)
+      counted = reached_world is_settling b d (Changes b.seat (with_tally tally.Held n) (world_of b)) [] tallied
+
+      steady : steady_of (world_of r) ≡ with_tally tally.Held n (steady_of (world_of a))
+      steady =
+          (looks_left d r looks_again).steady ∙ counted.steady
+          ∙ ap (λ (x : Steady). with_tally tally.Held n x) (looks_left a b looks).steady
+
+      pub fresh_now : (now_of r).words.fresh ≡ (now_of p).words.fresh
+      fresh_now = ap (λ (x : Steady). x.fresh) steady ∙ clears.fresh ∙ ap (λ (x : Steady). x.fresh) now.steady
+
+      allocations_now : (world_of r).allocations ≡ map (freed_where_it_stands (now_of p).words (Some cell))
+          (world_of p).allocations
+      allocations_now = stays.allocations ∙ ap (λ (x : Steady). x.allocations) now.steady
+
+      gates_now : (j : ℕ) → j < p.table.config.callers → is_held (now_of r).words j ≡ false
+      gates_now j lt =
+          (looks_left d r looks_again).gates j ∙ counted.gates j ∙ (looks_left a b looks).gates j
+          ∙ clears.gates j (subst (λ (t : WordsState). j < t.config.callers) table lt)
+
+      table_then : p.table ≡ r.table
+      table_then = table ∙ sym (ap (λ (x : PassState). x.table) follows.same)
+
+      module _ (due : Bool) (fresh : ℕ) (once : FreesOnce p q) (holds : Holds q.table.config (now_of q) q.seat)
+          (holds_then : Holds a.table.config (now_of a) a.seat)
+          (behind : IsHistory r.table.config r.seen) (is : n + 64 * count ≡ (now_of p).words.held)
+          (found : fresh ≡ (now_of r).words.fresh) (fits : n < 2 ^ 64) (is_due : IsTrue due ↔ (n < 4 * fresh)) where
+        held_exact : n ≡ held_words p.table.config (world_of r).allocations
+        held_exact =
+            let sum = held_then in
+            let first : n ≡ held_words p.table.config (map (freed_where_it_stands (now_of p).words (Some cell))
+            (world_of p).allocations) = omega arith in
+            first ∙ ap (λ (xs : List PlacedAllocation). held_words p.table.config xs) (sym allocations_now)
+
+        fresh_exact : (now_of r).words.fresh ≡ in_a_word (fresh_words_of p.table.config (world_of r).allocations)
+        fresh_exact =
+            let told = fresh_told_by p r cell before behind table_then may.exact (stays.fresh_words ∙ now.fresh) in
+            let none = no_words in
+            let was = fresh_now in
+            let exact = may.exact.fresh in
+            omega arith
+
+        pub frees_large : FreesCell p cell due r
+        frees_large =
+            record {
+              reaches = decides_before p q r answer.Done (freed_decides p q cell freed) follows;
+              allocations = allocations_now;
+              once = once_before is_following p q r following_not once table follows.does behind holds
+                  stays.allocations;
+              gone = subst (λ (x : PassState). IsGoneIn (world_of x)) (sym settles.same)
+                  (still_gone a r settles.does behind holds_then clears.gone);
+              gates = gates_now;
+              exact = exact_from p r table_then (ap (λ (x : Steady). x.held) steady ∙ held_exact) fresh_exact;
+              exactly = over_quarter p.table.config (world_of r).allocations n fresh due held_exact
+                  (found ∙ fresh_exact) fits is_due;
+            }

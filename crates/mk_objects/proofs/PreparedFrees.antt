@@ -1,0 +1,98 @@
+-- What comes before a Free's `quar` leaves its turn as it was, but for gates: what is asked stays so, and what is freed
+-- behind it is freed.
+use Rattle.std.proofs.Common.{◌≡◌, ℕ, ◌<◌, Bool, true, false, List, [], map, sym, ◌∙◌, ap, subst}
+use Rattle.std.specs.Prelude.{◌↔◌, not, IsTrue, Some}
+use Rattle.mk_geom.specs.declared.addresses.Cell.{Cell}
+use Rattle.mk_geom.specs.declared.pages.Page.{Page}
+use Rattle.mk_core.specs.declared.events.Answer.TheVariants as answer
+use Rattle.mk_core.specs.declared.events.Step.{Step}
+use Rattle.mk_core.specs.Allocations.{PlacedAllocation, freed_where_it_stands}
+use Rattle.mk_core.specs.Frames.{Steady, steady_of}
+use Rattle.mk_core.specs.History.{IsHistory}
+use Rattle.mk_core.specs.Moments.{is_held, none_is_held}
+use Rattle.mk_core.proofs.AllBelow.{all_below-at}
+use Rattle.mk_frames.proofs.Tests.{all_below_from}
+use Rattle.mk_core.specs.Readings.{Holds}
+use Rattle.mk_words.specs.States.{PassState, WordsState, call_of, now_of, world_of}
+use Rattle.mk_objects.specs.Deciding.{FreesCell, StaysSo}
+use Rattle.mk_objects.specs.Dues.{IsOverQuarter}
+use Rattle.mk_objects.specs.FreeParts.{HasGates, IsButGates, SetsGates}
+use Rattle.mk_objects.specs.Placing.{OnlyLooks, Reaches, is_look}
+use Rattle.mk_objects.specs.Retiring.{is_freeing}
+use Rattle.mk_objects.specs.Unchanged.{IsAsLeft}
+use Rattle.mk_objects.proofs.DecidedFrees.{Stays, decides_behind}
+use Rattle.mk_objects.proofs.FreedOnce.{FreesNot, once_behind}
+use Rattle.mk_objects.proofs.ReachedParts.{AreAmong, reached_world, reaches_so}
+
+abbrev pub IsExactly : WordsState → Bool → List PlacedAllocation → Type 0
+IsExactly t due xs = IsTrue due ↔ IsOverQuarter t.config xs
+
+abbrev pub Prepares : (Step → Bool) → PassState → PassState → Type 0
+Prepares kinds p q = Reaches kinds p (IsButGates p.seat (world_of p)) [] q
+
+pub gates_prepare : (kinds : Step → Bool) (p q : PassState) (gates : ℕ → Bool) → SetsGates kinds p gates q
+    → Prepares kinds p q
+gates_prepare kinds p q gates a =
+    reaches_so kinds p q (HasGates p.seat p.table.config.callers gates (world_of p)) (IsButGates p.seat (world_of p))
+    [] a (λ at. at.but_gates)
+
+pub looks_prepare : (p q : PassState) → OnlyLooks p q → Prepares is_look p q
+looks_prepare p q a =
+    reaches_so is_look p q (IsAsLeft p.seat (world_of p)) (IsButGates p.seat (world_of p)) [] a
+    (λ at. record { call = at.call; holding = at.holding; steady = at.steady })
+
+module _ (kinds : Step → Bool) (p q : PassState) (a : Prepares kinds p q) where
+  now : IsButGates p.seat (world_of p) (world_of q)
+  now = reached_world kinds p q (IsButGates p.seat (world_of p)) [] a
+
+  pub prepared_table : p.table ≡ q.table
+  prepared_table = sym (ap (λ (x : PassState). x.table) a.same)
+
+  pub prepared_call : call_of q ≡ call_of p
+  prepared_call = ap (λ (x : PassState). call_of x) a.same ∙ a.world.call
+
+  pub prepared_steady : steady_of (world_of q) ≡ steady_of (world_of p)
+  prepared_steady = now.steady
+
+  so : Stays kinds p q
+  so = reaches_so kinds p q (IsButGates p.seat (world_of p)) (StaysSo p.seat (world_of p)) [] a
+      (λ at. record {
+        call = at.call;
+        holding = at.holding;
+        phase = ap (λ (x : Steady). x.phase) at.steady;
+        cycles = ap (λ (x : Steady). x.cycles) at.steady;
+        released = ap (λ (x : Steady). x.released) at.steady;
+        full = ap (λ (x : Steady). x.full) at.steady;
+        fresh_words = ap (λ (x : Steady). x.fresh_words) at.steady;
+        allocations = ap (λ (x : Steady). x.allocations) at.steady;
+      })
+
+  pub frees_behind : (r : PassState) (cell : Cell) (due : Bool) → AreAmong kinds is_freeing → FreesNot kinds
+      → IsHistory q.table.config q.seen
+      → Holds p.table.config (now_of p) p.seat → FreesCell q cell due r → FreesCell p cell due r
+  frees_behind r cell due among not h holds f =
+      record {
+        reaches = decides_behind kinds among p q r answer.Done so f.reaches;
+        allocations = f.allocations
+            ∙ ap (λ (ps : List Page). map (freed_where_it_stands (record (now_of q).words { pages = ps }) (Some cell))
+            (world_of q).allocations)
+            (ap (λ (x : Steady). x.pages) now.steady)
+            ∙ ap (λ (xs : List PlacedAllocation). map (freed_where_it_stands (now_of p).words (Some cell)) xs)
+            (ap (λ (x : Steady). x.allocations) now.steady);
+        once = once_behind kinds p q r not a.does h holds f.once;
+        gone = f.gone;
+        gates = subst (λ (t : WordsState). (j : ℕ) → j < t.config.callers → is_held (now_of r).words j ≡ false)
+            (sym prepared_table) f.gates;
+        exact = f.exact;
+        exactly = subst (λ (t : WordsState). IsExactly t due (world_of r).allocations) (sym prepared_table) f.exactly;
+      }
+
+-- No gate is held behind it where none was.
+pub still_open : (p q : PassState) → p.table ≡ q.table
+    → ((j : ℕ) → is_held (now_of q).words j ≡ is_held (now_of p).words j)
+    → none_is_held p.table.config.callers (now_of p).words ≡ true
+    → none_is_held q.table.config.callers (now_of q).words ≡ true
+still_open p q table gates none =
+    ap (λ (t : WordsState). none_is_held t.config.callers (now_of q).words) (sym table)
+    ∙ all_below_from p.table.config.callers (λ j. not (is_held (now_of q).words j))
+    (λ j lt. ap not (gates j) ∙ all_below-at p.table.config.callers j (λ i. not (is_held (now_of p).words i)) none lt)

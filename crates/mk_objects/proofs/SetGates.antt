@@ -1,0 +1,267 @@
+-- Gates are held and opened, one after the other.
+use Rattle.std.proofs.Common.{◌≡◌, ◌≢◌, ℕ, ◌+◌, ◌<◌, ◌≤◌, Bool, true, false, [], length, refl, sym, ◌∙◌, ap, subst}
+use Rattle.std.proofs.Common.{inl, inr, arith}
+use Rattle.std.specs.Prelude.{◌&&◌, not, ◌==◌, nat_lt, OnErr, OnOk, Option, is_ok}
+use Rattle.std.specs.declared.result.Result.{Result}
+use Rattle.std.specs.declared.result.Result.TheVariants.{Err, Ok}
+use Rattle.std.proofs.lemmas.Bool.{cases_eq, cases_lt, le-ltb, lt-ltb, not-true}
+use Rattle.std.proofs.lemmas.List.{get_or-set_other, get_or-set_same}
+use Rattle.mk_never.specs.declared.operations.Op.{Op}
+use Rattle.mk_core.specs.declared.config.Config.{Config}
+use Rattle.mk_core.specs.declared.events.Seat.{Seat}
+use Rattle.mk_core.specs.declared.events.Step.{Step}
+use Rattle.mk_core.specs.declared.events.Step.TheVariants as step
+use Rattle.mk_core.specs.declared.seats.Flight.{Flight}
+use Rattle.mk_core.specs.Frames.{Steady}
+use Rattle.mk_core.specs.History.{IsHistory, World, world_behind}
+use Rattle.mk_core.specs.Moments.{is_held, is_number_of, none_is_held}
+use Rattle.mk_core.proofs.AllBelow.{all_below-at}
+use Rattle.mk_words.specs.Seats.{Has}
+use Rattle.mk_words.specs.States.{PassState, call_of, now_of, world_of}
+use Rattle.mk_words.specs.TurnSteps.{Acts, IsTurn}
+use Rattle.mk_objects.specs.FreeParts.{GateIsSet, HasGates, IsButGates, SetsGate, SetsGates, all_others, held_from}
+use Rattle.mk_objects.specs.FreeParts.{held_to, is_holding, is_settling}
+use Rattle.mk_objects.specs.Looking.{is_acting}
+use Rattle.mk_objects.specs.Placing.{IsOutOfStop}
+use Rattle.mk_objects.specs.Unchanged.{IsAsLeft}
+use Rattle.mk_objects.proofs.Looks.{acting_caller, acting_now, still_acting}
+use Rattle.mk_core.specs.Words.{phase_of}
+use Rattle.mk_objects.proofs.Serves.{out_of_stop}
+use Rattle.mk_objects.proofs.Reaching.{reaches_nothing, reaches_still, seeing}
+use Rattle.mk_objects.proofs.ReachedParts.{reaches_after, reaches_so, same_kinds}
+use Rattle.mk_objects.proofs.Unchanged.{HasCall, OfCaller, acting_has_call, call_behind}
+
+-- One gate may have changed.
+record AllButOne (s : Seat) (gate : ℕ) (w v : World) : Type 0 where
+  but_gates : IsButGates s w v
+  others : (j : ℕ) → j ≢ gate → is_held v.now.words j ≡ is_held w.now.words j
+
+hold_behind : (c : Config) (s : Seat) (w v : World) (gate : ℕ) → IsAsLeft s w v → HasCall c v.now s
+    → AllButOne s gate w (world_behind c v (record { seat = s; step = step.Hold gate }))
+hold_behind c s w v gate kept (OfCaller k lt) =
+    record {
+      but_gates = record {
+        call = call_behind c v.now k (step.Hold gate) lt ∙ kept.call;
+        holding = kept.holding;
+        steady = kept.steady;
+      };
+      others = λ j ne. ap (λ (n : ℕ). n == 2) (get_or-set_other v.now.words.gates gate j _ 0 ne) ∙ kept.gates j;
+    }
+
+open_behind : (c : Config) (s : Seat) (w v : World) (gate : ℕ) → IsAsLeft s w v → HasCall c v.now s
+    → gate < length v.now.words.gates
+    → GateIsSet s gate false w (world_behind c v (record { seat = s; step = step.Open gate }))
+open_behind c s w v gate kept (OfCaller k lt) room =
+    record {
+      but_gates = record {
+        call = call_behind c v.now k (step.Open gate) lt ∙ kept.call;
+        holding = kept.holding;
+        steady = kept.steady;
+      };
+      set = ap (λ (n : ℕ). n == 2) (get_or-set_same v.now.words.gates gate 0 0 room);
+      others = λ j ne. ap (λ (n : ℕ). n == 2) (get_or-set_other v.now.words.gates gate j 0 0 ne) ∙ kept.gates j;
+    }
+
+module _ (p q : PassState) (o : Option Op) (gate : ℕ) (turn : IsTurn p o) (acts : is_acting (call_of p).stage ≡ true)
+    (own : Has p.seats p.seat) (history : IsHistory q.table.config q.seen) where
+  has_call : (v : World) → IsAsLeft p.seat (world_of p) v → length v.now.seats.flights ≡ p.table.config.callers
+      → HasCall p.table.config v.now p.seat
+  has_call v kept count =
+      acting_has_call p.table.config v.now p.seat count (still_acting p.table.config p.seat (world_of p) v
+      (acting_now p o turn acts) kept)
+
+  pub sets_hold : (held : Bool) → Acts p (step.Hold gate) q → is_held (now_of q).words gate ≡ held
+      → SetsGate is_holding p gate held q
+  sets_hold held a is =
+      let step = reaches_still is_holding p p q (λ w. w ≡ world_of p) (AllButOne p.seat gate (world_of p)) []
+      (step.Hold gate)
+      (reaches_nothing is_holding p (λ w. w ≡ world_of p) refl) a own history refl refl (acting_caller p acts) refl
+      (λ w v first kept known pages.
+      let kept : IsAsLeft p.seat (world_of p) v = subst (λ (x : World). IsAsLeft p.seat x v) first kept in
+      hold_behind p.table.config p.seat (world_of p) v gate kept (has_call v kept known.orderly.flights)) in
+      reaches_so is_holding p q (AllButOne p.seat gate (world_of p)) (GateIsSet p.seat gate held (world_of p)) [] step
+      (λ all. record {
+        but_gates = all.but_gates;
+        set = ap (λ (x : PassState). is_held (now_of x).words gate) (sym step.same) ∙ is;
+        others = all.others;
+      })
+
+  pub sets_open : Acts p (step.Open gate) q → gate < p.table.config.callers → SetsGate is_settling p gate false q
+  sets_open a within =
+      reaches_still is_settling p p q (λ w. w ≡ world_of p) (GateIsSet p.seat gate false (world_of p)) []
+      (step.Open gate)
+      (reaches_nothing is_settling p (λ w. w ≡ world_of p) refl) a own history refl refl (acting_caller p acts) refl
+      (λ w v first kept known pages.
+      let kept : IsAsLeft p.seat (world_of p) v = subst (λ (x : World). IsAsLeft p.seat x v) first kept in
+      let few = known.small in
+      let many = pages.gates in
+      open_behind p.table.config p.seat (world_of p) v gate kept (has_call v kept known.orderly.flights) (omega arith))
+
+-- one part behind another
+
+pub but_gates_then : (s : Seat) (w u v : World) → IsButGates s w u → IsButGates s u v → IsButGates s w v
+but_gates_then s w u v a b = record {
+  call = b.call ∙ a.call;
+  holding = b.holding ∙ a.holding;
+  steady = b.steady
+      ∙ a.steady;
+}
+
+set_again : (s : Seat) (gate : ℕ) (first held : Bool) (w u v : World) → GateIsSet s gate first w u
+    → GateIsSet s gate held u v → GateIsSet s gate held w v
+set_again s gate first held w u v a b =
+    record {
+      but_gates = but_gates_then s w u v a.but_gates b.but_gates;
+      set = b.set;
+      others = λ j ne. b.others j ne ∙ a.others j ne;
+    }
+
+pub sets_again : (kinds : Step → Bool) (p q r : PassState) (gate : ℕ) (first held : Bool)
+    → SetsGate kinds p gate first q → SetsGate kinds q gate held r
+    → SetsGate kinds p gate held r
+sets_again kinds p q r gate first held a b =
+    reaches_after kinds kinds kinds (same_kinds kinds) (same_kinds kinds) p q r
+    (GateIsSet p.seat gate first (world_of p))
+    (λ x. GateIsSet x.seat gate held (world_of x)) (GateIsSet p.seat gate held (world_of p)) [] a b
+    (λ v a b. set_again p.seat gate first held (world_of p) _ v a b)
+
+-- A gate that isn't held is set so.
+pub set_nothing : (kinds : Step → Bool) (p : PassState) (gate : ℕ) (held : Bool)
+    → is_held (now_of p).words gate ≡ held → SetsGate kinds p gate held p
+set_nothing kinds p gate held is =
+    reaches_nothing kinds p (GateIsSet p.seat gate held (world_of p))
+    (record { but_gates = record { call = refl; holding = refl; steady = refl }; set = is; others = λ j ne. refl })
+
+gates_more : (s : Seat) (callers : ℕ) (gates then : ℕ → Bool) (gate : ℕ) (held : Bool) (w u v : World)
+    → HasGates s callers gates w u
+    → GateIsSet s gate held u v → ((j : ℕ) → j ≢ gate → then j ≡ gates j) → then gate ≡ held
+    → HasGates s callers then w v
+gates_more s callers gates then gate held w u v a b others here =
+    record {
+      but_gates = but_gates_then s w u v a.but_gates b.but_gates;
+      held = λ j lt. elim (cases_eq j gate) [
+        | inl e ↦ ap (λ i. is_held v.now.words i) e ∙ b.set ∙ sym here ∙ ap then (sym e)
+        | inr ne ↦ b.others j ne ∙ a.held j lt ∙ sym (others j ne)
+      ];
+    }
+
+pub sets_more : (kinds : Step → Bool) (p q r : PassState) (gates then : ℕ → Bool) (gate : ℕ) (held : Bool)
+    → SetsGates kinds p gates q
+    → SetsGate kinds q gate held r → ((j : ℕ) → j ≢ gate → then j ≡ gates j) → then gate ≡ held
+    → SetsGates kinds p then r
+sets_more kinds p q r gates then gate held a b others here =
+    reaches_after kinds kinds kinds (same_kinds kinds) (same_kinds kinds) p q r
+    (HasGates p.seat p.table.config.callers gates (world_of p))
+    (λ x. GateIsSet x.seat gate held (world_of x)) (HasGates p.seat p.table.config.callers then (world_of p)) [] a b
+    (λ v a b. gates_more p.seat p.table.config.callers gates then gate held (world_of p) _ v a b others here)
+
+-- the gates by other names
+pub sets_named : (kinds : Step → Bool) (p q : PassState) (gates then : ℕ → Bool) → SetsGates kinds p gates q
+    → ((j : ℕ) → j < p.table.config.callers → gates j ≡ then j) → SetsGates kinds p then q
+sets_named kinds p q gates then a same =
+    reaches_so kinds p q (HasGates p.seat p.table.config.callers gates (world_of p))
+    (HasGates p.seat p.table.config.callers then (world_of p)) [] a
+    (λ x. record { but_gates = x.but_gates; held = λ j lt. x.held j lt ∙ same j lt })
+
+pub sets_first : (kinds : Step → Bool) (p : PassState) (gates : ℕ → Bool)
+    → ((j : ℕ) → j < p.table.config.callers → is_held (now_of p).words j ≡ gates j) → SetsGates kinds p gates p
+sets_first kinds p gates here =
+    reaches_nothing kinds p (HasGates p.seat p.table.config.callers gates (world_of p))
+    (record { but_gates = record { call = refl; holding = refl; steady = refl }; held = here })
+
+-- The answer of a try says whether the gate is held.
+pub tried : {T E : Type 0} (x : Result T E) (held : Bool) → OnOk x (held ≡ true) → OnErr x (held ≡ false)
+    → held ≡ is_ok x
+tried (Ok y) held ok err = ok
+tried (Err y) held ok err = err
+
+-- the gates as far as they are set
+
+none_below : (s : Seat) (j : ℕ) → held_to s 0 j ≡ false
+none_below s j = ap (λ b. b && not (is_number_of s j)) (le-ltb j 0 (omega arith))
+
+all_from : (s : Seat) (j : ℕ) → held_from s 0 j ≡ all_others s j
+all_from s j = ap (λ b. not b && not (is_number_of s j)) (le-ltb j 0 (omega arith))
+
+pub held_so_far : (s : Seat) (n j : ℕ) → j < n → held_to s n j ≡ all_others s j
+held_so_far s n j lt = ap (λ b. b && not (is_number_of s j)) (lt-ltb j n lt)
+
+pub opened_so_far : (s : Seat) (n j : ℕ) → j < n → held_from s n j ≡ false
+opened_so_far s n j lt = ap (λ b. not b && not (is_number_of s j)) (lt-ltb j n lt)
+
+next_below : (n j : ℕ) → j ≢ n → nat_lt j (n + 1) ≡ nat_lt j n
+next_below n j ne = elim (cases_lt j n) [
+  | inl lt ↦ lt-ltb j (n + 1) (omega arith) ∙ sym (lt-ltb j n lt)
+  | inr le ↦ le-ltb j (n + 1) (le_less n j le ne) ∙ sym (le-ltb j n le)
+]
+  where
+    le_less : (n j : ℕ) → n ≤ j → j ≢ n → n + 1 ≤ j
+    le_less n j le ne = elim (cases_eq j n) [
+      | inl e ↦ absurd (ne e)
+      | inr other ↦ omega (arith, other)
+    ]
+
+pub held_next : (s : Seat) (n j : ℕ) → j ≢ n → held_to s (n + 1) j ≡ held_to s n j
+held_next s n j ne = ap (λ b. b && not (is_number_of s j)) (next_below n j ne)
+
+pub opened_next : (s : Seat) (n j : ℕ) → j ≢ n → held_from s (n + 1) j ≡ held_from s n j
+opened_next s n j ne = ap (λ b. not b && not (is_number_of s j)) (next_below n j ne)
+
+pub holds_none : (p : PassState) → none_is_held p.table.config.callers (now_of p).words ≡ true
+    → SetsGates is_holding p (held_to p.seat 0) p
+holds_none p none =
+    sets_first is_holding p (held_to p.seat 0) (λ j lt.
+    not-true _ (all_below-at p.table.config.callers j (λ i. not (is_held (now_of p).words i)) none lt)
+    ∙ sym (none_below p.seat j))
+
+pub opens_none : (p : PassState)
+    → ((j : ℕ) → j < p.table.config.callers → is_held (now_of p).words j ≡ all_others p.seat j)
+    → SetsGates is_settling p (held_from p.seat 0) p
+opens_none p held = sets_first is_settling p (held_from p.seat 0) (λ j lt. held j lt ∙ sym (all_from p.seat j))
+
+-- what the passes are behind it
+pub set_acting : (kinds : Step → Bool) (p q : PassState) (gates : ℕ → Bool) → SetsGates kinds p gates q
+    → is_acting (call_of p).stage ≡ true
+    → is_acting (call_of q).stage ≡ true
+set_acting kinds p q gates a acts =
+    ap (λ (x : PassState). is_acting (call_of x).stage) a.same
+    ∙ ap (λ (f : Flight). is_acting f.stage) a.world.but_gates.call ∙ acts
+
+pub one_acting : (kinds : Step → Bool) (p q : PassState) (gate : ℕ) (held : Bool) → SetsGate kinds p gate held q
+    → is_acting (call_of p).stage ≡ true
+    → is_acting (call_of q).stage ≡ true
+one_acting kinds p q gate held a acts =
+    ap (λ (x : PassState). is_acting (call_of x).stage) a.same
+    ∙ ap (λ (f : Flight). is_acting f.stage) a.world.but_gates.call ∙ acts
+
+pub set_held : (kinds : Step → Bool) (p q : PassState) (gates : ℕ → Bool) → SetsGates kinds p gates q
+    → (j : ℕ) → j < p.table.config.callers → is_held (now_of q).words j ≡ gates j
+set_held kinds p q gates a j lt = ap (λ (x : PassState). is_held (now_of x).words j) a.same ∙ a.world.held j lt
+
+pub set_phase : (kinds : Step → Bool) (p q : PassState) (gates : ℕ → Bool) → SetsGates kinds p gates q
+    → IsOutOfStop (now_of p) → IsOutOfStop (now_of q)
+set_phase kinds p q gates a low =
+    out_of_stop (now_of p) (now_of q)
+    (ap (λ (x : PassState). phase_of (now_of x).words) a.same ∙ ap (λ (x : Steady). x.phase) a.world.but_gates.steady)
+    low
+
+-- What is asked of a pass is asked of the pass behind it.
+pub one_there : (kinds : Step → Bool) (p q : PassState) (gate : ℕ) (held : Bool) → SetsGate kinds p gate held q
+    → (claim : PassState → Type 0)
+    → claim (seeing p q.seen) → claim q
+one_there kinds p q gate held a claim there = subst claim (sym a.same) there
+
+pub set_there : (kinds : Step → Bool) (p q : PassState) (gates : ℕ → Bool) → SetsGates kinds p gates q
+    → (claim : PassState → Type 0)
+    → claim (seeing p q.seen) → claim q
+set_there kinds p q gates a claim there = subst claim (sym a.same) there
+
+pub set_seat : (kinds : Step → Bool) (p q : PassState) (gates : ℕ → Bool) → SetsGates kinds p gates q
+    → ◌≡◌ {A = Seat} q.seat p.seat
+set_seat kinds p q gates a = ap (λ (x : PassState). x.seat) a.same
+
+pub none_yet_held : (s : Seat) (n : ℕ) → held_to s n n ≡ false
+none_yet_held s n = ap (λ b. b && not (is_number_of s n)) (le-ltb n n (omega arith))
+
+pub all_yet_held : (s : Seat) (n : ℕ) → held_from s n n ≡ all_others s n
+all_yet_held s n = ap (λ b. not b && not (is_number_of s n)) (le-ltb n n (omega arith))

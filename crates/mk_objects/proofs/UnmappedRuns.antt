@@ -1,0 +1,305 @@
+-- The pages of a run are unmapped one after the other, and then its words are wiped.
+use Rattle.std.proofs.Common.{◌≡◌, ℕ, ◌+◌, ◌-◌, ◌*◌, ◌/◌, ◌<◌, ◌≤◌, true, false, List, [], length, refl, sym, ◌∙◌, ap}
+use Rattle.std.proofs.Common.{subst, inl, inr, arith}
+use Rattle.std.specs.Prelude.{◌||◌, ◌==◌, nat_le, nat_lt, Option, Some, None, if◌then◌else◌, slice_index}
+use Rattle.std.specs.Prelude.{slice_index_or, slice_set}
+use Rattle.std.proofs.lemmas.Bool.{and_from, cases_eq, eq-eqb, le-leb, lt-ltb}
+use Rattle.std.proofs.lemmas.List.{get_or-set_other, get_or-set_same}
+use Rattle.mk_never.specs.declared.operations.Op.{Op}
+use Rattle.mk_geom.specs.declared.pages.Page.{Page}
+use Rattle.mk_geom.specs.Storages.{free_page}
+use Rattle.mk_core.specs.declared.config.Config.{Config}
+use Rattle.mk_core.specs.declared.events.Seat.{Seat}
+use Rattle.mk_core.specs.declared.events.Step.TheVariants as step
+use Rattle.mk_core.specs.declared.seats.Flight.{Flight}
+use Rattle.mk_core.specs.declared.seats.Holding.{Holding}
+use Rattle.mk_core.specs.declared.seats.Placing.{Placing}
+use Rattle.mk_core.specs.declared.seats.Placing.TheVariants.{Unplaced}
+use Rattle.mk_core.specs.declared.seats.RunPages.{RunPages}
+use Rattle.mk_core.specs.declared.seats.Stage.{Stage}
+use Rattle.mk_core.specs.declared.seats.Stage.TheVariants as stage
+use Rattle.mk_core.specs.Bounded.{all_below}
+use Rattle.mk_core.specs.Cells.{is_in_run}
+use Rattle.mk_core.specs.Effects.{chosen}
+use Rattle.mk_core.specs.Frames.{HoldsAll, Steady, Written, steady_of, written_of}
+use Rattle.mk_core.specs.History.{IsHistory, World, left, world_behind}
+use Rattle.mk_core.specs.Moments.{Moment, flight_of, is_held, is_number_of, is_phase, others_are_held}
+use Rattle.mk_core.specs.NewPlaces.{is_new_at, is_run_unmapped, is_undecided_new, stands, unmapped_header}
+use Rattle.mk_core.specs.Readings.{Holds}
+use Rattle.mk_core.specs.TurnConditions.{is_in_gone_run, place_now, unmaps}
+use Rattle.mk_core.specs.Words.{header_at, phase_of}
+use Rattle.mk_core.proofs.AllBelow.{all_below-at}
+use Rattle.mk_frames.proofs.Tests.{all_below_from}
+use Rattle.mk_words.specs.Seats.{Has}
+use Rattle.mk_words.specs.States.{PassState, call_of, now_of, world_of}
+use Rattle.mk_words.specs.Steps.{IsEnabledTo}
+use Rattle.mk_words.specs.TurnSteps.{Acts, IsTurn}
+use Rattle.mk_objects.specs.FreeParts.{Changes, RunIsUnmapped, RunIsWiped, Unmaps, Wipes, is_clearing}
+use Rattle.mk_objects.specs.Looking.{is_acting}
+use Rattle.mk_objects.specs.Placing.{IsOutOfStop, Reaches}
+use Rattle.mk_objects.specs.Unchanged.{IsAsLeft}
+use Rattle.mk_objects.specs.Unmapping.{IsStillMapped, UnmappedTo, WipedTo}
+use Rattle.mk_objects.proofs.Looks.{acting_caller, acting_now}
+use Rattle.mk_objects.proofs.MayAct.{IsActing, may_unmap, may_wipe, off_four}
+use Rattle.mk_objects.proofs.Reaching.{reaches_nothing, reaches_still, reaches_still_in_stop}
+use Rattle.mk_objects.proofs.ReachedParts.{reached_there, reaches_so}
+use Rattle.mk_objects.proofs.Serves.{out_of_stop}
+use Rattle.mk_objects.proofs.Serving.{header_here, header_set, next_is}
+use Rattle.mk_objects.proofs.Unchanged.{HasCall, OfCaller, acting_has_call, call_behind}
+
+-- A call that is decided is no New on its way, so its holder's place stays.
+
+no_new : (f : Flight) → f.stage ≡ stage.Give → is_undecided_new f ≡ false
+no_new f is = ap (λ (s : Stage). is_new_at s f.op) is ∙ at_give f
+  where
+    at_give : (f : Flight) → is_new_at stage.Give f.op ≡ false
+    at_give f = refl
+
+no_place : (c : Config) (m : Moment) (f : Flight) → f.stage ≡ stage.Give → place_now c m f ≡ None
+no_place c m f is = rw (no_new f is) refl
+
+chosen_none : (x : Placing) → chosen x None ≡ x
+chosen_none Unplaced = refl
+chosen_none _ = refl
+
+same_holding : (c : Config) (m : Moment) (f : Flight) → f.stage ≡ stage.Give → IsOutOfStop m
+    → (if is_phase m.words 4 then m.seats.holding.placing else chosen m.seats.holding.placing
+    (place_now c m f)) ≡ m.seats.holding.placing
+same_holding c m f is low = rw (off_four m low, no_place c m f is) (chosen_none m.seats.holding.placing)
+
+pub give_acts : (f : Flight) → f.stage ≡ stage.Give → is_acting f.stage ≡ true
+give_acts f is = ap is_acting is
+
+pub changes_nothing : (s : Seat) (w : World) → Changes s (λ x. x) w w
+changes_nothing s w = record { call = refl; holding = refl; steady = refl; gates = λ j. refl }
+
+unmapped_left : (s : Seat) (run : RunPages) (w u v : World) (n : ℕ) → UnmappedTo s run w u n → IsAsLeft s u v
+    → UnmappedTo s run w v n
+unmapped_left s run w u v n at kept =
+    let pages : v.now.words.pages ≡ u.now.words.pages = ap (λ (x : Steady). x.pages) kept.steady in
+    let header : (p : ℕ) → header_at v.now.words p ≡ header_at u.now.words p =
+    λ p. ap (λ (ps : List Page). (slice_index_or ps p free_page).header) pages in
+    record {
+      changes = record {
+        call = kept.call ∙ at.changes.call;
+        holding = kept.holding ∙ at.changes.holding;
+        steady = kept.steady ∙ at.changes.steady
+            ∙ ap (λ (ps : List Page). record (steady_of w) { pages = ps }) (sym pages);
+        gates = λ j. kept.gates j ∙ at.changes.gates j;
+      };
+      done = λ d lt. header (run.page + d) ∙ at.done d lt;
+      rest = λ d le lt e. at.rest d le lt (sym (header (run.page + d)) ∙ e);
+    }
+
+unmapped_more : (c : Config) (s : Seat) (run : RunPages) (w v : World) (n : ℕ) → UnmappedTo s run w v n
+    → HasCall c v.now s
+    → (flight_of v.now s).stage ≡ stage.Give → IsOutOfStop v.now → n < run.count
+    → run.page + n < length v.now.words.pages
+    → UnmappedTo s run w (world_behind c v (record {
+      seat = s;
+      step = step.Head (run.page + n) (unmapped_header run.count n);
+    })) (n + 1)
+unmapped_more c s run w v n at (OfCaller k lt) give low near room =
+    let p = run.page + n in
+    let x = step.Head p (unmapped_header run.count n) in
+    let u : World = world_behind c v (record { seat = s; step = x }) in
+    record {
+      changes = record {
+        call = call_behind c v.now k x lt ∙ at.changes.call;
+        holding = ap (λ (y : Placing). record v.now.seats.holding { placing = y })
+            (same_holding c v.now (flight_of v.now s) give low) ∙ at.changes.holding;
+        steady = ap (λ (y : Steady). record y { pages = u.now.words.pages }) at.changes.steady;
+        gates = at.changes.gates;
+      };
+      done = λ d le. elim (cases_eq d n) [
+        | inl e ↦ ap (λ i. header_at u.now.words (run.page + i)) e ∙ header_here v.now.words.pages p _ room
+            ∙ ap (λ i. unmapped_header run.count i) (sym e)
+        | inr ne ↦ header_set v.now.words.pages p (run.page + d) _ (λ e. ne (omega arith)) ∙ at.done d (omega arith)
+      ];
+      rest = λ d le lt e. at.rest d (omega arith) lt (sym
+          (header_set v.now.words.pages p (run.page + d) _ (λ i. absurd (omega arith))) ∙ e);
+    }
+
+module _ (p : PassState) (o : Option Op) (run : RunPages) (turn : IsTurn p o) (give : (call_of p).stage ≡ stage.Give)
+    (low : IsOutOfStop (now_of p)) where
+  abbrev pub HasUnmapped : PassState → ℕ → Type 0
+  HasUnmapped q n = Reaches is_clearing p (λ v. UnmappedTo p.seat run (world_of p) v n) [] q
+
+  pub unmapped_none : ((d : ℕ) → d < run.count → IsStillMapped (now_of p).words run d) → HasUnmapped p 0
+  unmapped_none mapped =
+      reaches_nothing is_clearing p (λ v. UnmappedTo p.seat run (world_of p) v 0) (record {
+        changes = record { call = refl; holding = refl; steady = refl; gates = λ j. refl };
+        done = λ d lt. absurd (omega arith);
+        rest = λ d le lt. mapped d lt;
+      })
+
+  acting : IsActing p.table.config (now_of p) p.seat
+  acting = acting_now p o turn (give_acts (call_of p) give)
+
+  there_acting : (v : World) → flight_of v.now p.seat ≡ flight_of (now_of p) p.seat
+      → IsActing p.table.config v.now p.seat
+  there_acting v same = record {
+    there = acting.there;
+    acts = ap (λ (f : Flight). is_acting f.stage) same
+        ∙ acting.acts;
+  }
+
+  there_low : (v : World) → phase_of v.now.words ≡ phase_of (now_of p).words → IsOutOfStop v.now
+  there_low v same = out_of_stop (now_of p) v.now same low
+
+  stopped_there : (v : World) → ((j : ℕ) → is_held v.now.words j ≡ is_held (now_of p).words j)
+      → others_are_held p.table.config.callers (now_of p).words p.seat ≡ true
+      → others_are_held p.table.config.callers v.now.words p.seat ≡ true
+  stopped_there v gates stopped =
+      all_below_from p.table.config.callers (λ j. is_number_of p.seat j || is_held v.now.words j)
+      (λ j lt. ap (λ b. is_number_of p.seat j || b) (gates j)
+      ∙ all_below-at p.table.config.callers j (λ i. is_number_of p.seat i || is_held (now_of p).words i) stopped lt)
+
+  pub unmap_may : (q : PassState) (n : ℕ) → HasUnmapped q n
+      → others_are_held p.table.config.callers (now_of p).words p.seat ≡ true
+      → (now_of p).seats.holding.freed ≡ Some run → n < run.count → run.page + run.count ≤ p.table.config.pages
+      → IsEnabledTo q (step.Head (run.page + n) (unmapped_header run.count n))
+  unmap_may q n reached stopped freed near within =
+      let v : World = left p.table.config q.seen in
+      let at = reached.world in
+      let here : v.now.seats.holding.freed ≡ Some run = ap (λ (h : Holding). h.freed) at.changes.holding ∙ freed in
+      reached_there is_clearing p q _ [] reached (λ (x : PassState). IsEnabledTo x
+      (step.Head (run.page + n) (unmapped_header run.count n)))
+      (may_unmap p.table.config v.now p.seat (there_acting v at.changes.call) (run.page + n)
+      (unmapped_header run.count n) (omega arith)
+      (there_low v (ap (λ (x : Steady). x.phase) at.changes.steady)) (stopped_there v at.changes.gates stopped)
+      (ap (λ (x : Option RunPages). unmaps v.now.words x (run.page + n) (unmapped_header run.count n)) here
+      ∙ next_is v.now.words run.page run.count (unmapped_header run.count) n near (at.rest n (omega arith) near)
+      at.done))
+
+  pub unmaps_on : (q r : PassState) (n : ℕ) → HasUnmapped q n → n < run.count
+      → run.page + run.count ≤ p.table.config.pages
+      → Acts q (step.Head (run.page + n) (unmapped_header run.count n)) r → Has q.seats q.seat
+      → IsHistory r.table.config r.seen
+      → HasUnmapped r (n + 1)
+  unmaps_on q r n reached near within a own history =
+      reaches_still is_clearing p q r (λ v. UnmappedTo p.seat run (world_of p) v n)
+      (λ v. UnmappedTo p.seat run (world_of p) v (n + 1)) []
+      (step.Head (run.page + n) (unmapped_header run.count n)) reached a own history refl refl
+      (acting_caller p (give_acts (call_of p) give)) refl
+      (λ w v here kept known pages.
+      let on = unmapped_left p.seat run (world_of p) w v n here kept in
+      let call = acting_has_call p.table.config v.now p.seat known.orderly.flights (there_acting v on.changes.call) in
+      let room = pages.pages in
+      unmapped_more p.table.config p.seat run (world_of p) v n on call
+      (ap (λ (f : Flight). f.stage) on.changes.call ∙ give)
+      (there_low v (ap (λ (x : Steady). x.phase) on.changes.steady)) near (omega arith))
+
+  pub unmapped_all : (q : PassState) → HasUnmapped q run.count → Unmaps p run q
+  unmapped_all q reached =
+      reaches_so is_clearing p q (λ v. UnmappedTo p.seat run (world_of p) v run.count)
+      (RunIsUnmapped p.seat run (world_of p)) [] reached
+      (λ at. record {
+        changes = at.changes;
+        unmapped = all_below_from run.count (stands (left p.table.config q.seen).now.words run.page
+            (unmapped_header run.count)) (λ d lt. eq-eqb _ _ (at.done d lt));
+      })
+
+-- the words
+
+wiped_more : (c : Config) (s : Seat) (run : RunPages) (w u v : World) (n : ℕ) → WipedTo s run w u n → IsAsLeft s u v
+    → HasCall c v.now s
+    → written_of v ≡ written_of u → 64 * run.page + n < length v.now.words.heap
+    → WipedTo s run w (world_behind c v (record { seat = s; step = step.Wipe (64 * run.page + n) })) (n + 1)
+wiped_more c s run w u v n at kept (OfCaller k lt) stop room =
+    let heap : v.now.words.heap ≡ u.now.words.heap = ap (λ (x : Written). x.heap) stop in
+    let p = 64 * run.page + n in
+    record {
+      changes = record {
+        call = call_behind c v.now k (step.Wipe p) lt ∙ kept.call ∙ at.changes.call;
+        holding = kept.holding ∙ at.changes.holding;
+        steady = kept.steady ∙ at.changes.steady;
+        gates = λ j. kept.gates j ∙ at.changes.gates j;
+      };
+      zeros = λ i le. elim (cases_eq i n) [
+        | inl e ↦ ap (λ j. slice_index (slice_set v.now.words.heap p 0) (64 * run.page + j)) e
+            ∙ get_or-set_same v.now.words.heap p 0 0 room
+        | inr ne ↦ get_or-set_other v.now.words.heap p (64 * run.page + i) 0 0 (λ e. ne (omega arith))
+            ∙ ap (λ (xs : List ℕ). slice_index xs (64 * run.page + i)) heap ∙ at.zeros i (omega arith)
+      ];
+    }
+
+module _ (p : PassState) (o : Option Op) (run : RunPages) (turn : IsTurn p o) (give : (call_of p).stage ≡ stage.Give)
+    (stopped : others_are_held p.table.config.callers (now_of p).words p.seat ≡ true) where
+  abbrev pub HasWiped : PassState → ℕ → Type 0
+  HasWiped q n = Reaches is_clearing p (λ v. WipedTo p.seat run (world_of p) v n) [] q
+
+  pub wiped_none : HasWiped p 0
+  wiped_none =
+      reaches_nothing is_clearing p (λ v. WipedTo p.seat run (world_of p) v 0)
+      (record { changes = changes_nothing p.seat (world_of p); zeros = λ i lt. absurd (omega arith) })
+
+  wiping : IsActing p.table.config (now_of p) p.seat
+  wiping = acting_now p o turn (give_acts (call_of p) give)
+
+  there_wiping : (v : World) → flight_of v.now p.seat ≡ flight_of (now_of p) p.seat
+      → IsActing p.table.config v.now p.seat
+  there_wiping v same = record {
+    there = wiping.there;
+    acts = ap (λ (f : Flight). is_acting f.stage) same
+        ∙ wiping.acts;
+  }
+
+  stopped_then : (v : World) → ((j : ℕ) → is_held v.now.words j ≡ is_held (now_of p).words j)
+      → others_are_held p.table.config.callers v.now.words p.seat ≡ true
+  stopped_then v gates =
+      all_below_from p.table.config.callers (λ j. is_number_of p.seat j || is_held v.now.words j)
+      (λ j lt. ap (λ b. is_number_of p.seat j || b) (gates j)
+      ∙ all_below-at p.table.config.callers j (λ i. is_number_of p.seat i || is_held (now_of p).words i) stopped lt)
+
+  pub wipe_may : (q : PassState) (n : ℕ) → HasWiped q n → (now_of p).seats.holding.freed ≡ Some run
+      → is_run_unmapped (now_of p).words run ≡ true
+      → n < 64 * run.count → run.page + run.count ≤ p.table.config.pages → IsEnabledTo q (step.Wipe (64 * run.page + n))
+  wipe_may q n reached freed unmapped near within =
+      let v : World = left p.table.config q.seen in
+      let at = reached.world in
+      let here : v.now.seats.holding.freed ≡ Some run = ap (λ (h : Holding). h.freed) at.changes.holding ∙ freed in
+      let pages : v.now.words.pages ≡ (now_of p).words.pages = ap (λ (x : Steady). x.pages) at.changes.steady in
+      let still : is_run_unmapped v.now.words run ≡ true =
+      ap (λ (ps : List Page). all_below run.count (λ d. (slice_index_or ps (run.page + d) free_page).header ==
+      unmapped_header run.count d)) pages ∙ unmapped in
+      let word = 64 * run.page + n in
+      let inside : is_in_run run word ≡ true =
+      and_from (nat_le run.page (word / 64)) (nat_lt (word / 64 - run.page) run.count)
+      (le-leb run.page (word / 64) (omega arith))
+      (lt-ltb (word / 64 - run.page) run.count (omega arith)) in
+      reached_there is_clearing p q _ [] reached (λ (x : PassState). IsEnabledTo x (step.Wipe word))
+      (may_wipe p.table.config v.now p.seat (there_wiping v at.changes.call) word (omega arith)
+      (ap (λ (x : Option RunPages). is_in_gone_run v.now.words x word) here
+      ∙ and_from (is_in_run run word) (is_run_unmapped v.now.words run) inside still))
+
+  pub wipes_on : (q r : PassState) (n : ℕ) → HasWiped q n → IsTurn q o → n < 64 * run.count
+      → run.page + run.count ≤ p.table.config.pages
+      → Acts q (step.Wipe (64 * run.page + n)) r → Has q.seats q.seat → IsHistory r.table.config r.seen
+      → HasWiped r (n + 1)
+  wipes_on q r n reached holds near within a own history =
+      let holds_here : Holds p.table.config (left p.table.config q.seen).now p.seat =
+      subst (λ (x : PassState). Holds x.table.config (now_of x) x.seat) reached.same holds.holds in
+      let with_turn = reaches_so is_clearing p q (λ v. WipedTo p.seat run (world_of p) v n)
+      (λ v. WipedTo p.seat run (world_of p) v n × HoldsAll p.table.config v.now p.seat) [] reached
+      (λ at. (at, (holds_here, stopped_then (left p.table.config q.seen) at.changes.gates))) in
+      reaches_still_in_stop is_clearing p q r (λ v. WipedTo p.seat run (world_of p) v n
+      × HoldsAll p.table.config v.now p.seat)
+      (λ v. WipedTo p.seat run (world_of p) v (n + 1)) []
+      (step.Wipe (64 * run.page + n)) with_turn a own history refl refl (acting_caller p (give_acts (call_of p) give))
+      refl
+      (λ w v here kept stop known pages.
+      let call = acting_has_call p.table.config v.now p.seat known.orderly.flights
+      (there_wiping v (kept.call ∙ here.0.changes.call)) in
+      let room = pages.heap in
+      wiped_more p.table.config p.seat run (world_of p) w v n here.0 kept call (stop here.1) (omega arith))
+
+  pub wiped_all : (q : PassState) → HasWiped q (64 * run.count) → Wipes p run q
+  wiped_all q reached =
+      reaches_so is_clearing p q (λ v. WipedTo p.seat run (world_of p) v (64 * run.count))
+      (RunIsWiped p.seat run (world_of p)) [] reached
+      (λ at. record {
+        changes = at.changes;
+        wiped = all_below_from (64 * run.count) (λ i. slice_index _ (64 * run.page + i) == 0)
+            (λ i lt. eq-eqb _ 0 (at.zeros i lt));
+      })

@@ -1,0 +1,54 @@
+use Rattle.std.proofs.Common.{◌≡◌, ℕ, sym, ap, ◌∙◌}
+use Rattle.std.specs.Prelude.{Option, option_map, slice_index_or}
+use Rattle.mk_geom.specs.Storages.{free_page}
+use Rattle.mk_geom.specs.Headers.{header_of}
+use Rattle.mk_core.specs.Cells.{heads_run}
+use Rattle.mk_core.specs.Frames.{Steady}
+use Rattle.mk_core.specs.Words.{header_at}
+use Rattle.mk_words.specs.States.{PassState, now_of}
+use Rattle.mk_objects.specs.Placing.{is_look}
+use Rattle.mk_objects.proofs.DecidedFrees.{look_frees, look_not}
+use Rattle.mk_objects.proofs.JoinedLooks.{looks_left, looks_table}
+use Rattle.mk_objects.proofs.LargeFrees.{heads_none}
+use Rattle.mk_objects.proofs.PreparedFrees.{frees_behind, looks_prepare, still_open}
+use Rattle.mk_objects.proofs.freeing.free_found.Goals as goal
+
+pub cell_words-size-requires : goal.cell_words-size-requires
+cell_words-size-requires g c =
+    heads_none (header_of c.look_at-header.result) 0
+    (c.run_under.ensures 0 ∙ ap (λ (x : Option ℕ). option_map (λ n. record { page = 0; count = n }) x) c.in-None.is)
+
+pub free_small-requires-clause-gates : goal.free_small-requires-clause-gates
+free_small-requires-clause-gates g c =
+    let p : PassState = c.args.turn.now.pass in
+    let q : PassState = c.look_at-header.new.turn.pass in
+    still_open p q (sym (looks_table p q c.look_at-header.ensures.looks))
+    (looks_left p q c.look_at-header.ensures.looks).gates c.requires.gates
+
+pub free_small-requires-clause-small : goal.free_small-requires-clause-small
+free_small-requires-clause-small g c =
+    let p : PassState = c.args.turn.now.pass in
+    let q : PassState = c.look_at-header.new.turn.pass in
+    let found : header_at (now_of q).words c.args.cell.page ≡ c.look_at-header.result =
+    ap (λ (x : Steady). (slice_index_or x.pages c.args.cell.page free_page).header)
+    (looks_left p q c.look_at-header.ensures.looks).steady
+    ∙ sym c.look_at-header.ensures.finds in
+    ap (λ (n : ℕ). heads_run (header_of n)) found
+    ∙ heads_none (header_of c.look_at-header.result) 0
+    (c.run_under.ensures 0 ∙ ap (λ (x : Option ℕ). option_map (λ n. record { page = 0; count = n }) x) c.in-None.is)
+
+pub returns-in-Some-clause-frees : goal.returns-in-Some-clause-frees
+returns-in-Some-clause-frees g c =
+    let p : PassState = c.args.turn.now.pass in
+    let q : PassState = c.look_at-header.new.turn.pass in
+    frees_behind is_look p q (looks_prepare p q c.look_at-header.ensures.looks) c.free_run.new.turn.pass c.args.cell
+    c.free_run.result look_frees look_not
+    c.is_in_order-2.ensures.history c.is_in_order.ensures.turn.holds c.free_run.ensures.frees
+
+pub returns-in-None-clause-frees : goal.returns-in-None-clause-frees
+returns-in-None-clause-frees g c =
+    let p : PassState = c.args.turn.now.pass in
+    let q : PassState = c.look_at-header.new.turn.pass in
+    frees_behind is_look p q (looks_prepare p q c.look_at-header.ensures.looks) c.free_small.new.turn.pass c.args.cell
+    c.free_small.result look_frees look_not
+    c.is_in_order-2.ensures.history c.is_in_order.ensures.turn.holds c.free_small.ensures.frees

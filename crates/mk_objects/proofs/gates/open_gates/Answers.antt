@@ -1,0 +1,62 @@
+use Rattle.std.proofs.Common.{◌+◌, ◌<◌, refl, ap, sym, ◌∙◌, arith}
+use Rattle.mk_core.specs.declared.events.Seat.{Seat}
+use Rattle.mk_words.specs.States.{PassState, WordsState}
+use Rattle.mk_objects.specs.FreeParts.{all_others, held_from, is_settling, no_gate}
+use Rattle.mk_objects.proofs.SetGates.{all_yet_held, opened_next, opened_so_far, opens_none, set_acting, set_held}
+use Rattle.mk_objects.proofs.SetGates.{set_phase, set_seat, set_there, sets_more, sets_named}
+use Rattle.mk_objects.proofs.gates.open_gates.Goals as goal
+
+pub loop-caller-init : goal.loop-caller-init
+loop-caller-init c = record {
+  op = refl;
+  sets = opens_none c.args.turn.now.pass c.requires.held;
+  gone = c.requires.gone;
+}
+
+pub open_other-requires-clause-acting : goal.open_other-requires-clause-acting
+open_other-requires-clause-acting c =
+    set_acting is_settling c.args.turn.now.pass _ _ c.loop-caller.invariant.sets c.requires.acting
+
+pub open_other-requires-clause-phase : goal.open_other-requires-clause-phase
+open_other-requires-clause-phase c =
+    set_phase is_settling c.args.turn.now.pass _ _ c.loop-caller.invariant.sets c.requires.phase
+
+pub open_other-requires-clause-within : goal.open_other-requires-clause-within
+open_other-requires-clause-within c =
+    let p : PassState = c.args.turn.now.pass in
+    let table = ap (λ (w : WordsState). w.config.callers) c.requires.one_table in
+    let here : c.loop-caller.caller < p.table.config.callers =
+    omega (arith, c.loop-caller-test.true, c.callers-caller-end.ensures) in
+    set_there is_settling p _ _ c.loop-caller.invariant.sets
+    (λ (x : PassState). c.loop-caller.caller < x.table.config.callers) here
+
+pub open_other-requires-clause-held : goal.open_other-requires-clause-held
+open_other-requires-clause-held c =
+    let p : PassState = c.args.turn.now.pass in
+    let n = c.loop-caller.caller in
+    let table = ap (λ (w : WordsState). w.config.callers) c.requires.one_table in
+    let here : n < p.table.config.callers = omega (arith, c.loop-caller-test.true, c.callers-caller-end.ensures) in
+    set_held is_settling p _ _ c.loop-caller.invariant.sets n here ∙ all_yet_held p.seat n
+    ∙ ap (λ (s : Seat). all_others s n) (sym (set_seat is_settling p _ _ c.loop-caller.invariant.sets))
+
+pub loop-caller-preserved : goal.loop-caller-preserved
+loop-caller-preserved c =
+    let p : PassState = c.args.turn.now.pass in
+    let q : PassState = c.loop-caller.turn.pass in
+    let n = c.loop-caller.caller in
+    record {
+      op = c.open_other.ensures.op ∙ c.loop-caller.invariant.op;
+      sets = sets_more is_settling p q c.open_other.new.turn.pass (held_from p.seat n) (held_from p.seat (n + 1)) n _
+          c.loop-caller.invariant.sets c.open_other.ensures.sets (λ j ne. opened_next p.seat n j ne)
+          (opened_so_far p.seat (n + 1) n (omega arith));
+      gone = c.open_other.ensures.gone;
+    }
+
+pub returns-clause-sets : goal.returns-clause-sets
+returns-clause-sets c =
+    let p : PassState = c.args.turn.now.pass in
+    let table = ap (λ (w : WordsState). w.config.callers) c.requires.one_table in
+    sets_named is_settling p c.loop-caller.turn.pass (held_from p.seat c.loop-caller.caller) no_gate
+    c.loop-caller.invariant.sets
+    (λ j lt. opened_so_far p.seat c.loop-caller.caller j
+    (omega (arith, lt, table, c.loop-caller-test.false, c.callers-caller-end.ensures)))

@@ -1,0 +1,46 @@
+use Rattle.std.proofs.Common.{◌≡◌, true, false, ap, sym, ◌∙◌}
+use Rattle.std.specs.Prelude.{not}
+use Rattle.mk_core.specs.declared.events.Seat.{Seat}
+use Rattle.mk_core.specs.Moments.{is_number_of}
+use Rattle.mk_core.specs.NewPlaces.{is_run_gone}
+use Rattle.mk_words.specs.States.{PassState, now_of}
+use Rattle.mk_objects.specs.FreeParts.{is_settling}
+use Rattle.mk_objects.proofs.GoneRuns.{still_gone}
+use Rattle.mk_objects.proofs.Looks.{acting_now}
+use Rattle.mk_objects.proofs.MayAct.{may_open}
+use Rattle.mk_objects.proofs.SetGates.{one_there, set_nothing, sets_open}
+use Rattle.mk_objects.proofs.gates.open_other.Goals as goal
+
+pub open_gate-requires-clause-enabled : goal.open_gate-requires-clause-enabled
+open_gate-requires-clause-enabled c =
+    let p : PassState = c.args.turn.now.pass in
+    let another : is_number_of p.seat c.args.caller ≡ false =
+    ap (λ (s : Seat). is_number_of s c.args.caller) (sym c.seat.ensures) ∙ sym c.is_own.ensures
+    ∙ c.if-not-is_own.true in
+    may_open p.table.config (now_of p) p.seat (acting_now p c.args.turn.now.op c.is_in_order.ensures.turn
+    c.requires.acting) c.args.caller
+    c.requires.within another (c.requires.held ∙ ap not another) c.requires.phase c.requires.gone
+
+pub returns-then-not-is_own-clause-sets : goal.returns-then-not-is_own-clause-sets
+returns-then-not-is_own-clause-sets c =
+    let p : PassState = c.args.turn.now.pass in
+    sets_open p c.open_gate.new.self.pass c.args.turn.now.op c.args.caller c.is_in_order.ensures.turn
+    c.requires.acting c.is_in_order.ensures.own
+    c.is_in_order-then-not-is_own.ensures.history c.open_gate.ensures.acts c.requires.within
+
+pub returns-then-not-is_own-clause-gone : goal.returns-then-not-is_own-clause-gone
+returns-then-not-is_own-clause-gone c =
+    let p : PassState = c.args.turn.now.pass in
+    let sets = returns-then-not-is_own-clause-sets c in
+    one_there is_settling p c.open_gate.new.self.pass _ _ sets
+    (λ (x : PassState). is_run_gone (now_of x).words (now_of x).seats.holding.freed ≡ true)
+    (still_gone p c.open_gate.new.self.pass sets.does c.is_in_order-then-not-is_own.ensures.history
+    c.is_in_order.ensures.turn.holds c.requires.gone)
+
+pub returns-else-not-is_own-clause-sets : goal.returns-else-not-is_own-clause-sets
+returns-else-not-is_own-clause-sets c =
+    let p : PassState = c.args.turn.now.pass in
+    let own : is_number_of p.seat c.args.caller ≡ true =
+    ap (λ (s : Seat). is_number_of s c.args.caller) (sym c.seat.ensures) ∙ sym c.is_own.ensures
+    ∙ c.if-not-is_own.false in
+    set_nothing is_settling p c.args.caller false (c.requires.held ∙ ap not own)

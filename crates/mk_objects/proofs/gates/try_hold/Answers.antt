@@ -1,0 +1,38 @@
+use Rattle.std.proofs.Common.{refl, sym, ◌∙◌}
+use Rattle.mk_core.specs.declared.events.Step.TheVariants as step
+use Rattle.mk_core.specs.Moments.{is_held}
+use Rattle.mk_words.specs.States.{PassState, now_of}
+use Rattle.mk_words.proofs.Undecided.{decides_nothing}
+use Rattle.mk_objects.proofs.LoadedFrees.{value_kept}
+use Rattle.mk_objects.proofs.Looks.{acting_caller, acting_now}
+use Rattle.mk_objects.proofs.MayAct.{may_hold}
+use Rattle.mk_objects.proofs.SetGates.{sets_hold, tried}
+use Rattle.mk_objects.proofs.gates.try_hold.Goals as goal
+
+pub try_hold-requires-clause-enabled : goal.try_hold-requires-clause-enabled
+try_hold-requires-clause-enabled c =
+    let p : PassState = c.args.turn.now.pass in
+    may_hold p.table.config (now_of p) p.seat (acting_now p c.args.turn.now.op c.is_in_order.ensures.turn
+    c.requires.acting) c.args.caller
+    c.requires.within c.requires.another c.requires.open
+
+pub returns-clause-held : goal.returns-clause-held
+returns-clause-held c =
+    tried c.try_hold.result (is_held (now_of c.try_hold.new.self.pass).words c.args.caller) c.try_hold.ensures.held
+    c.try_hold.ensures.not_held ∙ sym c.is_ok-held.ensures.value
+
+pub returns-clause-sets : goal.returns-clause-sets
+returns-clause-sets c =
+    let p : PassState = c.args.turn.now.pass in
+    sets_hold p c.try_hold.new.self.pass c.args.turn.now.op c.args.caller c.is_in_order.ensures.turn c.requires.acting
+    c.is_in_order.ensures.own
+    c.is_in_order-2.ensures.history c.is_ok-held.result c.try_hold.ensures.acts (returns-clause-held c)
+
+pub returns-clause-keeps : goal.returns-clause-keeps
+returns-clause-keeps c =
+    let p : PassState = c.args.turn.now.pass in
+    λ r lt.
+    value_kept p c.try_hold.new.self.pass r (step.Hold c.args.caller) (acting_caller p c.requires.acting) lt
+    c.try_hold.ensures.acts
+    c.is_in_order.ensures.own c.is_in_order-2.ensures.history
+    (λ v kept known. decides_nothing p.table.config v.now p.seat (step.Hold c.args.caller) refl)

@@ -1,0 +1,50 @@
+use Rattle.std.proofs.Common.{◌≡◌, ◌+◌, refl, sym, subst, ◌∙◌, arith}
+use Rattle.mk_core.specs.declared.events.Step.TheVariants as step
+use Rattle.mk_words.specs.States.{PassState}
+use Rattle.mk_words.specs.Steps.{IsEnabledTo}
+use Rattle.mk_words.specs.TurnSteps.{Acts}
+use Rattle.mk_objects.proofs.UnmappedRuns.{HasUnmapped, unmap_may, unmapped_all, unmapped_none, unmaps_on}
+use Rattle.mk_objects.proofs.unmapping.unmap_run.Goals as goal
+
+pub loop-distance-init : goal.loop-distance-init
+loop-distance-init c =
+    record {
+      op = refl;
+      unmapped = unmapped_none c.args.turn.now.pass c.args.turn.now.op c.args.run c.is_in_order.ensures.turn
+          c.requires.decided c.requires.phase c.requires.mapped;
+    }
+
+pub head-requires-clause-enabled : goal.head-requires-clause-enabled
+head-requires-clause-enabled c =
+    let p : PassState = c.args.turn.now.pass in
+    let d = c.loop-distance.distance in
+    subst (λ n. IsEnabledTo c.loop-distance.turn.pass (step.Head (c.args.run.page + d) n))
+    (sym c.unmapped_header.ensures)
+    (unmap_may p c.args.turn.now.op c.args.run c.is_in_order.ensures.turn c.requires.decided c.requires.phase
+    c.loop-distance.turn.pass d
+    c.loop-distance.invariant.unmapped c.requires.stopped c.requires.freed c.loop-distance-test.true c.requires.within)
+
+pub loop-distance-preserved : goal.loop-distance-preserved
+loop-distance-preserved c =
+    let p : PassState = c.args.turn.now.pass in
+    let d = c.loop-distance.distance in
+    let a = subst (λ n. Acts c.loop-distance.turn.pass (step.Head (c.args.run.page + d) n) c.head.new.self.pass)
+    c.unmapped_header.ensures c.head.ensures.acts in
+    record {
+      op = c.head.ensures.op ∙ c.loop-distance.invariant.op;
+      unmapped = unmaps_on p c.args.turn.now.op c.args.run c.is_in_order.ensures.turn c.requires.decided
+          c.requires.phase
+          c.loop-distance.turn.pass c.head.new.self.pass d c.loop-distance.invariant.unmapped
+          c.loop-distance-test.true c.requires.within a
+          c.is_in_order-in-loop-distance.ensures.own c.is_in_order-in-loop-distance-2.ensures.history;
+    }
+
+pub returns-clause-unmaps : goal.returns-clause-unmaps
+returns-clause-unmaps c =
+    let p : PassState = c.args.turn.now.pass in
+    let all : c.loop-distance.distance ≡ c.args.run.count =
+    omega (arith, c.loop-distance-test.false, c.loop-distance.auto.distance-end) in
+    unmapped_all p c.args.turn.now.op c.args.run c.is_in_order.ensures.turn c.requires.decided c.requires.phase
+    c.loop-distance.turn.pass
+    (subst (λ n. HasUnmapped p c.args.turn.now.op c.args.run c.is_in_order.ensures.turn c.requires.decided
+    c.requires.phase c.loop-distance.turn.pass n) all c.loop-distance.invariant.unmapped)

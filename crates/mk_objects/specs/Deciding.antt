@@ -1,0 +1,83 @@
+-- How a Free's call comes to be decided, and what stays so behind that.
+use Rattle.std.specs.Prelude.{◌≡◌, ◌↔◌, ◌==◌, ℕ, ◌<◌, Bool, true, false, IsTrue, [], map, Some, None}
+use Rattle.mk_geom.specs.declared.addresses.Cell.{Cell}
+use Rattle.mk_core.specs.declared.events.Answer.TheVariants as answer
+use Rattle.mk_core.specs.declared.events.Seat.{Seat}
+use Rattle.mk_core.specs.declared.events.Step.{Step}
+use Rattle.mk_core.specs.declared.events.Step.TheVariants as step
+use Rattle.mk_core.specs.declared.seats.Stage.TheVariants as stage
+use Rattle.mk_core.specs.Allocations.{freed_where_it_stands}
+use Rattle.mk_core.specs.Counts.{TalliesAreExact, releases}
+use Rattle.mk_core.specs.History.{World}
+use Rattle.mk_core.specs.Cells.{is_freed}
+use Rattle.mk_core.specs.Moments.{flight_of, is_held}
+use Rattle.mk_core.specs.NewPlaces.{is_run_gone, target}
+use Rattle.mk_core.specs.Words.{phase_of}
+use Rattle.mk_words.specs.States.{PassState, call_of, now_of, world_of}
+use Rattle.mk_objects.specs.Dues.{FreesOnce, IsOverQuarter}
+use Rattle.mk_objects.specs.Placing.{IsOutOfStop, Reaches, entry_for}
+use Rattle.mk_objects.specs.Retiring.{IsFreeAt, is_freeing, loaded_free}
+
+-- the kinds of step that come behind the `quar`
+abbrev pub is_following : Step → Bool
+is_following (step.Look x) = true
+is_following (step.Open j) = true
+is_following (step.Head p v) = true
+is_following (step.Wipe n) = true
+is_following (step.Tally n v) = true
+is_following _ = false
+
+-- The call is decided. Its turn has the same place and cycle, the phase is the same, and all that is counted but held
+-- and fresh words.
+pub record IsDecidedAt (s : Seat) (w v : World) : Type 0 where
+  pub stage : (flight_of v.now s).stage ≡ stage.Give
+  pub op : (flight_of v.now s).op ≡ (flight_of w.now s).op
+  pub placing : v.now.seats.holding.placing ≡ w.now.seats.holding.placing
+  pub cycle : v.now.seats.holding.cycle ≡ w.now.seats.holding.cycle
+  pub phase : phase_of v.now.words ≡ phase_of w.now.words
+  pub cycles : v.now.words.cycles ≡ w.now.words.cycles
+  pub released : v.now.words.released ≡ w.now.words.released
+  pub full : v.now.words.full ≡ w.now.words.full
+  pub releases : releases v.allocations ≡ releases w.allocations
+
+-- The call stays where it is, with all of that, and the allocations.
+pub record StaysSo (s : Seat) (w v : World) : Type 0 where
+  pub call : flight_of v.now s ≡ flight_of w.now s
+  pub holding : v.now.seats.holding ≡ w.now.seats.holding
+  pub phase : phase_of v.now.words ≡ phase_of w.now.words
+  pub cycles : v.now.words.cycles ≡ w.now.words.cycles
+  pub released : v.now.words.released ≡ w.now.words.released
+  pub full : v.now.words.full ≡ w.now.words.full
+  pub fresh_words : v.now.fresh_words ≡ w.now.fresh_words
+  pub allocations : v.allocations ≡ w.allocations
+
+-- The object of the cell was freed, by one event of the turn, and it is known whether that is due.
+pub record FreesCell (p : PassState) (cell : Cell) (due : Bool) (q : PassState) : Type 0 where
+  pub reaches : Reaches is_freeing p (IsDecidedAt p.seat (world_of p)) (entry_for p answer.Done) q
+  pub allocations : (world_of q).allocations ≡ map (freed_where_it_stands (now_of p).words (Some cell))
+      (world_of p).allocations
+  pub once : FreesOnce p q
+  pub gone : is_run_gone (now_of q).words (now_of q).seats.holding.freed ≡ true
+  pub gates : (j : ℕ) → j < p.table.config.callers → is_held (now_of q).words j ≡ false
+  pub exact : TalliesAreExact q.table.config q.seen
+  pub exactly : IsTrue due ↔ IsOverQuarter p.table.config (world_of q).allocations
+
+-- The Free has loaded its register, whose target isn't freed, and nothing else is under way in its turn.
+pub record MayFree (p : PassState) (r u : ℕ) (cell : Cell) : Type 0 where
+  pub free : IsFreeAt p r (loaded_free r u)
+  pub some : (u == 0) ≡ false
+  pub target : target p.table.config.pages (now_of p).words (call_of p) ≡ Some cell
+  pub within : cell.page < p.table.config.pages
+  pub index : cell.index < 32
+  pub live : is_freed (now_of p).words cell ≡ false
+  pub phase : IsOutOfStop (now_of p)
+  pub none_freed : (now_of p).seats.holding.freed ≡ None
+  pub exact : TalliesAreExact p.table.config p.seen
+
+-- The run that the call has freed is unmapped and wiped, all gates are open, and the tallies are as they were.
+pub record ClearsRun (p q : PassState) : Type 0 where
+  pub stays : Reaches is_following p (StaysSo p.seat (world_of p)) [] q
+  pub held : (now_of q).words.held ≡ (now_of p).words.held
+  pub fresh : (now_of q).words.fresh ≡ (now_of p).words.fresh
+  pub gone : is_run_gone (now_of q).words (now_of q).seats.holding.freed ≡ true
+  pub gates : (j : ℕ) → j < p.table.config.callers → is_held (now_of q).words j ≡ false

@@ -1,0 +1,226 @@
+//! Freeing the object of a Free under the turn: it is quarantined, and counted.
+ghost use Rattle.std.specs.Prelude.{◌≡◌, ℕ, ◌<◌, true, false, IfOk, OnErr, Some, option_map};
+ghost use Rattle.mk_core.specs.declared.events.Word.TheVariants as word;
+ghost use Rattle.mk_geom.specs.Headers.{header_of};
+ghost use Rattle.mk_core.specs.Cells.{header_in, heads_run, run_headed, words_under};
+ghost use Rattle.mk_core.specs.Counts.{TalliesAreExact};
+ghost use Rattle.mk_core.specs.Moments.{none_is_held, nothing_done};
+ghost use Rattle.mk_core.specs.Words.{named_word};
+ghost use Rattle.mk_words.specs.States.{call_of, now_of};
+ghost use Rattle.mk_objects.specs.Deciding.{FreesCell, MayFree};
+ghost use Rattle.mk_objects.specs.FreeParts.{HasRunAt, HoldsOthers, SetsTally, run_on};
+ghost use Rattle.mk_objects.specs.Looking.{is_acting};
+ghost use Rattle.mk_objects.specs.Placing.{IsOutOfStop};
+ghost use Rattle.mk_objects.specs.Retired.{FindsFreed, Retires};
+ghost use Rattle.mk_objects.specs.Retiring.{IsUnloaded};
+
+use crate::gates::hold_gates;
+use crate::looking::look_at;
+use crate::retiring::{find_cell, is_freed, load_freed, look_at_quarantine, quarantine};
+use crate::unmapping::{PAGE_WORDS, clear_run};
+use mk_books::due;
+use mk_core::{RunPages, Tally, Word};
+use mk_geom::{Cell, Header, class_words, decode};
+use mk_words::{Turn, Words};
+use std::sync::Wait;
+use std::thread::Threads;
+
+/// What a free tells: whether a cycle is due.
+#[derive(Clone, Copy, Debug, PartialEq, Eq)]
+pub struct Freed {
+    pub due: bool,
+}
+
+/// The object is freed already.
+#[derive(Clone, Copy, Debug, PartialEq, Eq)]
+pub struct Double;
+
+/// Sets a tally.
+fn set_tally(words: &Words, turn: &mut Turn, tally: Tally, value: u64)
+    requires one_table { turn.old.pass.table ≡ words.now }
+    requires acting { is_acting (call_of turn.old.pass).stage ≡ true }
+    ensures op { turn.new.op ≡ turn.old.op }
+    ensures sets { SetsTally turn.old.pass tally value turn.new.pass }
+{
+    turn.is_in_order();
+    turn.tally(words, tally, value);
+    turn.is_in_order();
+}
+
+/// Frees an object that takes a cell of a block, of so many words, and says whether that is due.
+fn free_small(
+    words: &Words,
+    turn: &mut Turn,
+    register: u8,
+    value: u64,
+    cell: Cell,
+    quar: u64,
+    size: u64,
+) -> bool
+    requires one_table { turn.old.pass.table ≡ words.now }
+    requires may { MayFree turn.old.pass register value cell }
+    requires gates { none_is_held turn.old.pass.table.config.callers (now_of turn.old.pass).words ≡ true }
+    requires quar { quar ≡ named_word (now_of turn.old.pass).words (word.Quar cell.page) }
+    requires small { heads_run (header_in (now_of turn.old.pass).words cell.page) ≡ false }
+    requires size { size ≡ words_under (header_in (now_of turn.old.pass).words cell.page) }
+    ensures op { turn.new.op ≡ turn.old.op }
+    ensures frees { FreesCell turn.old.pass cell result turn.new.pass }
+{
+    turn.is_in_order();
+    quarantine(words, turn, register, value, cell, quar);
+    turn.is_in_order();
+    let fresh = look_at(words, turn, Word::Fresh).saturating_add(size);
+    set_tally(words, turn, Tally::Fresh, fresh);
+    let held = look_at(words, turn, Word::Held);
+    turn.is_in_order();
+    due(fresh, held)
+}
+
+/// Frees a large object, whose run has so many pages, while the gates of all other callers are held. They are opened
+/// behind it. Says whether that is due.
+fn free_stopped(
+    words: &Words,
+    turn: &mut Turn,
+    register: u8,
+    value: u64,
+    cell: Cell,
+    quar: u64,
+    count: u64,
+) -> bool
+    requires one_table { turn.old.pass.table ≡ words.now }
+    requires may { MayFree turn.old.pass register value cell }
+    requires held { HoldsOthers turn.old.pass }
+    requires quar { quar ≡ named_word (now_of turn.old.pass).words (word.Quar cell.page) }
+    requires run { HasRunAt turn.old.pass cell.page count }
+    ensures op { turn.new.op ≡ turn.old.op }
+    ensures frees { FreesCell turn.old.pass cell result turn.new.pass }
+{
+    turn.is_in_order();
+    quarantine(words, turn, register, value, cell, quar);
+    turn.is_in_order();
+    clear_run(
+        words,
+        turn,
+        RunPages {
+            page: cell.page,
+            count,
+        },
+    );
+    turn.is_in_order();
+    let held = look_at(words, turn, Word::Held) - PAGE_WORDS * count;
+    set_tally(words, turn, Tally::Held, held);
+    let fresh = look_at(words, turn, Word::Fresh);
+    turn.is_in_order();
+    due(fresh, held)
+}
+
+/// Frees a large object, whose run has so many pages, once all other callers are in no call. Says whether that is due.
+fn free_run<R: Wait>(
+    rt: &R,
+    words: &Words,
+    turn: &mut Turn,
+    register: u8,
+    value: u64,
+    cell: Cell,
+    quar: u64,
+    count: u64,
+) -> bool
+    requires one_table { turn.old.pass.table ≡ words.now }
+    requires may { MayFree turn.old.pass register value cell }
+    requires gates { none_is_held turn.old.pass.table.config.callers (now_of turn.old.pass).words ≡ true }
+    requires quar { quar ≡ named_word (now_of turn.old.pass).words (word.Quar cell.page) }
+    requires run { HasRunAt turn.old.pass cell.page count }
+    ensures op { turn.new.op ≡ turn.old.op }
+    ensures frees { FreesCell turn.old.pass cell result turn.new.pass }
+{
+    turn.is_in_order();
+    hold_gates(rt, words, turn);
+    turn.is_in_order();
+    free_stopped(words, turn, register, value, cell, quar, count)
+}
+
+/// How many pages the run has that is headed under this header word.
+fn run_under(header: u64) -> Option<u64>
+    ensures { (page : ℕ) → run_headed (header_of header) page ≡ option_map (run_on page) result }
+{
+    match decode(header) {
+        Some(Header::Run { pages, .. } | Header::LeafRun { pages }) => Some(pages),
+        _ => None,
+    }
+}
+
+/// How many words a cell has under the header word of its block.
+fn cell_words(header: u64) -> u64
+    requires { heads_run (header_of header) ≡ false }
+    ensures { result ≡ words_under (header_of header) }
+{
+    match decode(header) {
+        Some(Header::Block(class) | Header::LeafBlock(class)) => class_words(class),
+        _ => 0,
+    }
+}
+
+/// Frees the object whose cell was found, and says whether that is due.
+fn free_found<R: Wait>(
+    rt: &R,
+    words: &Words,
+    turn: &mut Turn,
+    register: u8,
+    value: u64,
+    cell: Cell,
+    quar: u64,
+) -> bool
+    requires one_table { turn.old.pass.table ≡ words.now }
+    requires may { MayFree turn.old.pass register value cell }
+    requires gates { none_is_held turn.old.pass.table.config.callers (now_of turn.old.pass).words ≡ true }
+    requires quar { quar ≡ named_word (now_of turn.old.pass).words (word.Quar cell.page) }
+    ensures op { turn.new.op ≡ turn.old.op }
+    ensures frees { FreesCell turn.old.pass cell result turn.new.pass }
+{
+    turn.is_in_order();
+    let header = look_at(words, turn, Word::Head(cell.page));
+    turn.is_in_order();
+    match run_under(header) {
+        Some(count) => free_run(rt, words, turn, register, value, cell, quar, count),
+        None => {
+            let size = cell_words(header);
+            free_small(words, turn, register, value, cell, quar, size)
+        }
+    }
+}
+
+/// Frees the object that a register points to: it is quarantined, and where it is large its pages are unmapped and its
+/// words wiped while all other callers are in no call. Nothing happens where the register is null.
+pub fn retire_object<R: Threads + Wait + Sync>(
+    rt: &R,
+    words: &Words,
+    turn: &mut Turn,
+    p: u8,
+) -> Result<Freed, Double>
+    requires one_table { turn.old.pass.table ≡ words.now }
+    requires unloaded { IsUnloaded turn.old.pass p }
+    requires phase { IsOutOfStop (now_of turn.old.pass) }
+    requires nothing_done { (now_of turn.old.pass).seats.holding ≡ nothing_done }
+    requires gates { none_is_held turn.old.pass.table.config.callers (now_of turn.old.pass).words ≡ true }
+    requires exact { TalliesAreExact turn.old.pass.table.config turn.old.pass.seen }
+    ensures op { turn.new.op ≡ turn.old.op }
+    ensures freed { IfOk result (λ freed. Retires turn.old.pass p freed.due turn.new.pass) }
+    ensures double { OnErr result (FindsFreed turn.old.pass p turn.new.pass) }
+{
+    turn.is_in_order();
+    let value = load_freed(words, turn, p);
+    turn.is_in_order();
+    if value == 0 {
+        return Ok(Freed { due: false });
+    }
+    let cell = find_cell(words, turn, value);
+    turn.is_in_order();
+    let quar = look_at_quarantine(words, turn, p, value, cell);
+    turn.is_in_order();
+    if is_freed(quar, cell) {
+        return Err(Double);
+    }
+    let due = free_found(rt, words, turn, p, value, cell, quar);
+    turn.is_in_order();
+    Ok(Freed { due })
+}

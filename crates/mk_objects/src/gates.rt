@@ -1,0 +1,128 @@
+//! The gates of all other callers: a large Free holds them while its run is unmapped.
+ghost use Rattle.std.specs.Prelude.{◌≡◌, ℕ, ◌<◌, true, false};
+ghost use Rattle.mk_core.specs.Moments.{is_held, is_number_of, none_is_held};
+ghost use Rattle.mk_core.specs.NewPlaces.{is_run_gone};
+ghost use Rattle.mk_words.specs.States.{call_of, now_of};
+ghost use Rattle.mk_objects.specs.FreeParts.{HoldsOthers, SetsGate, SetsGates};
+ghost use Rattle.mk_objects.specs.FreeParts.{all_others, is_holding, is_settling, no_gate};
+ghost use Rattle.mk_objects.specs.Looking.{is_acting};
+ghost use Rattle.mk_objects.specs.Placing.{IsOutOfStop};
+ghost use Rattle.mk_objects.specs.Retiring.{value_of};
+
+use crossbeam_utils::Backoff;
+use mk_core::Seat;
+use mk_words::{Turn, Words};
+use std::sync::Wait;
+
+/// Whether the seat is that caller's.
+fn is_own(seat: Seat, caller: u64) -> bool
+    ensures { result ≡ is_number_of seat caller }
+{
+    match seat {
+        Seat::Caller(own) => own == caller,
+        Seat::Marker(_) | Seat::Host => false,
+    }
+}
+
+/// Tries to hold a caller's gate, and says whether it is held.
+fn try_hold(words: &Words, turn: &mut Turn, caller: u64) -> bool
+    requires one_table { turn.old.pass.table ≡ words.now }
+    requires acting { is_acting (call_of turn.old.pass).stage ≡ true }
+    requires within { caller < turn.old.pass.table.config.callers }
+    requires another { is_number_of turn.old.pass.seat caller ≡ false }
+    requires open { is_held (now_of turn.old.pass).words caller ≡ false }
+    ensures op { turn.new.op ≡ turn.old.op }
+    ensures held { is_held (now_of turn.new.pass).words caller ≡ result }
+    ensures sets { SetsGate is_holding turn.old.pass caller result turn.new.pass }
+    ensures keeps { (r : ℕ) → r < 8 → value_of turn.new.pass r ≡ value_of turn.old.pass r }
+{
+    turn.is_in_order();
+    let held = turn.try_hold(words, caller).is_ok();
+    turn.is_in_order();
+    held
+}
+
+/// Holds a caller's gate, once the caller is in no call.
+fn hold_gate<R: Wait>(rt: &R, words: &Words, turn: &mut Turn, caller: u64)
+    requires one_table { turn.old.pass.table ≡ words.now }
+    requires acting { is_acting (call_of turn.old.pass).stage ≡ true }
+    requires within { caller < turn.old.pass.table.config.callers }
+    requires another { is_number_of turn.old.pass.seat caller ≡ false }
+    requires open { is_held (now_of turn.old.pass).words caller ≡ false }
+    ensures op { turn.new.op ≡ turn.old.op }
+    ensures sets { SetsGate is_holding turn.old.pass caller true turn.new.pass }
+    ensures keeps { (r : ℕ) → r < 8 → value_of turn.new.pass r ≡ value_of turn.old.pass r }
+{
+    let backoff = Backoff::new();
+    'trying: for _ in rt.forever() {
+        if try_hold(words, turn, caller) {
+            return;
+        }
+        backoff.snooze();
+    }
+    unreachable!()
+}
+
+/// Holds a caller's gate, unless it is the holder's own.
+fn hold_other<R: Wait>(rt: &R, words: &Words, turn: &mut Turn, caller: u64)
+    requires one_table { turn.old.pass.table ≡ words.now }
+    requires acting { is_acting (call_of turn.old.pass).stage ≡ true }
+    requires within { caller < turn.old.pass.table.config.callers }
+    requires open { is_held (now_of turn.old.pass).words caller ≡ false }
+    ensures op { turn.new.op ≡ turn.old.op }
+    ensures sets { SetsGate is_holding turn.old.pass caller (all_others turn.old.pass.seat caller) turn.new.pass }
+    ensures keeps { (r : ℕ) → r < 8 → value_of turn.new.pass r ≡ value_of turn.old.pass r }
+{
+    if !is_own(turn.seat(), caller) {
+        hold_gate(rt, words, turn, caller);
+    }
+}
+
+/// Holds the gates of all other callers.
+pub(crate) fn hold_gates<R: Wait>(rt: &R, words: &Words, turn: &mut Turn)
+    requires one_table { turn.old.pass.table ≡ words.now }
+    requires acting { is_acting (call_of turn.old.pass).stage ≡ true }
+    requires open { none_is_held turn.old.pass.table.config.callers (now_of turn.old.pass).words ≡ true }
+    ensures op { turn.new.op ≡ turn.old.op }
+    ensures sets { SetsGates is_holding turn.old.pass (all_others turn.old.pass.seat) turn.new.pass }
+    ensures keeps { (r : ℕ) → r < 8 → value_of turn.new.pass r ≡ value_of turn.old.pass r }
+{
+    for caller in 0..words.callers() {
+        hold_other(rt, words, turn, caller);
+    }
+}
+
+/// Opens a caller's gate, unless it is the holder's own.
+fn open_other(words: &Words, turn: &mut Turn, caller: u64)
+    requires one_table { turn.old.pass.table ≡ words.now }
+    requires acting { is_acting (call_of turn.old.pass).stage ≡ true }
+    requires phase { IsOutOfStop (now_of turn.old.pass) }
+    requires gone { is_run_gone (now_of turn.old.pass).words (now_of turn.old.pass).seats.holding.freed ≡ true }
+    requires within { caller < turn.old.pass.table.config.callers }
+    requires held { is_held (now_of turn.old.pass).words caller ≡ all_others turn.old.pass.seat caller }
+    ensures op { turn.new.op ≡ turn.old.op }
+    ensures sets { SetsGate is_settling turn.old.pass caller false turn.new.pass }
+    ensures gone { is_run_gone (now_of turn.new.pass).words (now_of turn.new.pass).seats.holding.freed ≡ true }
+{
+    turn.is_in_order();
+    if !is_own(turn.seat(), caller) {
+        turn.open_gate(words, caller);
+        turn.is_in_order();
+    }
+}
+
+/// Opens the gates of all other callers, once the run that the call freed is unmapped and wiped.
+pub(crate) fn open_gates(words: &Words, turn: &mut Turn)
+    requires one_table { turn.old.pass.table ≡ words.now }
+    requires acting { is_acting (call_of turn.old.pass).stage ≡ true }
+    requires phase { IsOutOfStop (now_of turn.old.pass) }
+    requires gone { is_run_gone (now_of turn.old.pass).words (now_of turn.old.pass).seats.holding.freed ≡ true }
+    requires held { HoldsOthers turn.old.pass }
+    ensures op { turn.new.op ≡ turn.old.op }
+    ensures sets { SetsGates is_settling turn.old.pass no_gate turn.new.pass }
+    ensures gone { is_run_gone (now_of turn.new.pass).words (now_of turn.new.pass).seats.holding.freed ≡ true }
+{
+    for caller in 0..words.callers() {
+        open_other(words, turn, caller);
+    }
+}

@@ -1,0 +1,118 @@
+//! The run of a large object that a Free has freed: its pages are unmapped and its words wiped, while the gates of all
+//! other callers are held.
+ghost use Rattle.std.specs.Prelude.{◌≡◌, ℕ, ◌+◌, ◌<◌, ◌≤◌, true, false, Some};
+ghost use Rattle.mk_core.specs.declared.seats.Stage.TheVariants as stage;
+ghost use Rattle.mk_core.specs.NewPlaces.{is_run_unmapped, unmapped_header};
+ghost use Rattle.mk_geom.specs.Headers.{IsInRange};
+ghost use Rattle.mk_geom.specs.Storages.{run_header};
+ghost use Rattle.mk_words.specs.States.{call_of, now_of};
+ghost use Rattle.mk_words.specs.TurnSteps.{IsStopped};
+ghost use Rattle.mk_objects.specs.Deciding.{ClearsRun};
+ghost use Rattle.mk_objects.specs.FreeParts.{HoldsOthers, Unmaps, Wipes};
+ghost use Rattle.mk_objects.specs.Placing.{IsOutOfStop};
+ghost use Rattle.mk_objects.specs.Unmapping.{IsStillMapped};
+
+use crate::gates::open_gates;
+use mk_core::RunPages;
+use mk_geom::{Header, encode};
+use mk_words::{Turn, Words};
+
+/// How many words a page has.
+pub(crate) const PAGE_WORDS: u64 = 64;
+
+/// The header of an unmapped run's page.
+fn unmapped(pages: u64, distance: u64) -> Header
+    requires some { 1 ≤ pages }
+    requires few { pages ≤ 64 }
+    requires within { distance < pages }
+    ensures exact { result ≡ run_header pages false false distance }
+    ensures in_range { IsInRange result }
+{
+    if distance > 0 {
+        Header::Later {
+            distance,
+            mapped: false,
+        }
+    } else {
+        Header::Run {
+            pages,
+            mapped: false,
+        }
+    }
+}
+
+/// The header word of an unmapped run's page.
+fn unmapped_header(pages: u64, distance: u64) -> u64
+    requires some { 1 ≤ pages }
+    requires few { pages ≤ 64 }
+    requires within { distance < pages }
+    ensures { result ≡ unmapped_header pages distance }
+{
+    encode(unmapped(pages, distance))
+}
+
+/// Unmaps the pages of the run that the call has freed.
+pub(crate) fn unmap_run(words: &Words, turn: &mut Turn, run: RunPages)
+    requires one_table { turn.old.pass.table ≡ words.now }
+    requires decided { (call_of turn.old.pass).stage ≡ stage.Give }
+    requires phase { IsOutOfStop (now_of turn.old.pass) }
+    requires stopped { IsStopped turn.old }
+    requires freed { (now_of turn.old.pass).seats.holding.freed ≡ Some run }
+    requires some { 1 ≤ run.count }
+    requires few { run.count ≤ 64 }
+    requires within { run.page + run.count ≤ turn.old.pass.table.config.pages }
+    requires mapped { (d : ℕ) → d < run.count → IsStillMapped (now_of turn.old.pass).words run d }
+    ensures op { turn.new.op ≡ turn.old.op }
+    ensures unmaps { Unmaps turn.old.pass run turn.new.pass }
+{
+    turn.is_in_order();
+    for distance in 0..run.count {
+        turn.is_in_order();
+        turn.head(
+            words,
+            run.page + distance,
+            unmapped_header(run.count, distance),
+        );
+        turn.is_in_order();
+    }
+}
+
+/// Wipes the words of the run that the call has freed and unmapped.
+pub(crate) fn wipe_run(words: &Words, turn: &mut Turn, run: RunPages)
+    requires one_table { turn.old.pass.table ≡ words.now }
+    requires decided { (call_of turn.old.pass).stage ≡ stage.Give }
+    requires stopped { IsStopped turn.old }
+    requires freed { (now_of turn.old.pass).seats.holding.freed ≡ Some run }
+    requires unmapped { is_run_unmapped (now_of turn.old.pass).words run ≡ true }
+    requires few { run.count ≤ 64 }
+    requires within { run.page + run.count ≤ turn.old.pass.table.config.pages }
+    ensures op { turn.new.op ≡ turn.old.op }
+    ensures wipes { Wipes turn.old.pass run turn.new.pass }
+{
+    words.is_within_limits();
+    turn.is_in_order();
+    for word in 0..PAGE_WORDS * run.count {
+        turn.is_in_order();
+        turn.wipe(words, PAGE_WORDS * run.page + word);
+        turn.is_in_order();
+    }
+}
+
+/// Unmaps and wipes the run that the call has freed, and opens the gates of all other callers.
+pub(crate) fn clear_run(words: &Words, turn: &mut Turn, run: RunPages)
+    requires one_table { turn.old.pass.table ≡ words.now }
+    requires decided { (call_of turn.old.pass).stage ≡ stage.Give }
+    requires phase { IsOutOfStop (now_of turn.old.pass) }
+    requires held { HoldsOthers turn.old.pass }
+    requires freed { (now_of turn.old.pass).seats.holding.freed ≡ Some run }
+    requires some { 1 ≤ run.count }
+    requires few { run.count ≤ 64 }
+    requires within { run.page + run.count ≤ turn.old.pass.table.config.pages }
+    requires mapped { (d : ℕ) → d < run.count → IsStillMapped (now_of turn.old.pass).words run d }
+    ensures op { turn.new.op ≡ turn.old.op }
+    ensures clears { ClearsRun turn.old.pass turn.new.pass }
+{
+    unmap_run(words, turn, run);
+    wipe_run(words, turn, run);
+    open_gates(words, turn);
+}

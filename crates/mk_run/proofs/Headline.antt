@@ -1,0 +1,99 @@
+-- The history of a run keeps all promises, and its texts are all that is printed of it.
+use Rattle.std.proofs.Common.{◌≡◌, ℕ, suc, ◌+◌, ◌<◌, Bool, true, false, List, [], ◌∷◌, ◌++◌, length, refl, ap, sym, ◌∙◌, arith}
+use Rattle.std.specs.Prelude.{slice_get, Some, ◌==◌}
+use Rattle.std.specs.List.{flat_map, range_with_len}
+use Rattle.std.proofs.lemmas.Bool.Decides.{nat_tests}
+use Rattle.std.proofs.lemmas.List.{take_all}
+use Rattle.std.proofs.lemmas.Option.{slice_get_within}
+use Rattle.mk_core.specs.declared.config.Config.{Config}
+use Rattle.mk_core.specs.declared.events.Answer.{Answer}
+use Rattle.mk_core.specs.declared.events.Event.{Event}
+use Rattle.mk_core.specs.declared.events.Seat.TheVariants.{Caller}
+use Rattle.mk_core.specs.Decided.{Decided, asked}
+use Rattle.mk_core.specs.History.{calls}
+use Rattle.mk_core.specs.Order.{seat_exists}
+use Rattle.mk_script.specs.declared.items.Item.{Item}
+use Rattle.mk_check.specs.declared.text.Text.{Text}
+use Rattle.mk_check.specs.Declarations.{config_of}
+use Rattle.mk_check.specs.Feed.{feed}
+use Rattle.mk_check.specs.Laws.{IsScript, ops_of_caller}
+use Rattle.mk_check.specs.Output.{ended_calls, answers_among, answers_given, text_behind}
+use Rattle.mk_check.proofs.GivenAnswers.{serves}
+use Rattle.mk_theorems.proofs.Promises.{histories_keep_all_promises}
+use Rattle.mk_heap.specs.Reports as report
+use Rattle.mk_heap.specs.Reports.{IsWhole}
+use Rattle.mk_run.specs.declared.outcomes.Outcome.{Outcome}
+use Rattle.mk_run.specs.Running.{answers_in, IsRunOf}
+use Rattle.mk_run.specs.Headline.{cycles_go_on, RunsToItsEnd, RunsStandInOneHistory, RunsPrintTheirTexts}
+
+-- A caller has as many answers among the calls as operations.
+
+more_answers : (k : ℕ) (b : Bool) (x : Decided) (xs : List Decided) → length (ops_of_caller k (asked xs)) ≡ length (answers_among k xs)
+    → (x.caller == k) ≡ b → length (ops_of_caller k (asked (x ∷ xs))) ≡ length (answers_among k (x ∷ xs))
+more_answers k true x xs same is = rw is (ap suc same)
+more_answers k false x xs same is = rw is same
+
+as_many : (k : ℕ) (xs : List Decided) → length (ops_of_caller k (asked xs)) ≡ length (answers_among k xs)
+as_many k [] = refl
+as_many k (x ∷ xs) = more_answers k (x.caller == k) x xs (as_many k xs) refl
+
+-- Where no call is in flight, each answer is given.
+
+exists : (c : Config) (k : ℕ) → k < c.callers → seat_exists c (Caller k) ≡ true
+exists c k less = grind (arith, nat_tests)
+
+all_given : (c : Config) (es : List Event) (k : ℕ) → IsWhole c es → k < c.callers → answers_given c es k ≡ answers_in c k es
+all_given c es k whole less =
+    let answers = serves c es k whole.history.enabled in
+    let rests = (whole.rests (Caller k) (exists c k less)).call in
+    let all = rw rests at answers.decided in
+    take_all (ended_calls k es) (answers_among k (calls c es)) (omega arith)
+
+-- pieces that are those of their places
+pieces : {X A : Type 0} (f : X → List A) (g : ℕ → List A) (a : ℕ) (xs : List X)
+    → ((k : ℕ) (x : X) → slice_get xs k ≡ Some x → f x ≡ g (a + k))
+    → flat_map f xs ≡ flat_map g (range_with_len a (length xs))
+pieces f g a [] each = refl
+pieces f g a (x ∷ xs) each =
+    let first : f x ≡ g a = each 0 x refl ∙ ap g (omega arith) in
+    let rest = pieces f g (a + 1) xs (λ k y is. each (suc k) y is ∙ ap g (omega arith)) in
+    ap (λ piece. piece ++ flat_map f xs) first ∙ ap (λ more. g a ++ more) rest
+
+-- A script of a run has used all its answers.
+pub runs_to_its_end : (on : Bool) (program : List Item) (markers : ℕ) (outcome : Outcome) (k : ℕ) → IsRunOf on program markers outcome
+    → IsScript program k → RunsToItsEnd program k (answers_in (config_of program markers) k (report.history_of outcome.report))
+runs_to_its_end on program markers outcome k runs is = record {
+  ended = runs.ends k is;
+  none_left =
+      ap length (sym (runs.follows k is).noted)
+      ∙ as_many k (calls (config_of program markers) (report.history_of outcome.report));
+}
+
+pub runs_stand_in_one_history : RunsStandInOneHistory
+runs_stand_in_one_history program markers outcome tell bytes runs told =
+    let c = config_of program markers in
+    let es = report.history_of outcome.report in
+    record {
+      history = es;
+      whole = runs.whole;
+      promises = histories_keep_all_promises c es runs.whole.history;
+      operations = λ k is. (runs.follows k is).noted;
+      ends = λ k is. runs_to_its_end (cycles_go_on markers) program markers outcome k runs is;
+      cycles = λ k is. (runs.follows k is).exact;
+      told = told;
+    }
+
+pub runs_print_their_texts : RunsPrintTheirTexts
+runs_print_their_texts on program markers outcome runs =
+    let c = config_of program markers in
+    let es = report.history_of outcome.report in
+    let text_of = text_behind program c es in
+    let texts = outcome.texts.items in
+    let piece : (k : ℕ) (text : Text) → slice_get texts k ≡ Some text → text.bytes.items ≡ text_of (0 + k) = λ k text is.
+    let inside = slice_get_within texts k text is in
+    let count = runs.count in
+    (runs.texts k text is).bytes
+    ∙ ap (λ (answers : List Answer). (feed program k answers).text) (sym (all_given c es k runs.whole (omega arith)))
+    ∙ ap text_of (omega arith) in
+    pieces (λ (text : Text). text.bytes.items) text_of 0 texts piece
+    ∙ ap (λ (n : ℕ). flat_map text_of (range_with_len 0 n)) runs.count

@@ -1,0 +1,156 @@
+-- The host makes the scripts' callers, and joins them.
+use Rattle.std.proofs.Common.{◌≡◌, ◌≢◌, ◌⊎◌, ℕ, zero, suc, ◌+◌, ◌<◌, ◌≤◌, Bool, List, [], ◌∷◌, ◌++◌, length}
+use Rattle.std.proofs.Common.{sym, ◌∙◌, ap, subst, arith, inl, inr, ⊎_elim}
+use Rattle.std.specs.Prelude.{Some, slice_get, Result, Ok, Err, IfOk, OnOk, IsOk}
+use Rattle.std.proofs.lemmas.Bool.{cases_eq}
+use Rattle.std.proofs.lemmas.Option.{slice_get_within}
+use Rattle.mk_core.specs.declared.config.Config.{Config}
+use Rattle.mk_core.specs.declared.events.Event.{Event}
+use Rattle.mk_core.specs.declared.events.Seat.{Seat}
+use Rattle.mk_core.specs.declared.events.Seat.TheVariants.{Caller}
+use Rattle.mk_core.specs.Growing.{Grows}
+use Rattle.mk_core.specs.History.{calls_from}
+use Rattle.mk_never.specs.declared.never_heap.NoMemory.{NoMemory}
+use Rattle.mk_words.specs.Seats.{Has}
+use Rattle.mk_words.specs.States.{WordsState, PassState}
+use Rattle.mk_words.proofs.Seats.{has_first, has_left, has_right}
+use Rattle.mk_caller.specs.States.{CallerState, at_home, IsIdleCaller}
+use Rattle.mk_heap.specs.Hosts.{HostState, pass_for, with_caller_made, with_joined}
+use Rattle.mk_script.specs.declared.items.Item.{Item}
+use Rattle.mk_script.specs.Scopes.{script_names}
+use Rattle.mk_check.specs.Laws.{IsScript}
+use Rattle.mk_check.specs.declared.text.Text.{Text}
+use Rattle.mk_check.proofs.AdmittedScripts.{first_are_noted}
+use Rattle.mk_run.specs.Joining.{IsFirstPass, HasMade, AreTextsFrom, HasJoined}
+use Rattle.mk_run.specs.Running.{answers_in, FollowsScript, EndsScript, IsTextOf}
+use Rattle.mk_run.proofs.LaterLists.{of_one, still_follows, still_ends, still_text}
+
+-- Before the first call.
+
+pub no_answers : (c : Config) (k : ℕ) (es : List Event) → es ≡ [] → answers_in c k es ≡ []
+unfolding calls_from
+no_answers c k es is = ap (λ (l : List Event). answers_in c k l) is
+
+no_event : (before : List Event) (e : Event) (behind : List Event) → [] ≡ before ++ e ∷ behind → ⊥
+no_event [] e behind h = cc
+no_event (x ∷ before) e behind h = cc
+
+first_follows : (on : Bool) (program : List Item) (k : ℕ) (c : Config) → FollowsScript on program k c []
+unfolding calls_from
+first_follows on program k c = record {
+  noted = first_are_noted program k;
+  exact = λ before e behind is give seat. absurd (no_event before e behind is);
+}
+
+pub follows_at_first : (on : Bool) (program : List Item) (k : ℕ) (c : Config) (es : List Event) → es ≡ []
+    → FollowsScript on program k c es
+follows_at_first on program k c es is =
+    subst (λ (l : List Event). FollowsScript on program k c l) (sym is) (first_follows on program k c)
+
+-- The host makes the next caller.
+
+pub next_made : (w : WordsState) (k : ℕ) (h : HostState) → HasMade w k h → HasMade w (k + 1) (with_caller_made h)
+next_made w k h made = record {
+  table = made.table;
+  seat = made.seat;
+  seen = made.seen;
+  count = ap (λ (n : ℕ). n + 1) made.count;
+}
+
+pub first_pass : (w : WordsState) (k : ℕ) (h : HostState) (s : CallerState) (p : PassState) → HasMade w k h
+    → s ≡ at_home (pass_for h (Caller h.callers)) → p ≡ s.pass → IsIdleCaller s.pass → IsFirstPass w k p
+first_pass w k h s p made is same idle =
+    let next : s.pass ≡ pass_for h (Caller h.callers) = ap (λ (r : CallerState). r.pass) is in
+    let seat : Caller h.callers ≡ Caller k = ap (λ (j : ℕ). Caller j) made.count in
+    subst (λ (r : PassState). IsFirstPass w k r) (sym same) (record {
+      table = ap (λ (r : PassState). r.table) next ∙ made.table;
+      seat = ap (λ (r : PassState). r.seat) next ∙ seat;
+      alone = ap (λ (r : PassState). r.seats) next ∙ ap (λ (s : Seat). s ∷ []) seat;
+      seen = ap (λ (r : PassState). r.seen) next ∙ made.seen;
+      idle = idle;
+    })
+
+-- One more is joined.
+
+pub same_or_later : (k j : ℕ) → k ≤ j → (j ≡ k) ⊎ (k + 1 ≤ j)
+same_or_later k j le = by (cases_eq j k)
+  where
+    by : ((j ≡ k) ⊎ (j ≢ k)) → (j ≡ k) ⊎ (k + 1 ≤ j)
+    by (inl e) = inl e
+    by (inr ne) = inr (omega arith)
+
+module _ (on : Bool) (program : List Item) (w : WordsState) (k : ℕ) (h : HostState) (p : PassState) (fs : List Event)
+    (joined : HasJoined on program w (k + 1) h) (own : Grows h.pass.seats h.pass.seen fs)
+    (alone : p.seats ≡ Caller k ∷ [])
+    (came : Grows p.seats p.seen fs) where
+  mine : Grows (Caller k ∷ []) p.seen fs
+  mine = subst (λ (seats : List Seat). Grows seats p.seen fs) alone came
+
+  theirs : (j : ℕ) → k + 1 ≤ j → IsScript program j → Grows (Caller j ∷ []) h.pass.seen fs
+  theirs j le is = of_one h.pass.seats (Caller j) h.pass.seen fs (joined.seats j le is) own
+
+  pub one_joined : FollowsScript on program k w.config p.seen → HasJoined on program w k (with_joined h p fs)
+  one_joined follows = record {
+    table = joined.table;
+    seat = joined.seat;
+    count = joined.count;
+    seats = λ j le is.
+        ⊎_elim
+        (λ (e : j ≡ k). has_right h.pass.seats p.seats (Caller j)
+        (subst (λ (seats : List Seat). Has seats (Caller j)) (sym alone)
+        (subst (λ (i : ℕ). Has (Caller i ∷ []) (Caller j)) e (has_first (Caller j) []))))
+        (λ (later : k + 1 ≤ j). has_left h.pass.seats p.seats (Caller j) (joined.seats j later is))
+        (same_or_later k j le);
+    follow = λ j le is.
+        ⊎_elim
+        (λ (e : j ≡ k). subst (λ (i : ℕ). FollowsScript on program i w.config fs) (sym e)
+        (still_follows program k w.config p.seen fs mine on follows))
+        (λ (later : k + 1 ≤ j). still_follows program j w.config h.pass.seen fs (theirs j later is) on
+        (joined.follow j later is))
+        (same_or_later k j le);
+  }
+
+  one_text_more : (text : Text) (texts all : List Text) → all ≡ text ∷ texts → EndsScript program k w.config p.seen
+      → IsTextOf program k w.config p.seen text → AreTextsFrom program (k + 1) w.config h.pass.seen texts
+      → k < length (script_names program) → AreTextsFrom program k w.config fs all
+  one_text_more text texts all is ends first others few = record {
+    count = (let n = others.count in let m = ap (λ (l : List Text). length l) is in omega arith);
+    ends = λ j le is'.
+        ⊎_elim
+        (λ (e : j ≡ k). subst (λ (i : ℕ). EndsScript program i w.config fs) (sym e)
+        (still_ends program k w.config p.seen fs mine ends))
+        (λ (later : k + 1 ≤ j). still_ends program j w.config h.pass.seen fs (theirs j later is')
+        (others.ends j later is'))
+        (same_or_later k j le);
+    each = λ i text' at. here i text' (subst (λ (l : List Text). slice_get l i ≡ Some text') is at);
+  }
+    where
+      here : (i : ℕ) (text' : Text) → slice_get (text ∷ texts) i ≡ Some text'
+          → IsTextOf program (k + i) w.config fs text'
+      here zero text' at =
+          let same : text ≡ text' = cc in
+          subst (λ (j : ℕ). IsTextOf program j w.config fs text') (omega arith)
+          (subst (λ (t : Text). IsTextOf program k w.config fs t) same
+          (still_text program k w.config p.seen fs mine text first))
+      here (suc i) text' at =
+          let within = slice_get_within texts i text' at in
+          let n = others.count in
+          let is_script : IsScript program (k + 1 + i) = omega arith in
+          let le : k + 1 ≤ k + 1 + i = omega arith in
+          subst (λ (j : ℕ). IsTextOf program j w.config fs text') (omega arith)
+          (still_text program (k + 1 + i) w.config h.pass.seen fs (theirs (k + 1 + i) le is_script) text'
+          (others.each i text' at))
+
+  pub texts_joined : {V : Type 0} (items : V → List Text)
+      (first : Result Text NoMemory) (others all : Result V NoMemory)
+      → OnOk all (IsOk first) → OnOk all (IsOk others)
+      → IfOk all (λ a. IfOk first (λ text. IfOk others (λ texts. items a ≡ text ∷ items texts)))
+      → IfOk first (λ text. EndsScript program k w.config p.seen) → IfOk first (IsTextOf program k w.config p.seen)
+      → IfOk others (λ texts. AreTextsFrom program (k + 1) w.config h.pass.seen (items texts))
+      → k < length (script_names program)
+      → IfOk all (λ a. AreTextsFrom program k w.config fs (items a))
+  texts_joined items first others (Err e) a b c d f g few = tt
+  texts_joined items (Err x) others (Ok all) a b c d f g few = cc
+  texts_joined items (Ok text) (Err x) (Ok all) a b c d f g few = cc
+  texts_joined items (Ok text) (Ok texts) (Ok all) a b c d f g few =
+      one_text_more text (items texts) (items all) c d f g few

@@ -1,0 +1,95 @@
+-- Markers beside the scripts: their passes, and the host that joins them.
+use Rattle.std.proofs.Common.{◌≡◌, ℕ, ◌+◌, ◌<◌, ◌≤◌, Bool, true, List, [], ◌∷◌, ◌++◌, sym, ◌∙◌}
+use Rattle.std.proofs.Common.{ap, subst, arith, ⊎_elim}
+use Rattle.std.proofs.lemmas.List.{get_or-replicate}
+use Rattle.std.specs.Prelude.{IfOk}
+use Rattle.std.proofs.lemmas.Result.{IfOk-weaker}
+use Rattle.mk_core.specs.declared.events.Event.{Event}
+use Rattle.mk_core.specs.declared.events.Seat.{Seat}
+use Rattle.mk_core.specs.declared.events.Seat.TheVariants.{Caller, Marker}
+use Rattle.mk_core.specs.declared.config.Config.{Config}
+use Rattle.mk_core.specs.Growing.{Grows}
+use Rattle.mk_core.specs.History.{left, left_from}
+use Rattle.mk_core.specs.MarkerConditions.{is_out}
+use Rattle.mk_core.specs.Moments.{marker_at, outside}
+use Rattle.mk_words.specs.Seats.{Has}
+use Rattle.mk_words.specs.States.{WordsState, PassState}
+use Rattle.mk_words.proofs.Seats.{has_first, has_left, has_right}
+use Rattle.mk_heap.specs.Ending.{SaysOver}
+use Rattle.mk_heap.specs.Hosts.{HostState, pass_for, with_marker_made, with_joined, with_seen}
+use Rattle.mk_script.specs.declared.items.Item.{Item}
+use Rattle.mk_run.specs.declared.joining.Joined.{Joined}
+use Rattle.mk_run.specs.Joining.{HasMade, HasJoined, AreTextsFrom}
+use Rattle.mk_run.specs.Marking.{IsMarkersPass, IsOver}
+use Rattle.mk_run.proofs.JoinedScripts.{same_or_later}
+use Rattle.mk_run.proofs.LaterLists.{of_one}
+use Rattle.mk_run.proofs.WholeRuns.{CallersAreStill, still_behind_over, still_joined, still_texts}
+
+-- A marker that has done nothing is out.
+
+unseen : (c : Config) (j : ℕ) → j < 8 → is_out (marker_at (left c []).now (Marker j)).presence ≡ true
+unfolding left_from
+unseen c j few = ap (λ m. is_out m.presence) (get_or-replicate 8 j outside outside few)
+
+pub first_marker : (w : WordsState) (j : ℕ) (h : HostState) (m p : PassState) → HasMade w 0 h → h.markers ≡ j → j < 8
+    → m ≡ pass_for h (Marker h.markers) → p ≡ m → IsMarkersPass w j p
+first_marker w j h m p made count few is same =
+    let seat : m.seat ≡ Marker j = ap (λ (r : PassState). r.seat) is ∙ ap (λ (i : ℕ). Marker i) count in
+    let seen : m.seen ≡ [] = ap (λ (r : PassState). r.seen) is ∙ made.seen in
+    let c : Config = m.table.config in
+    subst (λ (r : PassState). IsMarkersPass w j r) (sym same) (record {
+      exists = few;
+      table = ap (λ (r : PassState). r.table) is ∙ made.table;
+      seat = seat;
+      alone = ap (λ (r : PassState). r.seats) is ∙ ap (λ (i : ℕ). Marker i ∷ []) count;
+      out =
+          subst (λ (s : Seat). is_out (marker_at (left c m.seen).now s).presence ≡ true) (sym seat)
+          (subst (λ (es : List Event). is_out (marker_at (left c es).now (Marker j)).presence ≡ true) (sym seen)
+          (unseen c j few));
+    })
+
+pub marker_made : (w : WordsState) (h : HostState) → HasMade w 0 h → HasMade w 0 (with_marker_made h)
+marker_made w h made = record { table = made.table; seat = made.seat; seen = made.seen; count = made.count }
+
+-- All is said to be over, and one marker more is joined.
+
+pub over_said : (on : Bool) (program : List Item) (w : WordsState) (h g : HostState) → HasJoined on program w 0 h
+    → g ≡ with_seen h g.pass.seen → SaysOver h.pass g.pass
+    → HasJoined on program w 0 g × CallersAreStill h.pass g.pass.seen
+over_said on program w h g joined is over =
+    let still = still_behind_over h.pass g.pass joined.seat over in (
+      subst (λ (x : HostState). HasJoined on program w 0 x) (sym is)
+          (still_joined on program w h g.pass.seen joined still h.pass.seats (λ k has. has)),
+      still,
+    )
+
+pub marker_joined : (on : Bool) (program : List Item) (w : WordsState) (j : ℕ) (p : PassState) (before after : Joined)
+    → IsOver on program w (j + 1) before → after.host ≡ with_joined before.host p after.host.pass.seen
+    → Grows before.host.pass.seats before.host.pass.seen after.host.pass.seen → p.seats ≡ Marker j ∷ []
+    → after.texts ≡ before.texts → IsOver on program w j after
+marker_joined on program w j p before after over is own alone same =
+    let h = before.host in
+    let fs = after.host.pass.seen in
+    let still : CallersAreStill h.pass fs = λ k has. of_one h.pass.seats (Caller k) h.pass.seen fs has own in
+    let seats : after.host.pass.seats ≡ h.pass.seats ++ p.seats = ap (λ (x : HostState). x.pass.seats) is in
+    let mine : Has p.seats (Marker j) =
+    subst (λ (l : List Seat). Has l (Marker j)) (sym alone) (has_first (Marker j) []) in
+    let count : after.host.markers ≡ h.markers = ap (λ (x : HostState). x.markers) is in
+    record {
+      is_host =
+          subst (λ (x : HostState). HasJoined on program w 0 x) (sym is)
+          (still_joined on program w h fs over.is_host still (h.pass.seats ++ p.seats)
+          (λ k has. has_left h.pass.seats p.seats (Caller k) has));
+      markers = λ i le lt.
+          subst (λ (l : List Seat). Has l (Marker i)) (sym seats)
+          (⊎_elim
+          (λ (e : i ≡ j). has_right h.pass.seats p.seats (Marker i)
+          (subst (λ (n : ℕ). Has p.seats (Marker n)) (sym e) mine))
+          (λ (later : j + 1 ≤ i). has_left h.pass.seats p.seats (Marker i) (over.markers i later (omega arith)))
+          (same_or_later j i le));
+      texts =
+          subst (λ r. IfOk r (λ texts. AreTextsFrom program 0 w.config fs texts.items)) (sym same)
+          (IfOk-weaker before.texts (λ texts. AreTextsFrom program 0 w.config h.pass.seen texts.items)
+          (λ texts. AreTextsFrom program 0 w.config fs texts.items)
+          (λ texts t. still_texts on program w h fs over.is_host still texts.items t) over.texts);
+    }

@@ -1,0 +1,91 @@
+-- The calls of one caller among all: what its script notes of them, and what one call more makes of that.
+use Rattle.std.proofs.Common.{◌≡◌, ℕ, ◌≤◌, Bool, true, false, List, [], ◌∷◌, ◌++◌, length, map, refl, sym, ◌∙◌, ap}
+use Rattle.std.proofs.Common.{subst, arith}
+use Rattle.std.specs.Prelude.{Some, ◌==◌, if◌then◌else◌}
+use Rattle.std.proofs.lemmas.List.{map-append}
+use Rattle.mk_never.specs.declared.operations.Op.{Op}
+use Rattle.mk_never.specs.Admitted.{IsAdmitted}
+use Rattle.mk_core.specs.declared.config.Config.{Config}
+use Rattle.mk_core.specs.declared.events.Answer.{Answer}
+use Rattle.mk_core.specs.declared.events.Event.{Event}
+use Rattle.mk_core.specs.Decided.{Decided, asked, entry_of, flagged}
+use Rattle.mk_core.specs.History.{calls, never_behind, IsHistory}
+use Rattle.mk_script.specs.declared.items.Item.{Item}
+use Rattle.mk_script.specs.Scopes.{script_names}
+use Rattle.mk_check.specs.Declarations.{config_of, globals_of}
+use Rattle.mk_check.specs.Feed.{feed}
+use Rattle.mk_check.specs.Feeding.{next_op}
+use Rattle.mk_check.specs.Laws.{IsChecked, IsScript, ops_of_caller, AreNotedBy}
+use Rattle.mk_check.specs.Output.{answers_among}
+use Rattle.mk_check.proofs.AdmittedScripts.{next_is_admitted}
+use Rattle.mk_check.proofs.FeedLaws.{ops-feed_push}
+use Rattle.mk_caller.proofs.OwnSteps.{calls_by}
+
+abbrev answers_to : List Decided → List Answer
+answers_to xs = map (λ (x : Decided). x.answer) xs
+
+abbrev ops_of : List Decided → List Op
+ops_of xs = map (λ (x : Decided). x.op) xs
+
+-- the caller's operations are those of its calls
+ops_are : (k : ℕ) (xs : List Decided) → ops_of_caller k (asked xs) ≡ ops_of (calls_by k xs)
+ops_are k [] = refl
+ops_are k (x ∷ xs) = by_test (x.caller == k) (ops_are k xs)
+  where
+    by_test : (same : Bool) → ops_of_caller k (asked xs) ≡ ops_of (calls_by k xs)
+        → (if same then x.op ∷ ops_of_caller k (asked xs) else ops_of_caller k (asked xs))
+        ≡ ops_of (if same then x ∷ calls_by k xs else calls_by k xs)
+    by_test true e = ap (λ (l : List Op). x.op ∷ l) e
+    by_test false e = e
+
+abbrev pub IsNoted : List Item → ℕ → List Decided → Type 0
+IsNoted program k xs = AreNotedBy program k (answers_among k xs) (asked xs)
+
+-- While the caller makes no call, its script has noted all.
+
+pub same_answers : (k : ℕ) (xs ys : List Decided) → calls_by k ys ≡ calls_by k xs
+    → answers_among k ys ≡ answers_among k xs
+same_answers k xs ys same = ap answers_to same
+
+pub still_noted : (program : List Item) (k : ℕ) (xs ys : List Decided) → calls_by k ys ≡ calls_by k xs
+    → IsNoted program k xs → IsNoted program k ys
+still_noted program k xs ys same noted =
+    ops_are k ys ∙ ap ops_of same ∙ sym (ops_are k xs) ∙ noted
+    ∙ ap (λ (answers : List Answer). (feed program k answers).ops) (sym (same_answers k xs ys same))
+
+-- One call more, which is what the script asks for next.
+
+pub one_answer_more : (k : ℕ) (xs ys : List Decided) (o : Op) (a : Answer)
+    → calls_by k ys ≡ calls_by k xs ++ entry_of k o (Some a) → answers_among k ys ≡ answers_among k xs ++ a ∷ []
+one_answer_more k xs ys o a more =
+    ap answers_to more ∙ map-append (λ (x : Decided). x.answer) (calls_by k xs) (entry_of k o (Some a))
+
+pub one_more_noted : (program : List Item) (k : ℕ) (xs ys : List Decided) (o : Op) (a : Answer)
+    → calls_by k ys ≡ calls_by k xs ++ entry_of k o (Some a) → next_op program k (answers_among k xs) ≡ Some o
+    → IsNoted program k xs → IsNoted program k ys
+one_more_noted program k xs ys o a more next noted =
+    ops_are k ys ∙ ap ops_of more ∙ map-append (λ (x : Decided). x.op) (calls_by k xs) (entry_of k o (Some a))
+    ∙ ap (λ (l : List Op). l ++ flagged o a ∷ []) (sym (ops_are k xs) ∙ noted)
+    ∙ sym (ops-feed_push program k (answers_among k xs) a o next)
+    ∙ ap (λ (answers : List Answer). (feed program k answers).ops) (sym (one_answer_more k xs ys o a more))
+
+-- What the script asks for next is admitted.
+
+next_fits : (program : List Item) (markers k : ℕ) (es : List Event) (answers : List Answer) (o : Op) → IsChecked program
+    → IsScript program k → IsHistory (config_of program markers) es
+    → AreNotedBy program k answers (asked (calls (config_of program markers) es)) → next_op program k answers ≡ Some o
+    → IsAdmitted (globals_of program) (never_behind (config_of program markers) es) k o
+next_fits program markers k es answers o checked is_script history noted next =
+    let enough : length (script_names program) ≤ length (script_names program) = omega arith in
+    (next_is_admitted program (length (script_names program)) (asked (calls (config_of program markers) es))
+    k answers checked
+    enough is_script history.admitted noted).asked o next
+
+pub next_admitted : (program : List Item) (c : Config) (k : ℕ) (es : List Event) (answers : List Answer) (o : Op)
+    → IsChecked program → IsScript program k → c ≡ config_of program c.markers → IsHistory c es
+    → AreNotedBy program k answers (asked (calls c es)) → next_op program k answers ≡ Some o
+    → IsAdmitted c.globals (never_behind c es) k o
+next_admitted program c k es answers o checked is_script is history noted next =
+    subst (λ (d : Config). IsHistory d es → AreNotedBy program k answers (asked (calls d es))
+    → IsAdmitted d.globals (never_behind d es) k o)
+    (sym is) (λ h n. next_fits program c.markers k es answers o checked is_script h n next) history noted

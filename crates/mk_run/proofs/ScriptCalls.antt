@@ -1,0 +1,254 @@
+-- A script's caller makes one call more, or finds its gate held, and what is known then.
+use Rattle.std.proofs.Common.{◌≡◌, ℕ, ◌+◌, ◌<◌, ◌≤◌, Bool, false, length, arith, List, [], ◌∷◌, ◌++◌, refl, sym, ◌∙◌}
+use Rattle.std.proofs.Common.{ap, subst}
+use Rattle.std.specs.Prelude.{Some}
+use Rattle.std.proofs.lemmas.List.{length-append}
+use Rattle.std.proofs.lemmas.List.Sums.{count_by-le-length}
+use Rattle.mk_never.specs.declared.operations.Op.{Op}
+use Rattle.mk_never.specs.declared.operations.Op.TheVariants as op
+use Rattle.mk_core.specs.declared.config.Config.{Config}
+use Rattle.mk_core.specs.declared.events.Answer.{Answer}
+use Rattle.mk_core.specs.declared.events.Answer.TheVariants as answer
+use Rattle.mk_core.specs.declared.events.Event.{Event}
+use Rattle.mk_core.specs.declared.events.Seat.{Seat}
+use Rattle.mk_core.specs.declared.events.Seat.TheVariants.{Caller}
+use Rattle.mk_core.specs.Accesses.{caller_number}
+use Rattle.mk_core.specs.Decided.{Decided, entry_of, asked, flagged}
+use Rattle.mk_core.specs.History.{calls, never_first, never_behind, IsHistory}
+use Rattle.mk_never.specs.Admitted.{IsAdmitted}
+use Rattle.mk_never.specs.declared.types.Kind.{Kind}
+use Rattle.mk_never.proofs.Later.{calls_stay}
+use Rattle.mk_words.specs.Seats.{Has}
+use Rattle.mk_words.specs.States.{PassState, WordsState}
+use Rattle.mk_caller.specs.States.{number_of, Admits, IsIdleCaller}
+use Rattle.mk_caller.specs.Called.{own_calls}
+use Rattle.mk_caller.specs.Causes.{FindsGateHeld}
+use Rattle.mk_caller.proofs.OwnSteps.{calls_by}
+use Rattle.mk_alloc.specs.Laws.{OwnAreExact}
+use Rattle.mk_alloc.specs.TurnCalls.{CalledInTurn}
+use Rattle.mk_alloc.specs.TurnCycles.{TurnsOfAreExact}
+use Rattle.mk_script.specs.declared.items.Item.{Item}
+use Rattle.mk_script.specs.Scopes.{script_names}
+use Rattle.mk_check.specs.Declarations.{config_of}
+use Rattle.mk_check.specs.Feeding.{next_op}
+use Rattle.mk_check.specs.Laws.{IsChecked, IsScript, AreNotedBy}
+use Rattle.mk_run.specs.Running.{answers_in, is_refusal, FollowsScript}
+use Rattle.mk_run.specs.declared.scripts.Script.{Script}
+use Rattle.mk_run.specs.Scripts.{as_told, IsCalled, StaysAdmitted, MakesNoCall, Answers}
+use Rattle.mk_run.specs.Scripts.{IsFedWith, TakesAnswer, IsRunning}
+use Rattle.mk_run.proofs.FedScripts.{fed_as_told}
+use Rattle.mk_alloc.proofs.ExactTurns.{stay_exact_behind_calls, stay_exact_where_held, stay_exact_behind_turns}
+use Rattle.mk_run.proofs.NotedCalls.{still_noted, same_answers, one_answer_more, one_more_noted, next_admitted}
+
+-- The calls that a pass makes.
+
+seen_alone : (p : PassState) (more : List Event) (q : PassState) → q ≡ record p { seen = p.seen ++ more }
+    → q ≡ record p { seen = q.seen }
+seen_alone p more q is = is ∙ ap (λ (r : PassState). record p { seen = r.seen }) (sym is)
+
+pub answered_by_call : (on : Bool) (p : PassState) (o : Op) (told : Answer) (q : PassState) → Has p.seats p.seat
+    → IsCalled p o told q
+    → Answers on p o told q
+answered_by_call on p o told q own h = record {
+  answer = h.answer;
+  is_told = h.is_told;
+  is = seen_alone p h.called.more q h.called.is;
+  entry = ap (λ (r : PassState). own_calls p r.seen) h.called.is ∙ h.called.entry;
+  exact = stay_exact_behind_calls on p o h.answer q own h.called;
+}
+
+pub answered_in_turn : (on : Bool) (p : PassState) (o : Op) (a : Answer) (q : PassState) → Has p.seats p.seat
+    → CalledInTurn on p o a q
+    → Answers on p o (as_told a) q
+answered_in_turn on p o a q own h = record {
+  answer = a;
+  is_told = refl;
+  is = seen_alone p h.more q h.is;
+  entry = ap (λ (r : PassState). own_calls p r.seen) h.is ∙ h.entry;
+  exact = stay_exact_behind_turns on p o a q own h;
+}
+
+pub makes_none : (on : Bool) (p : PassState) (o : Op) (q : PassState) → Has p.seats p.seat → FindsGateHeld p o q
+    → MakesNoCall on p q
+makes_none on p o q own h = record {
+  is = h.finds.makes.is ∙ ap (λ (r : PassState). record p { seen = r.seen }) (sym h.finds.makes.is);
+  entries = h.entries;
+  exact = stay_exact_where_held on p o q own h;
+}
+
+-- own calls are the same for passes of one seat
+same_own : (p q : PassState) (es : List Event) → q ≡ record p { seen = q.seen } → own_calls q es ≡ own_calls p es
+same_own p q es is = ap (λ (r : PassState). own_calls r es) is
+
+then_seen : (p q r : PassState) → q ≡ record p { seen = q.seen } → r ≡ record q { seen = r.seen }
+    → r ≡ record p { seen = r.seen }
+then_seen p q r is next = next ∙ ap (λ (s : PassState). record s { seen = r.seen }) is
+
+pub none_then_none : (on : Bool) (p q r : PassState) → MakesNoCall on p q → MakesNoCall on q r → MakesNoCall on p r
+none_then_none on p q r h g = record {
+  is = then_seen p q r h.is g.is;
+  entries = sym (same_own p q r.seen h.is) ∙ g.entries ∙ same_own p q q.seen h.is ∙ h.entries;
+  exact = λ e. g.exact (h.exact e);
+}
+
+pub none_then_answers : (on : Bool) (p q : PassState) (o : Op) (told : Answer) (r : PassState) → MakesNoCall on p q
+    → Answers on q o told r
+    → Answers on p o told r
+none_then_answers on p q o told r h g = record {
+  answer = g.answer;
+  is_told = g.is_told;
+  is = then_seen p q r h.is g.is;
+  entry = sym (same_own p q r.seen h.is) ∙ g.entry
+      ∙ ap (λ (l : List Decided). l ++ entry_of (number_of q) o (Some g.answer)) (same_own p q q.seen h.is ∙ h.entries)
+      ∙ ap (λ (s : PassState). own_calls p p.seen ++ entry_of (number_of s) o (Some g.answer)) h.is;
+  exact = λ e. g.exact (h.exact e);
+}
+
+-- What stays admitted is admitted behind a list to which the caller added no call.
+pub still_admitted : (on : Bool) (p : PassState) (o : Op) (q : PassState) → StaysAdmitted p o → MakesNoCall on p q
+    → IsHistory q.table.config q.seen → Admits q o
+still_admitted on p o q stays h history =
+    subst (λ (r : PassState). Admits r o) (sym h.is)
+    (stays q.seen
+    (subst (λ (w : WordsState). IsHistory w.config q.seen) (ap (λ (r : PassState). r.table) h.is) history) h.entries)
+
+-- A New.
+
+flagged_alike : (d ty : ℕ) (full : Bool) (a : Answer) → flagged (op.New d ty false) a ≡ flagged (op.New d ty full) a
+flagged_alike d ty full answer.Full = refl
+flagged_alike d ty full _ = refl
+
+pub answered_new : (on : Bool) (p : PassState) (o : Op) (d ty : ℕ) (full : Bool) (a : Answer) (q : PassState)
+    → Has p.seats p.seat
+    → o ≡ op.New d ty full → CalledInTurn on p (op.New d ty false) a q → Answers on p o (as_told a) q
+unfolding answered_in_turn
+answered_new on p o d ty full a q own is h =
+    let made = answered_in_turn on p (op.New d ty false) a q own h in
+    subst (λ (x : Op). Answers on p x (as_told a) q) (sym is) (record {
+      answer = a;
+      is_told = refl;
+      is = made.is;
+      entry = made.entry
+          ∙ ap (λ (x : Op). own_calls p p.seen ++ record { caller = number_of p; op = x; answer = a } ∷ [])
+          (flagged_alike d ty full a);
+      exact = made.exact;
+    })
+
+pub answered_free : (on : Bool) (p : PassState) (o : Op) (r : ℕ) (a : Answer) (q : PassState) → Has p.seats p.seat
+    → o ≡ op.Free r → CalledInTurn on p (op.Free r) a q → Answers on p o (as_told a) q
+answered_free on p o r a q own is h =
+    subst (λ (x : Op). Answers on p x (as_told a) q) (sym is) (answered_in_turn on p (op.Free r) a q own h)
+
+pub type_exists : (p : PassState) (o : Op) (d ty : ℕ) (full : Bool) → o ≡ op.New d ty full → Admits p o
+    → ty < length p.table.config.types
+type_exists p o d ty full is admits =
+    let made = subst (λ (x : Op). Admits p x) is admits in
+    let types = (calls_stay (never_first p.table.config) (asked (calls p.table.config p.seen))).types in
+    subst (λ (all : List (List Kind)). ty < length all) types made.in_range.1
+
+-- A script's next operation, and its answer.
+
+module _ (on : Bool) (program : List Item) (k : ℕ) (p : PassState) (seat : p.seat ≡ Caller k) (es : List Event) where
+  abbrev c : Config
+  c = p.table.config
+
+  -- the pass when it has seen these
+  abbrev now : PassState
+  now = record p { seen = es }
+
+  number : number_of p ≡ k
+  number = ap (λ (s : Seat). caller_number s) seat
+
+  abbrev answers : List Answer
+  answers = answers_in c k es
+
+  pub next_stays_admitted : IsChecked program → IsScript program k → c ≡ config_of program c.markers
+      → FollowsScript on program k c es
+      → (o : Op) → next_op program k answers ≡ Some o → StaysAdmitted now o
+  next_stays_admitted checked is_script config follows o next = λ fs history same.
+      let mine : calls_by k (calls c fs) ≡ calls_by k (calls c es) =
+      subst (λ (j : ℕ). calls_by j (calls c fs) ≡ calls_by j (calls c es)) number same in
+      let noted : AreNotedBy program k answers (asked (calls c fs)) =
+      subst (λ (given : List Answer). AreNotedBy program k given (asked (calls c fs)))
+      (same_answers k (calls c es) (calls c fs) mine)
+      (still_noted program k (calls c es) (calls c fs) mine follows.noted) in
+      subst (λ (j : ℕ). IsAdmitted c.globals (never_behind c fs) j o) (sym number)
+      (next_admitted program c k fs answers o checked is_script config history noted next)
+
+  module _ (o : Op) (told : Answer) (q : PassState) (next : next_op program k answers ≡ Some o)
+      (h : Answers on now o told q) where
+    one_more : calls_by k (calls c q.seen) ≡ calls_by k (calls c es) ++ entry_of k o (Some h.answer)
+    one_more =
+        subst (λ (j : ℕ). calls_by j (calls c q.seen) ≡ calls_by j (calls c es) ++ entry_of j o (Some h.answer))
+        number h.entry
+
+    pub follows_on : FollowsScript on program k c es → FollowsScript on program k c q.seen
+    follows_on follows = record {
+      noted = one_more_noted program k (calls c es) (calls c q.seen) o h.answer one_more next follows.noted;
+      exact =
+          subst (λ (s : Seat). TurnsOfAreExact on c s q.seen) seat
+          (subst (λ (r : PassState). OwnAreExact on r) h.is
+          (h.exact (subst (λ (s : Seat). TurnsOfAreExact on c s es) (sym seat) follows.exact)));
+    }
+
+    pub fed_on : (s t : Script) → IsFedWith program k answers s → TakesAnswer told s t
+        → IsFedWith program k (answers_in c k q.seen) t
+    fed_on s t fed takes =
+        subst (λ (given : List Answer). IsFedWith program k given t)
+        (sym (one_answer_more k (calls c es) (calls c q.seen) o h.answer one_more))
+        (fed_as_told program k answers h.answer t
+        (subst (λ (a : Answer). IsFedWith program k (answers ++ a ∷ []) t) h.is_told (takes program k answers fed)))
+
+-- A script under way.
+
+-- The caller of a script exists, whatever its pass has seen.
+pub exists_on : (p q : PassState) (k : ℕ) (program : List Item) → q ≡ record p { seen = q.seen } → number_of p ≡ k → IsScript program k
+    → p.table.config ≡ config_of program p.table.config.markers → number_of q < q.table.config.callers
+exists_on p q k program is number script config =
+    let callers : p.table.config.callers ≡ length (script_names program) = ap (λ (x : Config). x.callers) config in
+    let within : k < length (script_names program) = script in
+    subst (λ (r : PassState). number_of r < r.table.config.callers) (sym is) (omega arith)
+
+pub seat_is : (p q : PassState) (k : ℕ) → q ≡ record p { seen = q.seen } → IsIdleCaller q → number_of p ≡ k → p.seat ≡ Caller k
+seat_is p q k is idle number =
+    let seat : p.seat ≡ Caller idle.caller = ap (λ (r : PassState). r.seat) (sym is) ∙ idle.seat in
+    seat ∙ ap (λ (j : ℕ). Caller j) (sym (ap (λ (s : Seat). caller_number s) seat) ∙ number)
+
+module _ (on : Bool) (program : List Item) (k : ℕ) (p q : PassState) (s : Script) (run : IsRunning on program k p q s)
+    (seat : p.seat ≡ Caller k) (o : Op) (next : next_op program k (answers_in p.table.config k q.seen) ≡ Some o) where
+  pub asked_stays_admitted : IsChecked program → IsScript program k
+      → p.table.config ≡ config_of program p.table.config.markers
+      → StaysAdmitted q o
+  asked_stays_admitted checked is_script config =
+      subst (λ (r : PassState). StaysAdmitted r o) (sym run.is)
+      (next_stays_admitted on program k p seat q.seen checked is_script config run.follows o next)
+
+  pub follows_now : (told : Answer) (r : PassState) → Answers on q o told r
+      → FollowsScript on program k r.table.config r.seen
+  follows_now told r h =
+      subst (λ (w : WordsState). FollowsScript on program k w.config r.seen)
+      (sym (ap (λ (x : PassState). x.table) (then_seen p q r run.is h.is)))
+      (follows_on on program k p seat q.seen o told r next (subst (λ (x : PassState). Answers on x o told r) run.is h)
+      run.follows)
+
+  pub runs_on : (told : Answer) (r : PassState) (t : Script) → Answers on q o told r → TakesAnswer told s t
+      → IsRunning on program k p r t
+  runs_on told r t h takes =
+      let answers = subst (λ (x : PassState). Answers on x o told r) run.is h in
+      record {
+        is = then_seen p q r run.is h.is;
+        follows = follows_on on program k p seat q.seen o told r next answers run.follows;
+        fed = fed_on on program k p seat q.seen o told r next answers s t run.fed takes;
+      }
+
+-- One answer more is counted.
+
+pub one_more_op : (program : List Item) (k : ℕ) (answers : List Answer) (told : Answer) (s t : Script)
+    → IsFedWith program k answers s
+    → TakesAnswer told s t → t.ops ≡ s.ops + 1
+one_more_op program k answers told s t fed takes =
+    (takes program k answers fed).ops ∙ length-append answers (told ∷ []) ∙ ap (λ (n : ℕ). n + 1) (sym fed.ops)
+
+pub refused_within : (program : List Item) (k : ℕ) (answers : List Answer) (s : Script)
+    → IsFedWith program k answers s → s.refused ≤ s.ops
+refused_within program k answers s fed = omega (arith, count_by-le-length is_refusal answers, fed.ops, fed.refused)

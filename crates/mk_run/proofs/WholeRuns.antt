@@ -1,0 +1,115 @@
+-- A run of all scripts, when the heap is closed.
+use Rattle.std.proofs.Common.{◌≡◌, ℕ, ◌+◌, ◌≤◌, Bool, List, [], ◌∷◌, sym, ◌∙◌, ap, subst, arith}
+use Rattle.std.proofs.lemmas.Option.{slice_get_within}
+use Rattle.mk_core.specs.declared.config.Config.{Config}
+use Rattle.mk_core.specs.declared.events.Event.{Event}
+use Rattle.mk_core.specs.declared.events.Seat.TheVariants.{Caller, Host}
+use Rattle.mk_core.specs.Growing.{Grows, is_same_seat}
+use Rattle.mk_core.specs.declared.events.Seat.{Seat}
+use Rattle.mk_core.specs.declared.events.Step.TheVariants as step
+use Rattle.mk_words.specs.Seats.{Has}
+use Rattle.mk_words.specs.States.{WordsState, PassState}
+use Rattle.mk_heap.specs.Ending.{CallersAreJoined, SaysOver}
+use Rattle.mk_heap.proofs.MovedHosts.{idle_moves, moves_more}
+use Rattle.mk_heap.specs.Hosts.{HostState, AllAreJoined}
+use Rattle.mk_heap.specs.Reports as report
+use Rattle.mk_heap.specs.Reports.{IsWhole, HasCounts}
+use Rattle.mk_script.specs.declared.items.Item.{Item}
+use Rattle.mk_check.specs.Declarations.{config_of}
+use Rattle.mk_check.specs.Laws.{IsScript}
+use Rattle.mk_check.specs.declared.text.Text.{Text}
+use Rattle.mk_run.specs.declared.outcomes.Outcome.{Outcome}
+use Rattle.mk_run.specs.declared.joining.Joined.{Joined}
+use Rattle.mk_run.specs.Joining.{HasJoined, AreTextsFrom}
+use Rattle.mk_run.specs.Marking.{IsOver}
+use Rattle.mk_run.specs.Running.{FollowsScript, EndsScript, IsTextOf, IsRunOf}
+use Rattle.mk_run.proofs.LaterLists.{still_follows, still_ends, still_text}
+
+pub all_callers_joined : (on : Bool) (program : List Item) (w : WordsState) (h : HostState)
+    → HasJoined on program w 0 h → CallersAreJoined h
+all_callers_joined on program w h joined = λ k lt. let n = joined.count in joined.seats k (omega arith) (omega arith)
+
+-- The host says that all is over, and the callers whose seats are home make no step.
+
+abbrev pub CallersAreStill : PassState → List Event → Type 0
+CallersAreStill p es = (k : ℕ) → Has p.seats (Caller k) → Grows (Caller k ∷ []) p.seen es
+
+pub still_behind_over : (p q : PassState) → p.seat ≡ Host → SaysOver p q → CallersAreStill p q.seen
+still_behind_over p q seat over =
+    let idle = idle_moves p over.idle (record { taken = over.taken; takes = over.takes; ends = over.ends }) in
+    let moves =
+    moves_more p over.said q step.Give (moves_more p over.idle over.said step.Over idle over.says) over.gives in
+    λ k has. record {
+      more = moves.more;
+      is = ap (λ (r : PassState). r.seen) moves.is;
+      of_others = moves.leaves (Caller k) has (ap (λ (s : Seat). is_same_seat (Caller k) s) seat);
+    }
+
+-- What was joined stays so where the callers are still.
+
+module _ (on : Bool) (program : List Item) (w : WordsState) (h : HostState) (fs : List Event)
+    (joined : HasJoined on program w 0 h)
+    (still : CallersAreStill h.pass fs) where
+  later : (k : ℕ) → 0 ≤ k → IsScript program k → Grows (Caller k ∷ []) h.pass.seen fs
+  later k le is = still k (joined.seats k le is)
+
+  pub still_joined : (seats : List Seat) → ((k : ℕ) → Has h.pass.seats (Caller k) → Has seats (Caller k))
+      → HasJoined on program w 0 (record h { pass = record h.pass { seats = seats; seen = fs } })
+  still_joined seats keep = record {
+    table = joined.table;
+    seat = joined.seat;
+    count = joined.count;
+    seats = λ k le is. keep k (joined.seats k le is);
+    follow = λ k le is. still_follows program k w.config h.pass.seen fs (later k le is) on (joined.follow k le is);
+  }
+
+  pub still_texts : (texts : List Text) → AreTextsFrom program 0 w.config h.pass.seen texts
+      → AreTextsFrom program 0 w.config fs texts
+  still_texts texts h' = record {
+    count = h'.count;
+    ends = λ k le is. still_ends program k w.config h.pass.seen fs (later k le is) (h'.ends k le is);
+    each = λ i text at.
+        (let within = slice_get_within texts i text at in
+        let count = h'.count in
+        still_text program (0 + i) w.config h.pass.seen fs (later (0 + i) (omega arith) (omega arith)) text
+        (h'.each i text at));
+  }
+
+-- When the heap is closed.
+
+pub all_joined : (on : Bool) (program : List Item) (w : WordsState) (joined : Joined) → IsOver on program w 0 joined
+    → AllAreJoined joined.host
+all_joined on program w joined over =
+    record {
+      callers = all_callers_joined on program w joined.host over.is_host;
+      markers = λ i lt. over.markers i (omega arith) lt;
+    }
+
+pub is_run : (on : Bool) (program : List Item) (markers : ℕ) (w : WordsState) (h : HostState) (outcome : Outcome)
+    → w.config ≡ config_of program markers → HasJoined on program w 0 h
+    → AreTextsFrom program 0 w.config h.pass.seen outcome.texts.items → report.history_of outcome.report ≡ h.pass.seen
+    → report.config_of outcome.report ≡ w.config
+    → IsWhole (report.config_of outcome.report) (report.history_of outcome.report)
+    → HasCounts (report.config_of outcome.report) (report.history_of outcome.report) outcome.report
+    → IsRunOf on program markers outcome
+is_run on program markers w h outcome made joined texts history config whole counts =
+    let c = config_of program markers in
+    let es = report.history_of outcome.report in
+    let same : report.config_of outcome.report ≡ c = config ∙ made in
+    let count = texts.count in
+    record {
+      config = same;
+      whole = subst (λ (d : Config). IsWhole d es) same whole;
+      counts = subst (λ (d : Config). HasCounts d es outcome.report) same counts;
+      follows = λ k is.
+          subst (λ (l : List Event). FollowsScript on program k c l) (sym history)
+          (subst (λ (d : Config). FollowsScript on program k d h.pass.seen) made (joined.follow k (omega arith) is));
+      ends = λ k is.
+          subst (λ (l : List Event). EndsScript program k c l) (sym history)
+          (subst (λ (d : Config). EndsScript program k d h.pass.seen) made (texts.ends k (omega arith) is));
+      count = omega arith;
+      texts = λ k text at.
+          subst (λ (l : List Event). IsTextOf program k c l text) (sym history)
+          (subst (λ (d : Config). IsTextOf program k d h.pass.seen text) made
+          (subst (λ (j : ℕ). IsTextOf program j w.config h.pass.seen text) (omega arith) (texts.each k text at)));
+    }

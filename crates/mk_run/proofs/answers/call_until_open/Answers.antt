@@ -1,0 +1,24 @@
+use Rattle.std.proofs.Common.{true}
+use Rattle.mk_run.proofs.ScriptCalls.{answered_by_call, makes_none, none_then_none, none_then_answers, still_admitted}
+use Rattle.mk_run.proofs.answers.call_until_open.Goals as goal
+
+pub call-requires-clause-admitted : goal.call-requires-clause-admitted
+call-requires-clause-admitted g c =
+    still_admitted true c.args.caller.now.pass c.args.op c.held.caller.pass c.requires.admitted
+    (c.held.invariant.none true)
+    c.is_idle.ensures.history
+
+pub returns-in-Ok-clause-answers : goal.returns-in-Ok-clause-answers
+returns-in-Ok-clause-answers g c = λ on.
+    none_then_answers on c.args.caller.now.pass c.held.caller.pass c.args.op c.in-Ok.told c.call.new.caller.pass
+    (c.held.invariant.none on)
+    (answered_by_call on c.held.caller.pass c.args.op c.in-Ok.told c.call.new.caller.pass c.is_idle.ensures.own
+    c.in-Ok.ensures.called)
+
+pub held-preserved : goal.held-preserved
+held-preserved g c = record {
+  home = c.call.ensures.home;
+  none = λ on.
+      none_then_none on c.args.caller.now.pass c.held.caller.pass c.call.new.caller.pass (c.held.invariant.none on)
+      (makes_none on c.held.caller.pass c.args.op c.call.new.caller.pass c.is_idle.ensures.own c.in-Err.ensures.held);
+}

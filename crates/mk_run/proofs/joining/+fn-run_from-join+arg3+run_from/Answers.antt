@@ -1,0 +1,64 @@
+use Rattle.std.proofs.Common.{◌≡◌, ◌∙◌, ◌+◌, ◌<◌, length, sym, ap, subst, arith, rules}
+use Rattle.std.specs.Prelude.{Some}
+use Rattle.std.proofs.lemmas.List.Elements.{All-pop}
+use Rattle.mk_script.specs.Scopes.{script_names}
+use Rattle.mk_core.specs.Growing.{Grows}
+use Rattle.mk_heap.specs.Hosts.{HostState, with_joined}
+use Rattle.mk_check.specs.Laws.{IsScript}
+use Rattle.mk_run.specs.Joining.{IsFirstPass, HasMade, HasRun, HasJoined, AreJoined}
+use Rattle.mk_run.proofs.JoinedScripts.{next_made, first_pass, one_joined, texts_joined}
+use Rattle.mk_run.proofs.joining.+fn-run_from-join+arg3+run_from.Goals as goal
+
+pub join-ran-requires-after_bounds : goal.join-ran-requires-after_bounds
+join-ran-requires-after_bounds g t c κs within =
+    let w = c.args.heap.now in
+    let k = c.args.k in
+    let rest = c.pop.new.self.items in
+    let host = c.args.host in
+    let shorter : length rest < length c.args.benches.items = omega (arith, c.in-Some.ensures.cases) in
+    let all : k + 1 + length rest ≡ length (script_names c.args.program.now) =
+    omega (arith, c.in-Some.ensures.cases, c.requires.benches) in
+    let script : IsScript c.args.program.now k = omega arith in
+    let first : IsFirstPass w k c.finish-pass.result =
+    first_pass w k host c.caller.result c.finish-pass.result c.requires.host c.caller.ensures.caller
+    c.finish-pass.ensures.pass c.finish-pass.ensures.idle in
+    let next : HasMade w (k + 1) c.caller.new.self =
+    subst (λ (h : HostState). HasMade w (k + 1) h) (sym c.caller.ensures.host) (next_made w k host c.requires.host) in
+    let engines =
+    All-pop (λ bench. g.E.Engine.made_for bench.engine ≡ w.config.pages) c.args.benches.items rest
+    (Some c.in-Some.bench)
+    c.in-Some.ensures.items c.requires.made_for in
+    let books = All-pop (λ bench. length bench.book ≡ w.config.pages) c.args.benches.items rest (Some c.in-Some.bench)
+    c.in-Some.ensures.items c.requires.books in
+    search rules
+
+pub returns : goal.returns
+returns g t c =
+    let on = g.E.Engine.on in
+    let program = c.args.program.now in
+    let w = c.args.heap.now in
+    let k = c.args.k in
+    let ran : HasRun on program w k c.join-ran.result.0 = c.join-ran.ensures.first in
+    let joined : AreJoined on program w (k + 1) c.caller.new.self.markers c.join-ran.result.1 =
+    c.join-ran.ensures.second in
+    let pass = c.join-ran.result.0.pass in
+    let old = c.join-ran.result.1.host in
+    let new = c.join_caller.new.self in
+    let is : new ≡ with_joined old pass new.pass.seen = c.join_caller.ensures.host in
+    let own : Grows old.pass.seats old.pass.seen new.pass.seen = c.join_caller.ensures.own in
+    let came : Grows pass.seats pass.seen new.pass.seen = c.join_caller.ensures.came in
+    let few : IsScript program k = omega (arith, c.in-Some.ensures.cases, c.requires.benches) in
+    record {
+      is_host =
+          subst (λ (h : HostState). HasJoined on program w k h) (sym is)
+          (one_joined on program w k old pass new.pass.seen joined.is_host own ran.alone came ran.follows);
+      before_over = c.join_caller.ensures.overs ∙ joined.before_over;
+      same_markers =
+          ap (λ (h : HostState). h.markers) is ∙ joined.same_markers ∙ ap (λ (h : HostState). h.markers)
+          c.caller.ensures.host;
+      texts =
+          texts_joined on program w k old pass new.pass.seen joined.is_host own ran.alone came (λ texts. texts.items)
+          c.join-ran.result.0.text c.join-ran.result.1.texts c.with_first.result
+          c.with_first.ensures.first c.with_first.ensures.others c.with_first.ensures.items
+          ran.ends ran.is_text joined.texts few;
+    }

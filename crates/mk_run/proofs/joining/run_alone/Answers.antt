@@ -1,0 +1,27 @@
+use Rattle.std.proofs.Common.{◌≡◌, ◌∙◌, [], ◌∷◌, ap, subst, sym}
+use Rattle.mk_core.specs.declared.events.Seat.{Seat}
+use Rattle.mk_words.specs.States.{PassState}
+use Rattle.mk_caller.specs.States.{CallerState}
+use Rattle.mk_run.proofs.JoinedScripts.{no_answers, follows_at_first}
+use Rattle.mk_run.proofs.joining.run_alone.Goals as goal
+
+pub new-caller-requires-clause-idle : goal.new-caller-requires-clause-idle
+new-caller-requires-clause-idle g c = c.requires.pass.idle
+
+pub run_script-text-requires-clause-follows : goal.run_script-text-requires-clause-follows
+run_script-text-requires-clause-follows g c κs within =
+    let p = c.new-caller.result.pass in
+    follows_at_first g.E.Engine.on c.args.program.now c.args.k p.table.config p.seen
+    (ap (λ (s : CallerState). s.pass.seen) c.new-caller.ensures ∙ c.requires.pass.seen)
+
+pub run_script-text-requires-clause-no_call : goal.run_script-text-requires-clause-no_call
+run_script-text-requires-clause-no_call g c κs within =
+    let p = c.new-caller.result.pass in
+    no_answers p.table.config c.args.k p.seen
+    (ap (λ (s : CallerState). s.pass.seen) c.new-caller.ensures ∙ c.requires.pass.seen)
+
+pub run_script-text-requires-clause-alone : goal.run_script-text-requires-clause-alone
+run_script-text-requires-clause-alone g c κs within =
+    let is = ap (λ (s : CallerState). s.pass) c.new-caller.ensures in
+    subst (λ (p : PassState). p.seats ≡ p.seat ∷ []) (sym is)
+    (c.requires.pass.alone ∙ ap (λ (s : Seat). s ∷ []) (sym c.requires.pass.seat))

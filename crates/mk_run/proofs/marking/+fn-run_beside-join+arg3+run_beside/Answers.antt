@@ -1,0 +1,35 @@
+use Rattle.std.proofs.Common.{◌≡◌, ◌∙◌, ◌+◌, ◌-◌, ◌<◌, sym, ap, subst, arith, refl, rules}
+use Rattle.mk_heap.specs.Hosts.{HostState}
+use Rattle.mk_run.specs.Joining.{HasMade}
+use Rattle.mk_run.specs.Marking.{IsMarkersPass, IsOver}
+use Rattle.mk_run.proofs.MarkersBeside.{first_marker, marker_made, marker_joined}
+use Rattle.mk_run.proofs.marking.+fn-run_beside-join+arg3+run_beside.Goals as goal
+
+pub join-pass-requires-after_bounds : goal.join-pass-requires-after_bounds
+join-pass-requires-after_bounds g t c κs within =
+    let w = c.args.heap.now in
+    let number = c.args.number in
+    let host = c.args.host in
+    let new = c.marker.new.self in
+    let more : number < c.args.markers = search rules in
+    let few : number < 8 = omega (arith, c.requires.few) in
+    let pass : IsMarkersPass w number c.finish-pass.result =
+    first_marker w number host c.marker.result c.finish-pass.result c.requires.host c.requires.number few
+    c.marker.ensures.marker c.finish-pass.ensures.pass in
+    let made : HasMade w 0 new =
+    subst (λ (h : HostState). HasMade w 0 h) (sym c.marker.ensures.host) (marker_made w host c.requires.host) in
+    let count : new.markers ≡ number + 1 =
+    ap (λ (h : HostState). h.markers) c.marker.ensures.host ∙ ap (λ n. n + 1) c.requires.number in
+    let fewer : c.args.markers - (number + 1) < t = omega (arith, c.decreases) in
+    search rules
+
+pub returns : goal.returns
+returns g t c =
+    let w = c.args.heap.now in
+    let number = c.args.number in
+    let pass : IsMarkersPass w number c.join-pass.result.0 = c.join-pass.ensures.first in
+    let before : IsOver g.E.Engine.on c.args.program.now w (number + 1)
+    c.join-pass.result.1 = c.join-pass.ensures.second in
+    marker_joined g.E.Engine.on c.args.program.now w number c.join-pass.result.0 c.join-pass.result.1
+    (record { host = c.join_marker.new.self; texts = c.join-pass.result.1.texts }) before c.join_marker.ensures.host
+    c.join_marker.ensures.own pass.alone refl

@@ -1,0 +1,13 @@
+use Rattle.std.proofs.Common.{◌≡◌, ◌+◌, ◌≤◌, true, length}
+use Rattle.mk_run.specs.Scripts.{IsRunning}
+use Rattle.mk_run.proofs.scripts.run_script.Given as goal
+
+abbrev pub invariant-instructions : goal.invariant-instructions
+invariant-instructions g l = record {
+  home : l.caller.home ≡ true;
+  running : IsRunning g.E.Engine.on l.fn.program l.fn.k l.fn.caller.pass l.caller.pass l.script;
+  made_for : g.E.Engine.made_for l.bench.engine ≡ g.E.Engine.made_for l.fn.bench.engine;
+  book : length l.bench.book ≡ length l.fn.bench.book;
+  counted : l.script.ops + l.iterator'.left ≤ 18446744073709551615;
+  refused : l.script.refused ≤ l.script.ops;
+}

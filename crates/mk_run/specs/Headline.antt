@@ -1,0 +1,75 @@
+-- What is promised of the scripts of a program that ran.
+use Rattle.std.specs.Prelude.{◌≡◌, ℕ, Bool, true, List, length, nat_lt}
+use Rattle.std.specs.List.{flat_map}
+use Rattle.mk_core.specs.declared.config.Config.{Config}
+use Rattle.mk_core.specs.declared.events.Answer.{Answer}
+use Rattle.mk_core.specs.declared.events.Event.{Event}
+use Rattle.mk_core.specs.declared.events.Seat.TheVariants.{Caller}
+use Rattle.mk_core.specs.Decided.{asked}
+use Rattle.mk_core.specs.History.{calls}
+use Rattle.mk_script.specs.declared.items.Item.{Item}
+use Rattle.mk_check.specs.Declarations.{config_of}
+use Rattle.mk_check.specs.Feed.{feed, has_ended}
+use Rattle.mk_check.specs.Laws.{AreNotedBy, IsScript}
+use Rattle.mk_check.specs.Output.{output}
+use Rattle.mk_check.specs.declared.text.Text.{Text}
+use Rattle.mk_heap.specs.Reports.{IsWhole}
+use Rattle.mk_heap.specs.Reports as report
+use Rattle.mk_alloc.specs.TurnCycles.{TurnsOfAreExact}
+use Rattle.mk_theorems.specs.Promises.{KeepsAllPromises}
+use Rattle.mk_run.specs.declared.outcomes.Outcome.{Outcome}
+use Rattle.mk_run.specs.Running.{answers_in, IsRunOf}
+
+-- Whether the cycle that a Free begins goes on behind its call: where there are markers to work on it.
+abbrev pub cycles_go_on : ℕ → Bool
+cycles_go_on markers = nat_lt 0 markers
+
+-- Fed with these answers script k has run to its end, with no answer left over: it asked for as many operations.
+pub record RunsToItsEnd (program : List Item) (k : ℕ) (answers : List Answer) : Type 0 where
+  pub ended : has_ended (feed program k answers) ≡ true
+  pub none_left : length (feed program k answers).ops ≡ length answers
+
+-- Whatever the interleaving of callers and markers, the replies of a program's scripts stand in one history of a heap
+-- that never reuses storage, each script's operations there once and in order. The bytes are what is told of it.
+pub record StandsInOneHistory (program : List Item) (markers : ℕ) (tell : Config → List Event → List ℕ)
+    (bytes : List ℕ) : Type 0 where
+  -- There is a list of events.
+  pub history : List Event
+  -- It is a history of one heap of the program's configuration, and tidy, and no call of it is in flight.
+  pub whole : IsWhole (config_of program markers) history
+  -- Its answers are those of the heap that never reuses storage: a dangling load gives the freed object's own word, or
+  -- Fault for a freed large run. Full stands only where nothing fits beside live and quarantined storage, behind a cycle
+  -- begun and ended in that call; every other object stands at its place. Marks are closed at each `close`, and what is
+  -- released was freed before its cycle and isn't reached.
+  pub promises : KeepsAllPromises (config_of program markers) history
+  -- Each script's operations are there once and in order: they are those that it asks for, fed with their own answers.
+  pub operations :
+      (k : ℕ) → IsScript program k
+      → AreNotedBy program k (answers_in (config_of program markers) k history)
+      (asked (calls (config_of program markers) history))
+  pub ends : (k : ℕ) → IsScript program k → RunsToItsEnd program k (answers_in (config_of program markers) k history)
+  -- A Free begins a cycle in its call exactly where it is due. Without markers that cycle ends in the call, and with
+  -- markers it doesn't. A New begins or ends a cycle only where its object fits nowhere.
+  pub cycles :
+      (k : ℕ) → IsScript program k
+      → TurnsOfAreExact (cycles_go_on markers) (config_of program markers) (Caller k) history
+  -- This is told of it, whole.
+  pub told : bytes ≡ tell (config_of program markers) history
+
+-- The texts of an outcome, one behind the other.
+abbrev pub printed : Outcome → List ℕ
+printed outcome = flat_map (λ (text : Text). text.bytes.items) outcome.texts.items
+
+-- The history of a run is such a history, whatever is told of it.
+abbrev pub RunsStandInOneHistory : Type 0
+RunsStandInOneHistory =
+    (program : List Item) (markers : ℕ) (outcome : Outcome) (tell : Config → List Event → List ℕ) (bytes : List ℕ)
+    → IsRunOf (cycles_go_on markers) program markers outcome
+    → bytes ≡ tell (config_of program markers) (report.history_of outcome.report)
+    → StandsInOneHistory program markers tell bytes
+
+-- What the scripts print of it are the texts of the outcome, whole.
+abbrev pub RunsPrintTheirTexts : Type 0
+RunsPrintTheirTexts =
+    (on : Bool) (program : List Item) (markers : ℕ) (outcome : Outcome) → IsRunOf on program markers outcome
+    → printed outcome ≡ output program (config_of program markers) (report.history_of outcome.report)

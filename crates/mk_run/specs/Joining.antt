@@ -1,0 +1,67 @@
+-- Scripts on threads of their own: what each hands back, and the host that has joined some of them.
+-- Private functions alone cite these words.
+use Rattle.std.specs.Prelude.{◌≡◌, ℕ, ◌+◌, ◌≤◌, Bool, false, List, [], ◌∷◌, length, slice_get, Some, IfOk}
+use Rattle.mk_core.specs.declared.events.Event.{Event}
+use Rattle.mk_core.specs.declared.events.Seat.TheVariants.{Caller, Host}
+use Rattle.mk_core.specs.declared.config.Config.{Config}
+use Rattle.mk_words.specs.Seats.{Has, has_over}
+use Rattle.mk_words.specs.States.{WordsState, PassState}
+use Rattle.mk_caller.specs.States.{IsIdleCaller}
+use Rattle.mk_heap.specs.Hosts.{HostState}
+use Rattle.mk_script.specs.declared.items.Item.{Item}
+use Rattle.mk_script.specs.Scopes.{script_names}
+use Rattle.mk_check.specs.Declarations.{config_of}
+use Rattle.mk_check.specs.Laws.{IsScript}
+use Rattle.mk_check.specs.declared.text.Text.{Text}
+use Rattle.mk_run.specs.Running.{FollowsScript, EndsScript, IsTextOf}
+use Rattle.mk_run.specs.declared.joining.Ran.{Ran}
+use Rattle.mk_run.specs.declared.joining.Joined.{Joined}
+
+-- The heap was made for the program.
+abbrev pub IsHeapOf : List Item → WordsState → Type 0
+IsHeapOf program w = w.config ≡ config_of program w.config.markers
+
+-- The pass of script k's caller, before its first call.
+pub record IsFirstPass (w : WordsState) (k : ℕ) (p : PassState) : Type 0 where
+  pub table : p.table ≡ w
+  pub seat : p.seat ≡ Caller k
+  pub alone : p.seats ≡ Caller k ∷ []
+  pub seen : p.seen ≡ []
+  pub idle : IsIdleCaller p
+
+-- Script k ran on a thread of its own, to its end where memory sufficed.
+pub record HasRun (on : Bool) (program : List Item) (w : WordsState) (k : ℕ) (ran : Ran) : Type 0 where
+  pub table : ran.pass.table ≡ w
+  pub seat : ran.pass.seat ≡ Caller k
+  pub alone : ran.pass.seats ≡ Caller k ∷ []
+  pub idle : IsIdleCaller ran.pass
+  pub follows : FollowsScript on program k w.config ran.pass.seen
+  pub ends : IfOk ran.text (λ text. EndsScript program k w.config ran.pass.seen)
+  pub is_text : IfOk ran.text (IsTextOf program k w.config ran.pass.seen)
+
+-- The host has made the callers below k, and joined none.
+pub record HasMade (w : WordsState) (k : ℕ) (h : HostState) : Type 0 where
+  pub table : h.pass.table ≡ w
+  pub seat : h.pass.seat ≡ Host
+  pub seen : h.pass.seen ≡ []
+  pub count : h.callers ≡ k
+
+-- The texts of the scripts from k on, which ran to their ends.
+pub record AreTextsFrom (program : List Item) (k : ℕ) (c : Config) (es : List Event) (texts : List Text) : Type 0 where
+  pub count : k + length texts ≡ length (script_names program)
+  pub ends : (j : ℕ) → k ≤ j → IsScript program j → EndsScript program j c es
+  pub each : (i : ℕ) (text : Text) → slice_get texts i ≡ Some text → IsTextOf program (k + i) c es text
+
+-- The host has made all callers, and joined those from k on, each of which followed its script.
+pub record HasJoined (on : Bool) (program : List Item) (w : WordsState) (k : ℕ) (h : HostState) : Type 0 where
+  pub table : h.pass.table ≡ w
+  pub seat : h.pass.seat ≡ Host
+  pub count : h.callers ≡ length (script_names program)
+  pub seats : (j : ℕ) → k ≤ j → IsScript program j → Has h.pass.seats (Caller j)
+  pub follow : (j : ℕ) → k ≤ j → IsScript program j → FollowsScript on program j w.config h.pass.seen
+
+pub record AreJoined (on : Bool) (program : List Item) (w : WordsState) (k markers : ℕ) (joined : Joined) : Type 0 where
+  pub is_host : HasJoined on program w k joined.host
+  pub before_over : has_over joined.host.pass.seen ≡ false
+  pub same_markers : joined.host.markers ≡ markers
+  pub texts : IfOk joined.texts (λ texts. AreTextsFrom program k w.config joined.host.pass.seen texts.items)

@@ -1,0 +1,5 @@
+pub mod Joining
+pub mod Marking
+pub mod Headline
+pub mod Running
+pub mod Scripts

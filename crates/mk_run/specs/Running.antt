@@ -1,0 +1,61 @@
+-- What a run of a program's scripts is, in the history of its heap.
+use Rattle.std.specs.Prelude.{◌≡◌, ℕ, Bool, true, false, List, length, count_by, slice_get, Some}
+use Rattle.mk_core.specs.declared.config.Config.{Config}
+use Rattle.mk_core.specs.declared.events.Answer.{Answer}
+use Rattle.mk_core.specs.declared.events.Answer.TheVariants as answer
+use Rattle.mk_core.specs.declared.events.Event.{Event}
+use Rattle.mk_core.specs.declared.events.Seat.TheVariants.{Caller}
+use Rattle.mk_core.specs.Decided.{asked}
+use Rattle.mk_core.specs.History.{calls}
+use Rattle.mk_script.specs.declared.items.Item.{Item}
+use Rattle.mk_script.specs.Scopes.{script_names}
+use Rattle.mk_check.specs.Declarations.{config_of}
+use Rattle.mk_check.specs.Feed.{feed, has_ended}
+use Rattle.mk_check.specs.Laws.{AreNotedBy, IsScript}
+use Rattle.mk_check.specs.Output.{answers_among}
+use Rattle.mk_check.specs.declared.text.Text.{Text}
+use Rattle.mk_heap.specs.Reports as report
+use Rattle.mk_heap.specs.Reports.{IsWhole, HasCounts}
+use Rattle.mk_alloc.specs.TurnCycles.{TurnsOfAreExact}
+use Rattle.mk_run.specs.declared.outcomes.Outcome.{Outcome}
+
+-- the answers of caller k's calls of a history
+abbrev pub answers_in : Config → ℕ → List Event → List Answer
+answers_in c k es = answers_among k (calls c es)
+
+-- Caller k's calls of the history are those that script k asks for, once and in order, given their answers; and each
+-- turn that it gave back did with cycles what its operation asks.
+pub record FollowsScript (on : Bool) (program : List Item) (k : ℕ) (c : Config) (es : List Event) : Type 0 where
+  pub noted : AreNotedBy program k (answers_in c k es) (asked (calls c es))
+  pub exact : TurnsOfAreExact on c (Caller k) es
+
+-- Script k ran to its end.
+abbrev pub EndsScript : List Item → ℕ → Config → List Event → Type 0
+EndsScript program k c es = has_ended (feed program k (answers_in c k es)) ≡ true
+
+-- the answers that refuse
+abbrev pub is_refusal : Answer → Bool
+is_refusal answer.Full = true
+is_refusal answer.Fault = true
+is_refusal answer.Null = true
+is_refusal answer.Double = true
+is_refusal _ = false
+
+-- The text is that of script k for its answers in the history, with the counts of its calls.
+pub record IsTextOf (program : List Item) (k : ℕ) (c : Config) (es : List Event) (text : Text) : Type 0 where
+  pub bytes : text.bytes.items ≡ (feed program k (answers_in c k es)).text
+  pub ops : text.ops ≡ length (answers_in c k es)
+  pub refused : text.refused ≡ count_by is_refusal (answers_in c k es)
+
+-- All scripts of the program ran to their ends on a heap of its configuration, and these are their texts.
+pub record IsRunOf (on : Bool) (program : List Item) (markers : ℕ) (outcome : Outcome) : Type 0 where
+  pub config : report.config_of outcome.report ≡ config_of program markers
+  pub whole : IsWhole (config_of program markers) (report.history_of outcome.report)
+  pub counts : HasCounts (config_of program markers) (report.history_of outcome.report) outcome.report
+  pub follows : (k : ℕ) → IsScript program k
+      → FollowsScript on program k (config_of program markers) (report.history_of outcome.report)
+  pub ends : (k : ℕ) → IsScript program k
+      → EndsScript program k (config_of program markers) (report.history_of outcome.report)
+  pub count : length outcome.texts.items ≡ length (script_names program)
+  pub texts : (k : ℕ) (text : Text) → slice_get outcome.texts.items k ≡ Some text
+      → IsTextOf program k (config_of program markers) (report.history_of outcome.report) text

@@ -1,0 +1,70 @@
+-- A script under way: the calls that it has its caller make, and what it keeps of them.
+-- Private functions alone cite these words.
+use Rattle.std.specs.Prelude.{◌≡◌, ℕ, ◌<◌, ◌≤◌, Bool, List, [], ◌∷◌, ◌++◌, length, count_by, Some}
+use Rattle.mk_never.specs.declared.operations.Op.{Op}
+use Rattle.mk_core.specs.declared.events.Answer.{Answer}
+use Rattle.mk_core.specs.declared.events.Answer.TheVariants as answer
+use Rattle.mk_core.specs.declared.events.Event.{Event}
+use Rattle.mk_core.specs.Decided.{entry_of}
+use Rattle.mk_core.specs.History.{IsHistory}
+use Rattle.mk_words.specs.States.{PassState}
+use Rattle.mk_caller.specs.States.{number_of, Admits}
+use Rattle.mk_caller.specs.Called.{own_calls, Called}
+use Rattle.mk_alloc.specs.Laws.{OwnAreExact}
+use Rattle.mk_script.specs.declared.items.Item.{Item}
+use Rattle.mk_check.specs.Feeding.{FeedStandsFor}
+use Rattle.mk_run.specs.declared.scripts.Script.{Script}
+use Rattle.mk_run.specs.Running.{answers_in, is_refusal, FollowsScript}
+
+-- A caller isn't told which pointer it loaded.
+abbrev pub as_told : Answer → Answer
+as_told (answer.Word w) = answer.Word 0
+as_told a = a
+
+-- The pass did this operation. What its caller is told of the answer is this.
+pub record IsCalled (p : PassState) (o : Op) (told : Answer) (q : PassState) : Type 0 where
+  pub answer : Answer
+  pub is_told : told ≡ as_told answer
+  pub called : Called p o answer q
+
+-- The operation is admitted whenever the caller's calls are still those that they are now.
+abbrev pub StaysAdmitted : PassState → Op → Type 0
+StaysAdmitted p o =
+    (es : List Event) → IsHistory p.table.config es → own_calls p es ≡ own_calls p p.seen
+    → Admits (record p { seen = es }) o
+
+-- The pass has seen more, in which its caller made no call.
+pub record MakesNoCall (on : Bool) (p q : PassState) : Type 0 where
+  pub is : q ≡ record p { seen = q.seen }
+  pub entries : own_calls p q.seen ≡ own_calls p p.seen
+  pub exact : OwnAreExact on p → OwnAreExact on q
+
+-- The caller made one call, of this operation, and is told this of its answer.
+pub record Answers (on : Bool) (p : PassState) (o : Op) (told : Answer) (q : PassState) : Type 0 where
+  pub answer : Answer
+  pub is_told : told ≡ as_told answer
+  pub is : q ≡ record p { seen = q.seen }
+  pub entry : own_calls p q.seen ≡ own_calls p p.seen ++ entry_of (number_of p) o (Some answer)
+  pub exact : OwnAreExact on p → OwnAreExact on q
+
+-- Script k, fed with these answers.
+pub record IsFedWith (program : List Item) (k : ℕ) (answers : List Answer) (s : Script) : Type 0 where
+  pub feed : FeedStandsFor program k s.feed answers
+  pub ops : s.ops ≡ length answers
+  pub refused : s.refused ≡ count_by is_refusal answers
+
+-- Whatever the first was fed with, the second is fed with that and one answer more.
+abbrev pub TakesAnswer : Answer → Script → Script → Type 0
+TakesAnswer a old new = (program : List Item) (k : ℕ) (answers : List Answer)
+    → IsFedWith program k answers old → IsFedWith program k (answers ++ a ∷ []) new
+
+-- The pass that began as the first is at the second, and its caller follows the script, which is fed with all answers.
+pub record IsRunning (on : Bool) (program : List Item) (k : ℕ) (p q : PassState) (s : Script) : Type 0 where
+  pub is : q ≡ record p { seen = q.seen }
+  pub follows : FollowsScript on program k p.table.config q.seen
+  pub fed : IsFedWith program k (answers_in p.table.config k q.seen) s
+
+-- One more answer may be counted.
+pub record HasRoom (s : Script) : Type 0 where
+  pub ops : s.ops < 18446744073709551615
+  pub refused : s.refused ≤ s.ops

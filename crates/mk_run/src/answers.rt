@@ -1,0 +1,138 @@
+//! The operations of a script, each with its answer.
+ghost use Rattle.std.specs.Prelude.{◌≡◌, ◌<◌, ◌∷◌, [], length, IfOk, IfErr, OnErr, true, false, Bool};
+ghost use Rattle.mk_core.specs.Calls.{is_under_turn};
+ghost use Rattle.mk_caller.specs.Causes.{FindsGateHeld, IsRefused};
+ghost use Rattle.mk_caller.specs.Moves.{is_access};
+ghost use Rattle.mk_caller.specs.States.{number_of, Admits};
+ghost use Rattle.mk_run.specs.Scripts.{IsCalled, StaysAdmitted, Answers};
+
+use crossbeam_utils::Backoff;
+use mk_alloc::{free_object, new_object};
+use mk_caller::{Caller, Refusal};
+use mk_core::Answer;
+use mk_cycle::{Bench, Engine};
+use mk_never::Op;
+use mk_words::Held;
+use std::sync::Wait;
+use std::thread::Threads;
+
+/// An access through a register.
+fn access(caller: &mut Caller, op: Op) -> Result<Answer, Refusal>
+    requires home { caller.old.home ≡ true }
+    requires access { is_access op ≡ true }
+    requires admitted { Admits caller.old.pass op }
+    ensures home { caller.new.home ≡ true }
+    ensures called { IfOk result (λ told. IsCalled caller.old.pass op told caller.new.pass) }
+    ensures refused { IfErr result (λ e. IsRefused caller.old.pass op e caller.new.pass) }
+{
+    match op {
+        Op::GetNum { q, i } => Ok(Answer::Num(caller.get_num(q, i)?)),
+        Op::SetNum { q, i, n } => {
+            caller.set_num(q, i, n)?;
+            Ok(Answer::Done)
+        }
+        Op::GetPtr { d, q, i } => {
+            caller.get_ptr(d, q, i)?;
+            Ok(Answer::Word(0))
+        }
+        Op::SetPtr { q, i, p } => {
+            caller.set_ptr(q, i, p)?;
+            Ok(Answer::Done)
+        }
+        Op::CasPtr { q, i, p, r } => Ok(Answer::Num(u64::from(caller.cas_ptr(q, i, p, r)?))),
+        Op::Lea { d, q, i } => {
+            caller.lea(d, q, i)?;
+            Ok(Answer::Done)
+        }
+        _ => unreachable!(),
+    }
+}
+
+/// An operation on registers and globals, or an access.
+fn call(caller: &mut Caller, op: Op) -> Result<Answer, Held>
+    requires home { caller.old.home ≡ true }
+    requires entered { is_under_turn op ≡ false }
+    requires admitted { Admits caller.old.pass op }
+    ensures home { caller.new.home ≡ true }
+    ensures called { IfOk result (λ told. IsCalled caller.old.pass op told caller.new.pass) }
+    ensures held { OnErr result (FindsGateHeld caller.old.pass op caller.new.pass) }
+{
+    match op {
+        Op::New { .. } | Op::Free { .. } => unreachable!(),
+        Op::Move { d, q } => {
+            caller.move_ptr(d, q)?;
+            Ok(Answer::Done)
+        }
+        Op::Clear { d } => {
+            caller.clear(d)?;
+            Ok(Answer::Done)
+        }
+        Op::GetGlobal { d, g } => {
+            caller.get_global(d, g)?;
+            Ok(Answer::Word(0))
+        }
+        Op::SetGlobal { g, p } => {
+            caller.set_global(g, p)?;
+            Ok(Answer::Done)
+        }
+        Op::Same { p, q } => Ok(Answer::Num(u64::from(caller.same(p, q)?))),
+        Op::IsNull { p } => Ok(Answer::Num(u64::from(caller.is_null(p)?))),
+        _ => match access(caller, op) {
+            Ok(told) => Ok(told),
+            Err(Refusal::Fault) => Ok(Answer::Fault),
+            Err(Refusal::Null) => Ok(Answer::Null),
+            Err(Refusal::Held) => Err(Held),
+        },
+    }
+}
+
+/// The same, tried again while the gate is held.
+fn call_until_open<R: Wait>(rt: &R, caller: &mut Caller, op: Op) -> Answer
+    requires home { caller.old.home ≡ true }
+    requires entered { is_under_turn op ≡ false }
+    requires admitted { StaysAdmitted caller.old.pass op }
+    ensures home { caller.new.home ≡ true }
+    ensures answers { (on : Bool) → Answers on caller.old.pass op result caller.new.pass }
+{
+    let backoff = Backoff::new();
+    'held: for _ in rt.forever() {
+        caller.is_idle();
+        match call(caller, op) {
+            Ok(told) => return told,
+            Err(_) => backoff.snooze(),
+        }
+    }
+    unreachable!()
+}
+
+/// Carries out an operation, and tells its answer. Which pointer was loaded isn't told.
+pub(crate) fn answer_to<E: Engine, R: Threads + Wait + Sync>(
+    rt: &R,
+    caller: &mut Caller,
+    bench: &mut Bench<E>,
+    op: Op,
+) -> Answer
+    requires home { caller.old.home ≡ true }
+    requires exists { number_of caller.old.pass < caller.old.pass.table.config.callers }
+    requires alone { caller.old.pass.seats ≡ caller.old.pass.seat ∷ [] }
+    requires admitted { StaysAdmitted caller.old.pass op }
+    requires made_for { E.made_for bench.old.engine ≡ caller.old.pass.table.config.pages }
+    requires book { length bench.old.book ≡ caller.old.pass.table.config.pages }
+    ensures home { caller.new.home ≡ true }
+    ensures made_for { E.made_for bench.new.engine ≡ E.made_for bench.old.engine }
+    ensures book { length bench.new.book ≡ length bench.old.book }
+    ensures answers { Answers E.on caller.old.pass op result caller.new.pass }
+{
+    caller.is_idle();
+    match op {
+        Op::New { d, ty, .. } => match new_object(rt, caller, bench, d, ty) {
+            Ok(()) => Answer::Done,
+            Err(_) => Answer::Full,
+        },
+        Op::Free { p } => match free_object(rt, caller, bench, p) {
+            Ok(_) => Answer::Done,
+            Err(_) => Answer::Double,
+        },
+        _ => call_until_open(rt, caller, op),
+    }
+}

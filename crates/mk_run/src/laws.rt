@@ -1,0 +1,14 @@
+//! Laws of runs. Each is the contract of a function that does nothing.
+ghost use Rattle.mk_run.specs.Headline.{RunsStandInOneHistory, RunsPrintTheirTexts};
+
+/// The replies of a run stand in one history of a heap that never reuses storage, each script's operations there once
+/// and in order.
+#[tactic(auto, using(crate::proofs::Headline::runs_stand_in_one_history))]
+pub fn runs_stand_in_one_history()
+    ensures { RunsStandInOneHistory }
+{}
+
+/// The texts of a run are what its scripts print of that history.
+pub fn runs_print_their_texts()
+    ensures { RunsPrintTheirTexts }
+{}

@@ -1,0 +1,152 @@
+//! Markers on threads of their own, beside the scripts.
+ghost use Rattle.std.specs.Prelude.{◌≡◌, ◌+◌, ◌≤◌, length, All, true, false};
+ghost use Rattle.std.specs.Thread.{IsSync};
+ghost use denote.Param.Send.{IsSend};
+ghost use Rattle.mk_marker.specs.Markers.{attends};
+ghost use Rattle.mk_script.specs.Scopes.{script_names};
+ghost use Rattle.mk_run.specs.Joining.{IsHeapOf, HasMade};
+ghost use Rattle.mk_run.specs.Marking.{IsMarkersPass, IsOver};
+
+use crate::joining::{Joined, run_from};
+use crate::paces::Pace;
+use crossbeam_utils::Backoff;
+use mk_check::Checked;
+use mk_cycle::{Bench, Engine};
+use mk_heap::{Heap, Host};
+use mk_marker::{Marker, NotMarking, Work};
+use mk_words::Pass;
+use std::alloc::Global;
+use std::sync::Wait;
+use std::thread;
+use std::thread::Threads;
+
+/// Marks for the cycle that is on, until its close is wanted.
+fn mark_until_wanted<P: Pace, R: Wait>(rt: &R, marker: &mut Marker, number: u64, pace: &P)
+    requires attends { attends marker.old ≡ true }
+    ensures out { attends marker.new ≡ false }
+    ensures pass { marker.new ≡ record marker.old { seen = marker.new.seen } }
+{
+    let backoff = Backoff::new();
+    'cells: for _ in rt.forever() {
+        match marker.work() {
+            Work::Worked => pace.marked(number),
+            Work::Idle => backoff.snooze(),
+            Work::Wanted => break,
+        }
+    }
+    marker.quit();
+}
+
+/// The work of a marker's thread: it marks for each cycle that goes on beside the callers, until all is over.
+fn mark_until_over<P: Pace, R: Wait>(rt: &R, heap: &Heap, pass: Pass, number: u64, pace: &P) -> Pass
+    requires { IsMarkersPass heap.now number pass }
+    ensures { IsMarkersPass heap.now number result }
+{
+    let mut marker = Marker::new(heap.words(), pass);
+    let backoff = Backoff::new();
+    'cycles: for _ in rt.forever() {
+        match marker.attend() {
+            Ok(()) => mark_until_wanted(rt, &mut marker, number, pace),
+            Err(NotMarking { phase: 5 }) => return marker.finish(),
+            Err(_) => backoff.snooze(),
+        }
+    }
+    unreachable!()
+}
+
+/// Runs all scripts and joins them, and says to the markers that all is over.
+fn run_scripts<E: Engine + Send, P: Pace + Sync, R: Threads + Wait + Sync>(
+    rt: &R,
+    alloc: Global,
+    heap: &Heap,
+    program: &Checked,
+    pace: &P,
+    host: Host,
+    benches: Vec<Bench<E>>,
+    bench: Bench<E>,
+) -> Joined
+    requires heap { IsHeapOf program.now heap.now }
+    requires host { HasMade heap.now 0 host }
+    requires benches { length benches.items ≡ length (script_names program.now) }
+    requires made_for { All (λ bench. E.made_for bench.engine ≡ heap.now.config.pages) benches.items }
+    requires books { All (λ bench. length bench.book ≡ heap.now.config.pages) benches.items }
+    requires own_made_for { E.made_for bench.engine ≡ heap.now.config.pages }
+    requires own_book { length bench.book ≡ heap.now.config.pages }
+    ensures { IsOver E.on program.now heap.now host.markers result }
+{
+    let Joined { mut host, texts } = run_from(rt, alloc, heap, program, pace, 0, host, benches);
+    let mut bench = bench;
+    host.over(rt, heap, &mut bench);
+    Joined { host, texts }
+}
+
+/// Runs the markers from `number` on, each on a thread of its own, beside the scripts, and joins all. A marker whose
+/// thread can't be started finds that all is over.
+pub(crate) fn run_beside<E: Engine + Send, P: Pace + Sync, R: Threads + Wait + Sync>(
+    rt: &R,
+    alloc: Global,
+    heap: &Heap,
+    program: &Checked,
+    pace: &P,
+    number: u64,
+    markers: u64,
+    mut host: Host,
+    benches: Vec<Bench<E>>,
+    bench: Bench<E>,
+) -> Joined
+    requires shared { IsSync R.row × IsSync P.row × IsSend E.row }
+    requires heap { IsHeapOf program.now heap.now }
+    requires few { markers ≤ 8 }
+    requires markers { markers ≡ heap.now.config.markers }
+    requires host { HasMade heap.now 0 host }
+    requires number { host.markers ≡ number }
+    requires benches { length benches.items ≡ length (script_names program.now) }
+    requires made_for { All (λ bench. E.made_for bench.engine ≡ heap.now.config.pages) benches.items }
+    requires books { All (λ bench. length bench.book ≡ heap.now.config.pages) benches.items }
+    requires own_made_for { E.made_for bench.engine ≡ heap.now.config.pages }
+    requires own_book { length bench.book ≡ heap.now.config.pages }
+    ensures { IsOver E.on program.now heap.now number result }
+{
+    if number >= markers {
+        return run_scripts(rt, alloc, heap, program, pace, host, benches, bench);
+    }
+    let pass = host.marker(heap).finish();
+    let (pass, joined) = thread::join(
+        rt,
+        move || -> Pass
+            requires shared { IsSync R.row × IsSync P.row }
+            requires pass { IsMarkersPass heap.now number pass }
+            ensures { IsMarkersPass heap.entry.now number result }
+        { mark_until_over(rt, heap, pass, number, pace) },
+        move || -> Joined
+            requires shared { IsSync R.row × IsSync P.row × IsSend E.row }
+            requires heap { IsHeapOf program.now heap.now }
+            requires few { markers ≤ 8 }
+            requires markers { markers ≡ heap.now.config.markers }
+            requires host { HasMade heap.now 0 host }
+            requires number { host.markers ≡ number + 1 }
+            requires benches { length benches.items ≡ length (script_names program.now) }
+            requires made_for { All (λ bench. E.made_for bench.engine ≡ heap.now.config.pages) benches.items }
+            requires books { All (λ bench. length bench.book ≡ heap.now.config.pages) benches.items }
+            requires own_made_for { E.made_for bench.engine ≡ heap.now.config.pages }
+            requires own_book { length bench.book ≡ heap.now.config.pages }
+            ensures { IsOver E.on program.entry.now heap.entry.now (number + 1) result }
+        {
+            run_beside(
+                rt,
+                alloc,
+                heap,
+                program,
+                pace,
+                number + 1,
+                markers,
+                host,
+                benches,
+                bench,
+            )
+        },
+    );
+    let Joined { mut host, texts } = joined;
+    host.join_marker(heap, pass);
+    Joined { host, texts }
+}

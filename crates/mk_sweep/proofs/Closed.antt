@@ -1,0 +1,102 @@
+-- Behind the sweep the marks are closed: each cell's words were looked at, or are 0, or aren't scanned.
+use Rattle.std.proofs.Common.{◌≡◌, ◌∙◌, ℕ, ◌+◌, ◌<◌, Bool, true, false, List, refl, sym, ap, subst, arith}
+use Rattle.std.specs.Prelude.{◌==◌, slice_index}
+use Rattle.std.proofs.lemmas.Bool.{eqb-true}
+use Rattle.mk_geom.specs.declared.addresses.Cell.{Cell}
+use Rattle.mk_core.specs.declared.config.Config.{Config}
+use Rattle.mk_core.specs.declared.events.Event.{Event}
+use Rattle.mk_core.specs.Cells.{cell_words, cells_under, first_word, has_no_pointers, header_in, is_used, points_well, word_points_well}
+use Rattle.mk_core.specs.History.{IsHistory, left}
+use Rattle.mk_core.specs.Words.{Words}
+use Rattle.mk_core.proofs.AllBelow.{all_below-at}
+use Rattle.mk_guard.specs.Guard.{CellsAreClosed}
+use Rattle.mk_layout.specs.SettledPages.{IsSettled}
+use Rattle.mk_words.specs.States.{TurnState, WordsState, now_of, world_of}
+use Rattle.mk_tracing.specs.Grays.{MarksMore, RootsPointWell}
+use Rattle.mk_tracing.specs.Stops.{still_words}
+use Rattle.mk_tracing.proofs.MoreMarks.{well_more, well_none, zero_none}
+use Rattle.mk_sweep.specs.Swept.{IsScannedWord}
+use Rattle.mk_sweep.specs.Sweeping.{BlacksMore, PointWell, words_below}
+use Rattle.mk_sweep.proofs.CountedWords.{some_there}
+use Rattle.mk_sweep.proofs.EachOnce.{looked_at_once}
+use Rattle.mk_sweep.proofs.ScannedCells.{unused_is_zero, used_word}
+
+pub roots_stay : (pages : ℕ) (w v : Words) → MarksMore w v → RootsPointWell pages w → RootsPointWell pages v
+roots_stay pages w v more roots =
+    record {
+      registers = λ i. ap (λ (y : Words). points_well pages v (slice_index y.registers i)) more.is
+          ∙ well_more pages w v (slice_index w.registers i) more (roots.registers i);
+      globals = λ g. ap (λ (y : Words). points_well pages v (slice_index y.globals g)) more.is
+          ∙ well_more pages w v (slice_index w.globals g) more (roots.globals g);
+    }
+
+module _ (c : Config) (es : List Event) (h : IsHistory c es) (settled : IsSettled (left c es))
+    (well : PointWell c.pages (left c es).now.words (words_below (left c es).now.words c.pages)) where
+  abbrev w : Words
+  w = (left c es).now.words
+
+  -- A scanned word was looked at.
+  pub scanned_well : (n : ℕ) → IsScannedWord c (left c es).allocations n
+      → word_points_well c.pages (left c es).now.words n ≡ true
+  scanned_well n x =
+      well n (some_there (words_below w c.pages) n (λ z.
+      let one = looked_at_once c es h settled n x in omega arith))
+
+  zero_well : (n : ℕ) → slice_index (left c es).now.words.heap n ≡ 0
+      → word_points_well c.pages (left c es).now.words n ≡ true
+  zero_well n z = ap (λ u. points_well c.pages w u) z ∙ well_none c.pages w 0 (zero_none c.pages w.pages)
+
+  pub cells_closed : RootsPointWell c.pages (left c es).now.words → CellsAreClosed c (left c es).now.words
+  cells_closed roots =
+      record {
+        registers = roots.registers;
+        globals = roots.globals;
+        words = λ cell i known marked scanned lt. by cell i known scanned lt (is_used w cell) refl;
+      }
+    where
+      by : (cell : Cell) (i : ℕ) → cell.index < cells_under (header_in w cell.page)
+          → has_no_pointers (header_in w cell.page) ≡ false → i < cell_words w cell → (b : Bool) → is_used w cell ≡ b
+          → word_points_well c.pages w (first_word w cell + i) ≡ true
+      by cell i known scanned lt true used =
+          scanned_well (first_word w cell + i) (used_word c es h settled cell.page cell.index i used scanned lt)
+      by cell i known scanned lt false none =
+          zero_well (first_word w cell + i)
+          (eqb-true (slice_index w.heap (first_word w cell + i)) 0
+          (all_below-at (cell_words w cell) i (λ j. slice_index w.heap (first_word w cell + j) == 0)
+          (unused_is_zero c es h settled cell known none) lt))
+
+-- The phase is another.
+
+pub closed_still : (c : Config) (w : Words) → CellsAreClosed c w → CellsAreClosed c (record w { phase = 0 })
+closed_still c w closed =
+    record { registers = closed.registers; globals = closed.globals; words = closed.words }
+
+pub roots_now : (pages : ℕ) (w : Words) → RootsPointWell pages (record w { phase = 0 }) → RootsPointWell pages w
+roots_now pages w roots = record { registers = roots.registers; globals = roots.globals }
+
+pub closed_behind : (words : WordsState) (t u : TurnState) → words ≡ u.pass.table
+    → IsHistory u.pass.table.config u.pass.seen → IsSettled (world_of u.pass)
+    → MarksMore (still_words t.pass) (still_words u.pass)
+    → RootsPointWell words.config.pages (still_words t.pass)
+    → PointWell words.config.pages (still_words u.pass) (words_below (still_words t.pass) words.config.pages)
+    → CellsAreClosed words.config (still_words u.pass)
+closed_behind words t u table history settled more roots well =
+    let w : Words = (now_of u.pass).words in
+    let same : words_below (still_words t.pass) words.config.pages ≡ words_below w words.config.pages =
+    sym (ap (λ (y : Words). words_below y words.config.pages) more.is) in
+    let well_there : PointWell u.pass.table.config.pages w (words_below w u.pass.table.config.pages) =
+    subst (λ (x : WordsState). PointWell x.config.pages w (words_below w x.config.pages)) table
+    (subst (λ ns. PointWell words.config.pages w ns) same well) in
+    let roots_there : RootsPointWell u.pass.table.config.pages w =
+    subst (λ (x : WordsState). RootsPointWell x.config.pages w) table
+    (roots_now words.config.pages w
+    (roots_stay words.config.pages (still_words t.pass) (still_words u.pass) more roots)) in
+    subst (λ (x : WordsState). CellsAreClosed x.config (still_words u.pass)) (sym table)
+    (closed_still u.pass.table.config w
+    (cells_closed u.pass.table.config u.pass.seen history settled well_there roots_there))
+
+-- Black bits leave what points well.
+pub well_when_black : (pages : ℕ) (w v : Words) (ns : List ℕ) → BlacksMore w v → PointWell pages w ns
+    → PointWell pages v ns
+well_when_black pages w v ns more well n inside =
+    ap (λ (y : Words). word_points_well pages y n) more.is ∙ well n inside

@@ -1,0 +1,104 @@
+-- What the law of engines asks on entry, and what a stop keeps of it.
+use Rattle.std.proofs.Common.{◌≡◌, ◌∙◌, Bool, true, false, List, refl, ap}
+use Rattle.std.specs.Prelude.{not, ◌&&◌, slice_index_or}
+use Rattle.mk_never.specs.declared.operations.Op.{Op}
+use Rattle.mk_never.specs.declared.operations.Op.TheVariants as op
+use Rattle.mk_core.specs.declared.config.Config.{Config}
+use Rattle.mk_core.specs.declared.events.Seat.{Seat}
+use Rattle.mk_core.specs.declared.events.Seat.TheVariants.{Caller, Marker, Host}
+use Rattle.mk_core.specs.declared.seats.Flight.{Flight}
+use Rattle.mk_core.specs.declared.seats.Stage.{Stage}
+use Rattle.mk_core.specs.declared.seats.Stage.TheVariants as stage
+use Rattle.mk_core.specs.Calls.{at_rest, is_under_turn}
+use Rattle.mk_core.specs.Frames.{Steady, CountsAreLeft}
+use Rattle.mk_core.specs.History.{IsHistory}
+use Rattle.mk_core.specs.Moments.{Moment, flight_of}
+use Rattle.mk_core.specs.NewPlaces.{is_run_gone}
+use Rattle.mk_core.specs.Readings.{Holds, is_idle}
+use Rattle.mk_core.specs.Words.{Words}
+use Rattle.mk_protocol.specs.Protocol.{Protocol, has_stage}
+use Rattle.mk_protocol.proofs.Protocols.{lists_keep_the_protocol}
+use Rattle.mk_words.specs.States.{PassState, world_of, now_of}
+use Rattle.mk_tracing.specs.Stops.{IsReady, is_loaded, is_loaded_at}
+use Rattle.mk_tracing.specs.Tracing.{Untouched, untouched_of}
+use Rattle.mk_cycle.specs.EngineLaw.{IsFreeForCycle, is_pending_free, is_pending_free_at}
+use Rattle.mk_cycle.specs.TurnKeeps.{Done, IsGone, KeepsTurn, but_phase}
+
+-- A call that is free for a cycle has loaded what it loads.
+
+loaded_at : (x : Stage) (o : Op) → has_stage o x ≡ true → (not (is_idle x) && is_under_turn o) ≡ true
+    → is_pending_free_at o x ≡ false → is_loaded_at x ≡ true
+loaded_at stage.Turn o has turn decided = refl
+loaded_at stage.Give o has turn decided = refl
+loaded_at x (op.New d ty full) has turn decided = cc
+loaded_at x (op.Free p) has turn decided = cc
+loaded_at x o has turn decided = absurd (never (not (is_idle x)) turn)
+  where
+    never : (b : Bool) → (b && false) ≡ true → ⊥
+    never true e = cc
+    never false e = cc
+
+loaded_of : (c : Config) (m : Moment) (seat : Seat) → Protocol c m → Holds c m seat
+    → is_pending_free (flight_of m seat) ≡ false → is_loaded seat (flight_of m seat) ≡ true
+loaded_of c m (Caller k) p holds decided =
+    loaded_at (flight_of m (Caller k)).stage (flight_of m (Caller k)).op (p.stage k holds.0) holds.1 decided
+loaded_of c m (Marker k) p holds decided = refl
+loaded_of c m Host p holds decided = refl
+
+pub ready_of : (p : PassState) → IsHistory p.table.config p.seen → Holds p.table.config (now_of p) p.seat
+    → IsFreeForCycle p → IsReady p
+ready_of p history holds free =
+    let protocol = lists_keep_the_protocol p.table.config p.seen history.within_limits history.enabled in
+    record { loaded = loaded_of p.table.config (now_of p) p.seat protocol holds free.decided }
+
+-- What a stop leaves alone is as it was.
+module _ (p q : PassState) (pass : q ≡ record p { seen = q.seen })
+    (same : untouched_of (world_of q) ≡ untouched_of (world_of p)) where
+  flights : (now_of q).seats.flights ≡ (now_of p).seats.flights
+  flights = ap (λ (x : Untouched). x.flights) same
+
+  same_flight : (seat : Seat) → flight_of (now_of q) seat ≡ flight_of (now_of p) seat
+  same_flight (Caller k) = ap (λ (fs : List Flight). slice_index_or fs k at_rest) flights
+  same_flight (Marker k) = refl
+  same_flight Host = refl
+
+  done_as : Untouched → Done
+  done_as x = record { placing = x.placing; freed = x.freed_run; cycle = x.cycle }
+
+  gone_as : Words → Untouched → Bool
+  gone_as w x = is_run_gone (record w { pages = x.pages; heap = x.heap }) x.freed_run
+
+  pub gone_kept : IsGone p → IsGone q
+  unfolding gone_as
+  gone_kept gone = ap (λ (x : Untouched). gone_as (now_of q).words x) same ∙ gone
+
+  steady_as : Untouched → Steady
+  steady_as x =
+      record {
+        turn = x.turn;
+        phase = 0;
+        held = x.held;
+        fresh = x.fresh;
+        cycles = x.cycles;
+        released = x.released;
+        full = x.full;
+        pages = x.pages;
+        freed = x.freed;
+        snapshot = x.snapshot;
+        fresh_words = x.fresh_words;
+        allocations = x.allocations;
+      }
+
+  pub keeps_turn : CountsAreLeft p.table.config p.seen q.seen → KeepsTurn but_phase p q
+  unfolding done_as steady_as
+  keeps_turn counts =
+      record {
+        call = record {
+          pass = pass;
+          call = ap (λ (x : PassState). flight_of (now_of q) x.seat) pass ∙ same_flight p.seat;
+          done = ap done_as same;
+          gone = gone_kept;
+        };
+        steady = ap steady_as same;
+        counts = counts;
+      }

@@ -1,0 +1,11 @@
+pub mod Blacks
+pub mod Closed
+pub mod CountedWords
+pub mod Done
+pub mod EachOnce
+pub mod Kept
+pub mod ScannedCells
+pub mod SweepSteps
+pub mod SweptMarks
+pub mod Unswept
+pub mod WordLists

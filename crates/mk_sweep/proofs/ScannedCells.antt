@@ -1,0 +1,315 @@
+-- Where nothing is on its way, the used cells of scanned pages are those of the mapped allocations that aren't leaf.
+use Rattle.std.proofs.Common.{◌≡◌, ◌≢◌, ◌⊎◌, ◌∙◌, ℕ, ◌+◌, ◌*◌, ◌/◌, ◌<◌, Bool, true, false, List, ◌++◌, refl, sym, ap, subst, inl, inr, arith, append-nil}
+use Rattle.std.specs.Prelude.{◌||◌, ◌&&◌, ◌==◌, not, Option, None, Some}
+use Rattle.std.proofs.lemmas.Bool.{and_from, and_parts, eq-eqb, not-true, true≢false}
+use Rattle.mk_never.specs.Types.{is_large, kinds_of}
+use Rattle.mk_geom.specs.declared.addresses.Cell.{Cell}
+use Rattle.mk_geom.specs.Headers.{header_of}
+use Rattle.mk_geom.specs.StorageWords.{IsWordOf}
+use Rattle.mk_core.specs.declared.config.Config.{Config}
+use Rattle.mk_core.specs.declared.events.Event.{Event}
+use Rattle.mk_core.specs.declared.seats.Object.{Object}
+use Rattle.mk_core.specs.declared.seats.Placing.{Placing}
+use Rattle.mk_core.specs.declared.seats.Placing.TheVariants.{Chosen, Granted, Unplaced, Used}
+use Rattle.mk_core.specs.declared.seats.RunPages.{RunPages}
+use Rattle.mk_core.specs.Allocations.{PlacedAllocation, cell_of_allocation, is_mapped, placed_at, storage_of, storage_words}
+use Rattle.mk_core.specs.Bits.{has_bit}
+use Rattle.mk_core.specs.Cells.{cell_words, cells_under, first_word, has_no_pointers, header_in, heads_run, is_freed, is_unmapped_header, is_used, words_are_zero}
+use Rattle.mk_core.specs.ClosedMarks.{is_scanned_allocation}
+use Rattle.mk_core.specs.Effects.{is_mapped_cell, is_ungranted}
+use Rattle.mk_core.specs.History.{World, IsHistory, left, never_behind}
+use Rattle.mk_core.specs.Moments.{is_phase}
+use Rattle.mk_core.specs.NewPlaces.{header_made, is_run_gone, is_run_unmapped, is_small_object, pages_made}
+use Rattle.mk_core.specs.ObjectHeaders.{IsSized, ShowsPart}
+use Rattle.mk_core.specs.StandingAllocations.{object_placed}
+use Rattle.mk_core.specs.Words.{header_at, phase_of, used_at}
+use Rattle.mk_core.proofs.ObjectHeaders.{part_has_no_pointers, small_heads_none, unmapped_is_unmapped, made_is_mapped}
+use Rattle.mk_core.proofs.PointedAllocations.{cell_word_is_its_own, taken_cell_is}
+use Rattle.mk_core.proofs.Sizes.{large_count, large_is_not_small, pages_some, words_within}
+use Rattle.mk_core.proofs.StandingAllocations.{cell_is_known, cells_begin, first_page_shows, typed_size}
+use Rattle.mk_protocol.specs.Ground.{ground_of}
+use Rattle.mk_protocol.specs.Protocol.{has_place}
+use Rattle.mk_layout.specs.Scene.{Among, Claim, HasHeader, IsClaimed, IsShown, Mode, Unmapped, header_on, is_released_in}
+use Rattle.mk_layout.specs.SettledPages.{IsSettled, StandsUsed}
+use Rattle.mk_layout.specs.Terrain.{IsCellOf, claim_of, claims_of, claims_on, claims_placed, mode_of, object_now}
+use Rattle.mk_layout.proofs.Claims.{claim_among, claim_is}
+use Rattle.mk_layout.proofs.Freed.{gone_terrain}
+use Rattle.mk_layout.proofs.Serving.{Laid, own_claim}
+use Rattle.mk_layout.proofs.Settled.{unreleased_are_apart}
+use Rattle.mk_images.proofs.KnownWorlds.{KnownWorld, known_world}
+use Rattle.mk_zeros.proofs.MappedWords.{mapped_stays}
+use Rattle.mk_zeros.proofs.TellGuard.{guard_in}
+use Rattle.mk_invariant.specs.Invariant.{Invariant}
+use Rattle.mk_invariant.proofs.Histories.{histories_keep_the_invariant}
+use Rattle.mk_invariant.proofs.Theorems.{allocations_stand}
+use Rattle.mk_readings.proofs.FreeCells.{free_cells_are_zero}
+use Rattle.mk_readings.proofs.Stands.{freed_cell}
+use Rattle.mk_sweep.specs.Swept.{IsScannedWord}
+
+-- the mapped allocation that isn't leaf and has this cell
+pub record OfScanned (c : Config) (xs : List PlacedAllocation) (cell : Cell) : Type 0 where
+  pub number : ℕ
+  pub scanned : is_scanned_allocation c (placed_at xs number) ≡ true
+  pub is : cell_of_allocation c (placed_at xs number) ≡ cell
+
+-- the allocation's cell is a used one of a scanned page, and has its words
+pub record StandsScanned (c : Config) (w : World) (a : PlacedAllocation) : Type 0 where
+  pub page : (cell_of_allocation c a).page < c.pages
+  pub index : (cell_of_allocation c a).index < cells_under (header_in w.now.words (cell_of_allocation c a).page)
+  pub used : is_used w.now.words (cell_of_allocation c a) ≡ true
+  pub scanned : has_no_pointers (header_in w.now.words (cell_of_allocation c a).page) ≡ false
+  pub first : first_word w.now.words (cell_of_allocation c a) ≡ a.base
+  pub words : cell_words w.now.words (cell_of_allocation c a) ≡ storage_words c a
+
+neither : (a b : Bool) → (a || b) ≡ false → (a ≡ false) × (b ≡ false)
+neither true b h = absurd (true≢false h)
+neither false b h = (refl, h)
+
+run_unmapped : (w : World) (run : RunPages) → w.now.seats.holding.freed ≡ Some run
+    → is_run_gone w.now.words w.now.seats.holding.freed ≡ true → is_run_unmapped w.now.words run ≡ true
+run_unmapped w run is gone =
+    let there : is_run_gone w.now.words (Some run) ≡ true =
+    ap (λ (r : Option RunPages). is_run_gone w.now.words r) (sym is) ∙ gone in
+    (and_parts (is_run_unmapped w.now.words run) (words_are_zero w.now.words (64 * run.page) (64 * run.count)) there).0
+
+-- No New has a place, so the claims are those of allocations.
+unplaced_claims : (c : Config) (o : Object) (placing : Placing) (xs : List Claim) (x : Claim) → has_place placing ≡
+    false
+    → Among x (xs ++ claims_placed o placing) → Among x xs
+unplaced_claims c o Unplaced xs x none among = subst (λ (ys : List Claim). Among x ys) (append-nil xs) among
+unplaced_claims c o Granted xs x none among = subst (λ (ys : List Claim). Among x ys) (append-nil xs) among
+unplaced_claims c o (Chosen place) xs x none among = absurd (true≢false none)
+unplaced_claims c o (Used place) xs x none among = absurd (true≢false none)
+
+none_ungranted : (placing : Placing) (cell : Cell) → has_place placing ≡ false → is_ungranted placing cell ≡ false
+none_ungranted Unplaced cell none = refl
+none_ungranted Granted cell none = refl
+none_ungranted (Chosen place) cell none = absurd (true≢false none)
+none_ungranted (Used place) cell none = absurd (true≢false none)
+
+module _ (c : Config) (es : List Event) (h : IsHistory c es) (settled : IsSettled (left c es)) where
+  abbrev w : World
+  w = left c es
+
+  abbrev xs : List PlacedAllocation
+  xs = (left c es).allocations
+
+  all : Invariant c (left c es) (never_behind c es)
+  all = histories_keep_the_invariant c es h
+
+  known : KnownWorld c (left c es)
+  known = known_world c es h.within_limits h.enabled
+
+  quiet : phase_of (left c es).now.words ≢ 4
+  quiet four = true≢false (sym (eq-eqb (phase_of (left c es).now.words) 4 four) ∙ settled.releasing)
+
+  -- A used bit is that of an unreleased allocation's cell.
+  pub used_is_taken : (p k : ℕ) → has_bit (used_at (left c es).now.words p) k ≡ true
+      → IsCellOf c (left c es).allocations (record { page = p; index = k })
+  used_is_taken p k bit = by (all.order.laid.scene.used p k bit).1
+    where
+      by : IsClaimed (claims_on c (object_now c w.now) (ground_of w)) p k
+          ⊎ (is_released_in (is_phase w.now.words 4) w.now.words.snapshot w.now.words.marks p k ≡ true)
+          → IsCellOf c xs (record { page = p; index = k })
+      by (inl o) =
+          let among = unplaced_claims c (object_now c w.now) w.now.seats.holding.placing
+          (claims_of c w.now.seats.holding.freed xs) o.claim settled.placing o.among in
+          let x = claim_is c w.now.seats.holding.freed xs o.claim among in
+          record {
+            number = x.number;
+            unreleased = x.unreleased;
+            is =
+                ap (λ (y : Claim). record { page = y.page; index = y.index }) (sym x.is)
+                ∙ ap (λ (i : ℕ). record { page = i; index = o.claim.index }) o.page
+                ∙ ap (λ (i : ℕ). record { page = p; index = i }) o.index;
+          }
+      by (inr r) =
+          absurd (true≢false (sym r ∙ ap (λ b. is_released_in b w.now.words.snapshot w.now.words.marks p k)
+          settled.releasing))
+
+  stands : (i : ℕ) → (placed_at (left c es).allocations i).released ≡ false
+      → StandsUsed c (left c es) (placed_at (left c es).allocations i)
+  stands = allocations_stand c es h
+
+  sized : (i : ℕ) → (placed_at (left c es).allocations i).released ≡ false
+      → IsSized (object_placed c (placed_at (left c es).allocations i))
+  sized i u = typed_size c (placed_at xs i) h.within_limits (stands i u).stands.typed
+
+  first_part : (i : ℕ) → (placed_at (left c es).allocations i).released ≡ false
+      → ShowsPart (object_placed c (placed_at (left c es).allocations i)) 0
+      (header_in (left c es).now.words ((placed_at (left c es).allocations i).base / 64))
+  first_part i u = first_page_shows c w.now.words (placed_at xs i) (sized i u) (stands i u).headers
+
+  -- The pages of a freed large object are unmapped.
+
+  rested : Laid c (object_now c (left c es).now) false (left c es) (record (ground_of (left c es)) { run = None })
+  rested =
+      gone_terrain c (object_now c w.now) false w (λ run is. run_unmapped w run is settled.gone)
+      (subst (λ b. Laid c (object_now c w.now) b w (ground_of w)) settled.releasing all.order.laid)
+
+  shown : (i : ℕ) → (placed_at (left c es).allocations i).released ≡ false
+      → IsShown (left c es).now.words.pages (claim_of c None (placed_at (left c es).allocations i))
+  shown i u =
+      rested.scene.shown (claim_of c None (placed_at xs i))
+      (own_claim c (object_now c w.now) (record (ground_of w) { run = None }) (claim_of c None (placed_at xs i))
+      (claim_among c None xs i u))
+
+  freed_is_unmapped : (i : ℕ) → (placed_at (left c es).allocations i).released ≡ false
+      → ((placed_at (left c es).allocations i).freed && not (is_small_object (object_placed c
+      (placed_at (left c es).allocations i)))) ≡ true
+      → is_unmapped_header (header_in (left c es).now.words ((placed_at (left c es).allocations i).base / 64)) ≡ true
+  freed_is_unmapped i u gone =
+      let a : PlacedAllocation = placed_at xs i in
+      let o : Object = object_placed c a in
+      let some = pages_some o (sized i u) in
+      let has : HasHeader Unmapped o 0 (header_on w.now.words.pages (a.base / 64 + 0)) =
+      subst (λ (m : Mode). HasHeader m o 0 (header_on w.now.words.pages (a.base / 64 + 0)))
+      (ap (λ b. mode_of b false) gone) ((shown i u).headers 0 (omega arith)) in
+      let here : a.base / 64 + 0 ≡ a.base / 64 = omega arith in
+      ap (λ p. is_unmapped_header (header_in w.now.words p)) (sym here)
+      ∙ ap (λ n. is_unmapped_header (header_of n)) has.1
+      ∙ unmapped_is_unmapped (pages_made o) 0 (large_count o (sized i u) has.0) (omega arith)
+
+  mapped_where_shown : (i : ℕ) → (placed_at (left c es).allocations i).released ≡ false
+      → is_unmapped_header (header_in (left c es).now.words ((placed_at (left c es).allocations i).base / 64)) ≡ false
+      → is_mapped c (placed_at (left c es).allocations i) ≡ true
+  mapped_where_shown i u mapped =
+      let a : PlacedAllocation = placed_at xs i in
+      and_from (not a.released) (not (a.freed && is_large (kinds_of c.types a.ty))) (ap not u)
+      (ap (λ b. not (a.freed && b)) (large_is_not_small (kinds_of c.types a.ty))
+      ∙ by (a.freed && not (is_small_object (object_placed c a))) refl)
+    where
+      by : (b : Bool) → ((placed_at xs i).freed && not (is_small_object (object_placed c (placed_at xs i)))) ≡ b
+          → not ((placed_at xs i).freed && not (is_small_object (object_placed c (placed_at xs i)))) ≡ true
+      by true gone = absurd (true≢false (sym (freed_is_unmapped i u gone) ∙ mapped))
+      by false stays = ap not stays
+
+  -- So the used cell of a scanned page is that of a mapped allocation that isn't leaf,
+  pub used_cell : (p k : ℕ) → has_bit (used_at (left c es).now.words p) k ≡ true
+      → has_no_pointers (header_in (left c es).now.words p) ≡ false
+      → OfScanned c (left c es).allocations (record { page = p; index = k })
+  used_cell p k bit scanned =
+      let x = used_is_taken p k bit in
+      let a : PlacedAllocation = placed_at xs x.number in
+      let page : a.base / 64 ≡ p = ap (λ (y : Cell). y.page) x.is in
+      let sort = neither (object_placed c a).leaf (is_unmapped_header (header_in w.now.words (a.base / 64)))
+      (sym (part_has_no_pointers (object_placed c a) (header_in w.now.words (a.base / 64)) (first_part x.number
+      x.unreleased))
+      ∙ ap (λ q. has_no_pointers (header_in w.now.words q)) page ∙ scanned) in
+      record {
+        number = x.number;
+        scanned = and_from (is_mapped c a) (not (storage_of c a).leaf)
+            (mapped_where_shown x.number x.unreleased sort.1) (ap not sort.0);
+        is = x.is;
+      }
+
+  -- whose words are those of the cell;
+  pub used_word : (p k i : ℕ) → has_bit (used_at (left c es).now.words p) k ≡ true
+      → has_no_pointers (header_in (left c es).now.words p) ≡ false
+      → i < cell_words (left c es).now.words (record { page = p; index = k })
+      → IsScannedWord c (left c es).allocations (first_word (left c es).now.words (record { page = p; index = k }) + i)
+  used_word p k i bit scanned lt =
+      let x = used_cell p k bit scanned in
+      let a : PlacedAllocation = placed_at xs x.number in
+      let mapped = (and_parts (is_mapped c a) (not (storage_of c a).leaf) x.scanned).0 in
+      let st = stands x.number (mapped_stays c a mapped) in
+      record {
+        number = x.number;
+        scanned = x.scanned;
+        word = subst (λ (y : Cell). IsWordOf (storage_of c a) (first_word w.now.words y + i)) x.is
+            (cell_word_is_its_own c w.now.words a h.within_limits st.stands st.headers i
+            (subst (λ (y : Cell). i < cell_words w.now.words y) (sym x.is) lt));
+      }
+
+  -- and each such allocation has a used cell of a scanned page.
+  pub scanned_stands : (i : ℕ) → is_scanned_allocation c (placed_at (left c es).allocations i) ≡ true
+      → StandsScanned c (left c es) (placed_at (left c es).allocations i)
+  scanned_stands i is =
+      let a : PlacedAllocation = placed_at xs i in
+      let o : Object = object_placed c a in
+      let parts = and_parts (is_mapped c a) (not (storage_of c a).leaf) is in
+      let u = mapped_stays c a parts.0 in
+      let st = stands i u in
+      let m = (guard_in c w known all.order.laid all.zeros).mapped i parts.0 in
+      let some = pages_some o (sized i u) in
+      let here : a.base / 64 + 0 ≡ a.base / 64 = omega arith in
+      let made : header_at w.now.words (a.base / 64) ≡ header_made o 0 =
+      subst (λ p. header_at w.now.words p ≡ header_made o 0) here (m.headers 0 (omega arith)) in
+      let cells = cells_begin c w.now.words a h.within_limits st.stands st.headers in
+      let size = words_within o (sized i u) in
+      record {
+        page = let end = st.stands.within in omega arith;
+        index = cell_is_known c w.now.words a (sized i u) st.stands.begins st.headers;
+        used = st.used;
+        scanned =
+            part_has_no_pointers o (header_in w.now.words (a.base / 64)) (first_part i u)
+            ∙ ap (λ b. b || is_unmapped_header (header_in w.now.words (a.base / 64))) (not-true (storage_of c
+            a).leaf parts.1)
+            ∙ ap (λ n. is_unmapped_header (header_of n)) made ∙ made_is_mapped o 0 (sized i u) (omega arith);
+        first = cells.0;
+        words = cells.1;
+      }
+
+  -- A look at one of its words gives a hand.
+  pub mapped_cell : (i : ℕ) → is_scanned_allocation c (placed_at (left c es).allocations i) ≡ true
+      → is_mapped_cell (left c es).now.words (left c es).now.seats.holding.placing
+      (cell_of_allocation c (placed_at (left c es).allocations i)) ≡ true
+  mapped_cell i is =
+      let a : PlacedAllocation = placed_at xs i in
+      let cell : Cell = cell_of_allocation c a in
+      let parts = and_parts (is_mapped c a) (not (storage_of c a).leaf) is in
+      let u = mapped_stays c a parts.0 in
+      and_from (is_used w.now.words cell && not (heads_run (header_in w.now.words cell.page) && is_freed
+      w.now.words cell))
+      (not (is_ungranted w.now.seats.holding.placing cell))
+      (and_from (is_used w.now.words cell) (not (heads_run (header_in w.now.words cell.page) && is_freed
+      w.now.words cell))
+      (stands i u).used (ap not (by u parts.0 (heads_run (header_in w.now.words cell.page)) refl
+      (is_freed w.now.words cell) refl)))
+      (ap not (none_ungranted w.now.seats.holding.placing cell settled.placing))
+    where
+      a : PlacedAllocation
+      a = placed_at xs i
+
+      freed_there : (placed_at xs i).released ≡ false → is_freed w.now.words (cell_of_allocation c (placed_at xs
+          i)) ≡ true
+          → (placed_at xs i).freed ≡ true
+      freed_there u bit =
+          let o = freed_cell c w (never_behind c es) known all quiet (cell_of_allocation c (placed_at xs i)) bit in
+          let same = unreleased_are_apart c es all.order.laid o.number i o.unreleased u o.cell in
+          ap (λ j. (placed_at xs j).freed) (sym same) ∙ o.freed
+
+      by : (placed_at xs i).released ≡ false → is_mapped c (placed_at xs i) ≡ true → (b : Bool)
+          → heads_run (header_in w.now.words (cell_of_allocation c (placed_at xs i)).page) ≡ b → (d : Bool)
+          → is_freed w.now.words (cell_of_allocation c (placed_at xs i)) ≡ d
+          → (heads_run (header_in w.now.words (cell_of_allocation c (placed_at xs i)).page)
+          && is_freed w.now.words (cell_of_allocation c (placed_at xs i))) ≡ false
+      by u mapped false e d f = ap (λ x. x && is_freed w.now.words (cell_of_allocation c (placed_at xs i))) e
+      by u mapped true e false f =
+          ap (λ x. x && is_freed w.now.words (cell_of_allocation c (placed_at xs i))) e ∙ f
+      by u mapped true e true f =
+          let kept = (and_parts (not a.released) (not (a.freed && is_large (kinds_of c.types a.ty))) mapped).1 in
+          let small : is_large (kinds_of c.types a.ty) ≡ false =
+          ap (λ b. b && is_large (kinds_of c.types a.ty)) (sym (freed_there u f))
+          ∙ not-true (a.freed && is_large (kinds_of c.types a.ty)) kept in
+          let none = (small_heads_none (object_placed c a) 0 (header_in w.now.words (a.base / 64)) (first_part i u)
+          (is_small (is_small_object (object_placed c a)) (sym (large_is_not_small (kinds_of c.types a.ty)) ∙
+          small))).0 in
+          absurd (true≢false (sym e ∙ none))
+        where
+          is_small : (b : Bool) → not b ≡ false → b ≡ true
+          is_small true e = refl
+          is_small false e = absurd (true≢false e)
+
+  -- Words of a cell that isn't used are 0.
+  pub unused_is_zero : (cell : Cell) → cell.index < cells_under (header_in (left c es).now.words cell.page)
+      → is_used (left c es).now.words cell ≡ false
+      → words_are_zero (left c es).now.words (first_word (left c es).now.words cell) (cell_words (left c
+      es).now.words cell)
+      ≡ true
+  unused_is_zero cell in_range none =
+      free_cells_are_zero c es h quiet cell in_range (λ t.
+      let a : PlacedAllocation = placed_at xs t.number in
+      let u = not-true a.released (and_parts (not a.released) (a.base == first_word w.now.words cell) t.stands).0 in
+      let own = taken_cell_is c w cell t (sized t.number u) (stands t.number u).headers in
+      true≢false (sym (stands t.number u).used ∙ ap (λ (y : Cell). is_used w.now.words y) own.1 ∙ none))

@@ -1,0 +1,319 @@
+-- Each step of a sweep goes on with it.
+use Rattle.std.proofs.Common.{◌≡◌, ◌∙◌, ℕ, ◌+◌, ◌*◌, ◌^◌, ◌<◌, Bool, true, false, List, [], ◌∷◌, ◌++◌, Option, option_and_then, refl, sym, ap, subst, arith, append-nil}
+use Rattle.std.specs.Prelude.{Some, None, slice_index, if◌then◌else◌, ◌&&◌, not}
+use Rattle.std.proofs.lemmas.Bool.{and_from, and_parts, eq-eqb, lt-ltb, ne_eqb}
+use Rattle.mk_geom.specs.declared.addresses.Cell.{Cell}
+use Rattle.mk_geom.specs.Addresses.{address_of}
+use Rattle.mk_geom.specs.PageUses.{or_else}
+use Rattle.mk_core.specs.declared.config.Config.{Config}
+use Rattle.mk_core.specs.declared.events.Step.{Step}
+use Rattle.mk_core.specs.declared.events.Step.TheVariants as step
+use Rattle.mk_core.specs.declared.events.Word.{Word}
+use Rattle.mk_core.specs.declared.events.Word.TheVariants as word
+use Rattle.mk_core.specs.declared.seats.Hand.{Hand}
+use Rattle.mk_core.specs.declared.seats.Holding.{Holding}
+use Rattle.mk_core.specs.declared.seats.Source.TheVariants.{Marked, Unmarked}
+use Rattle.mk_core.specs.Accesses.{found}
+use Rattle.mk_core.specs.Allocations.{PlacedAllocation, cell_of_allocation, is_mapped, placed_at, storage_of}
+use Rattle.mk_core.specs.Cells.{has_no_pointers, header_in, is_marked, pointed_cell}
+use Rattle.mk_core.specs.Effects.{hand_given, hand_of_cell, is_in_stop, is_mapped_cell}
+use Rattle.mk_core.specs.Frames.{HoldsAll}
+use Rattle.mk_core.specs.History.{World, IsHistory}
+use Rattle.mk_core.specs.Moments.{Moment, is_phase, others_are_held}
+use Rattle.mk_core.specs.Ranges.{is_word}
+use Rattle.mk_core.specs.Words.{Words, named_word, phase_of}
+use Rattle.mk_core.proofs.PointedAllocations.{word_points}
+use Rattle.mk_core.proofs.PointedPages.{pointed_within}
+use Rattle.mk_invariant.proofs.Theorems.{allocations_stand}
+use Rattle.mk_layout.specs.SettledPages.{IsSettled}
+use Rattle.mk_protocol.specs.Protocol.{has_place}
+use Rattle.mk_zeros.proofs.MappedWords.{mapped_stays}
+use Rattle.mk_words.specs.Seats.{Has}
+use Rattle.mk_words.specs.States.{PassState, TurnState, WordsState, now_of, world_of, event_of}
+use Rattle.mk_words.specs.Steps.{Finds, IsEnabledTo}
+use Rattle.mk_words.specs.TurnSteps.{Acts, world_at}
+use Rattle.mk_tracing.specs.Stops.{IsWanted, hand_of, is_plain, is_root, still_words}
+use Rattle.mk_tracing.specs.Tracing.{Traces, Untouched, is_marking, untouched_of}
+use Rattle.mk_tracing.proofs.MaySteps.{may_mark_by_hand, marks_by}
+use Rattle.mk_tracing.proofs.Parts.{traces_alike, traces_nothing, traces_then}
+use Rattle.mk_tracing.proofs.Steps.{found_there, step_untouched}
+use Rattle.mk_tracing.proofs.Stilled.{but_phase, found_now, hand_now, is_stopped_step, phase_there, root_hand, still_wanted, stopped_traces, words_there}
+use Rattle.mk_sweep.specs.Swept.{IsScannedWord, IsSweptCell, IsSweptValue, InGlobal, InRegister, InWord, SweepsBy}
+use Rattle.mk_sweep.specs.Sweeping.{HasInHand, IsReachedCell, IsSweeping, SweepsOn, heap_looks, word_looked_at}
+use Rattle.mk_sweep.proofs.Done.{looks_in_parts, looks_of_nothing, looks_of_step}
+use Rattle.mk_sweep.proofs.ScannedCells.{mapped_cell, scanned_stands}
+use Rattle.mk_sweep.proofs.Kept.{gone_kept}
+
+-- Where values and allocations are the same, so is what a sweep looks at and marks.
+module _ (c : Config) (v w : World) (same : untouched_of v ≡ untouched_of w) where
+  pub word_alike : (n : ℕ) → IsScannedWord c v.allocations n → IsScannedWord c w.allocations n
+  word_alike n =
+      subst (λ (xs : List PlacedAllocation). IsScannedWord c xs n) (ap (λ (x : Untouched). x.allocations) same)
+
+  pub value_alike : (u : ℕ) → IsSweptValue c v u → IsSweptValue c w u
+  value_alike u (InRegister i is) = InRegister i (sym (ap (λ (x : Untouched). slice_index x.registers i) same) ∙ is)
+  value_alike u (InGlobal g is) = InGlobal g (sym (ap (λ (x : Untouched). slice_index x.globals g) same) ∙ is)
+  value_alike u (InWord n scanned is) =
+      InWord n (word_alike n scanned) (sym (ap (λ (x : Untouched). slice_index x.heap n) same) ∙ is)
+
+  pub cell_alike : (cell : Cell) → IsSweptCell c v cell → IsSweptCell c w cell
+  cell_alike cell s =
+      record {
+        value = s.value;
+        found = value_alike s.value s.found;
+        points = sym (ap (λ (x : Untouched). pointed_cell c.pages x.pages s.value) same) ∙ s.points;
+      }
+
+  pub rule_alike : (m : Moment) (s : Step) → SweepsBy v c m s → SweepsBy w c m s
+  rule_alike m (step.Look (word.Heap n)) r = word_alike n r
+  rule_alike m (step.Mark p k) r =
+      record { index = r.index; bit = r.bit; swept = cell_alike (record { page = p; index = r.index }) r.swept }
+  rule_alike m _ r = tt
+
+-- The sweep goes on, and on.
+
+pub sweeps_from : (t : TurnState) → IsSweeping t.pass → SweepsOn t t []
+sweeps_from t sweeping =
+    let traces : Traces is_marking (SweepsBy (world_of t.pass)) t.pass t.pass =
+    traces_nothing is_marking (SweepsBy (world_of t.pass)) t.pass in
+    record {
+      table = refl;
+      op = refl;
+      sweeping = sweeping;
+      traces = traces;
+      looked = looks_of_nothing is_marking t.pass traces.does;
+    }
+
+pub sweeps_then : (t u v : TurnState) (ns ms : List ℕ) → SweepsOn t u ns → SweepsOn u v ms → SweepsOn t v (ns ++ ms)
+sweeps_then t u v ns ms one two =
+    let next : Traces is_marking (SweepsBy (world_of t.pass)) u.pass v.pass =
+    traces_alike is_marking (SweepsBy (world_of u.pass)) (SweepsBy (world_of t.pass)) u.pass v.pass
+    (rule_alike u.pass.table.config (world_of u.pass) (world_of t.pass) one.traces.untouched) two.traces in
+    let traces = traces_then is_marking (SweepsBy (world_of t.pass)) t.pass u.pass v.pass one.traces next in
+    record {
+      table = two.table ∙ one.table;
+      op = two.op ∙ one.op;
+      sweeping = two.sweeping;
+      traces = traces;
+      looked =
+          looks_in_parts is_marking is_marking is_marking t.pass u.pass v.pass one.traces.does two.traces.does
+          traces.does
+          ∙ ap (λ xs. xs ++ heap_looks two.traces.does) one.looked ∙ ap (λ xs. ns ++ xs) two.looked;
+    }
+
+-- A part that looks at no heap word, before or behind.
+
+pub quiet_then : (t u v : TurnState) (ms : List ℕ) → SweepsOn t u [] → SweepsOn u v ms → SweepsOn t v ms
+quiet_then t u v ms one two = sweeps_then t u v [] ms one two
+
+pub then_quiet : (t u v : TurnState) (ns : List ℕ) → SweepsOn t u ns → SweepsOn u v [] → SweepsOn t v ns
+then_quiet t u v ns one two = subst (λ xs. SweepsOn t v xs) (append-nil ns) (sweeps_then t u v ns [] one two)
+
+-- Nothing is on its way behind it.
+pub settled_kept : (p q : PassState) → q ≡ record p { seen = q.seen } → untouched_of (world_of q) ≡ untouched_of
+    (world_of p)
+    → phase_of (now_of q).words ≡ 2 → IsSettled (world_of p) → IsSettled (world_of q)
+settled_kept p q pass same two settled =
+    record {
+      releasing = ne_eqb (phase_of (now_of q).words) 4 (λ e. omega arith);
+      placing = ap (λ (x : Untouched). has_place x.placing) same ∙ settled.placing;
+      gone = gone_kept p q pass same settled.gone;
+    }
+
+module _ (t u : TurnState) (sweeping : IsSweeping t.pass)
+    (all : HoldsAll t.pass.table.config (now_of t.pass) t.pass.seat)
+    (own : Has t.pass.seats t.pass.seat) (same : u.op ≡ t.op) where
+  pub sweeps_by_step : (s : Step) (a : Acts t.pass s u.pass) → is_stopped_step s ≡ true → is_marking s ≡ true
+      → SweepsBy (world_of t.pass) t.pass.table.config (world_at a.makes).now s → SweepsOn t u (word_looked_at s)
+  sweeps_by_step s a stopped kind ruled =
+      let traces = stopped_traces t.pass u.pass s a sweeping.wanted all stopped own (SweepsBy (world_of t.pass))
+      kind ruled in
+      let wanted = still_wanted t.pass u.pass s a sweeping.wanted all stopped in
+      record {
+        table = ap (λ (x : PassState). x.table) a.makes.is;
+        op = same;
+        sweeping = record {
+          wanted = wanted;
+          settled = settled_kept t.pass u.pass
+              (a.makes.is ∙ ap (λ (x : PassState). record t.pass { seen = x.seen }) (sym a.makes.is))
+              traces.untouched wanted.phase sweeping.settled;
+        };
+        traces = traces;
+        looked = looks_of_step is_marking t.pass u.pass s a.makes traces.does own;
+      }
+
+  pub on_plain : (x : Word) → Acts t.pass (step.Look x) u.pass → is_plain x ≡ true → SweepsOn t u []
+  on_plain (word.Head p) a h = sweeps_by_step (step.Look (word.Head p)) a refl refl tt
+  on_plain (word.Used p) a h = sweeps_by_step (step.Look (word.Used p)) a refl refl tt
+  on_plain (word.Mark p) a h = sweeps_by_step (step.Look (word.Mark p)) a refl refl tt
+  on_plain (word.Black p) a h = sweeps_by_step (step.Look (word.Black p)) a refl refl tt
+  on_plain (word.Dirty p) a h = sweeps_by_step (step.Look (word.Dirty p)) a refl refl tt
+  on_plain _ a h = cc
+
+  pub on_root : (x : Word) → Acts t.pass (step.Look x) u.pass → is_root x ≡ true → SweepsOn t u []
+  on_root (word.Reg j r) a h = sweeps_by_step (step.Look (word.Reg j r)) a refl refl tt
+  on_root (word.Global g) a h = sweeps_by_step (step.Look (word.Global g)) a refl refl tt
+  on_root _ a h = cc
+
+  pub on_word : (n : ℕ) → Acts t.pass (step.Look (word.Heap n)) u.pass
+      → IsScannedWord t.pass.table.config (world_of t.pass).allocations n → SweepsOn t u (n ∷ [])
+  on_word n a scanned = sweeps_by_step (step.Look (word.Heap n)) a refl refl scanned
+
+  pub on_mark : (cell : Cell) → Acts t.pass (step.Mark cell.page (2 ^ cell.index)) u.pass → IsReachedCell t.pass cell
+      → SweepsOn t u []
+  on_mark cell a r =
+      sweeps_by_step (step.Mark cell.page (2 ^ cell.index)) a refl refl
+      (record {
+        index = cell.index;
+        bit = refl;
+        swept = record { value = r.value; found = r.in_hand.found; points = r.points };
+      })
+
+  pub on_black : (page value : ℕ) → Acts t.pass (step.Black page value) u.pass → SweepsOn t u []
+  on_black page value a = sweeps_by_step (step.Black page value) a refl refl tt
+
+  pub on_unblack : (page : ℕ) → Acts t.pass (step.Unblack page) u.pass → SweepsOn t u []
+  on_unblack page a = sweeps_by_step (step.Unblack page) a refl refl tt
+
+  pub on_undirty : (page : ℕ) → Acts t.pass (step.Undirty page) u.pass → SweepsOn t u []
+  on_undirty page a = sweeps_by_step (step.Undirty page) a refl refl tt
+
+-- The hand stays, through looks that leave it.
+pub hand_kept : (t u : TurnState) (ns : List ℕ) (n : ℕ) → SweepsOn t u ns → hand_of u.pass ≡ hand_of t.pass
+    → HasInHand t.pass n → HasInHand u.pass n
+hand_kept t u ns n on same h =
+    record {
+      hand = h.hand;
+      is = same ∙ h.is;
+      value = h.value;
+      found = subst (λ (x : Config). IsSweptValue x (world_of u.pass) n) (sym (ap (λ (x : WordsState). x.config)
+          on.table))
+          (value_alike t.pass.table.config (world_of t.pass) (world_of u.pass) (sym on.traces.untouched) n h.found);
+    }
+
+pub reached_within : (p : PassState) (cell : Cell) → IsReachedCell p cell
+    → (cell.page < p.table.config.pages) × (cell.index < 64)
+reached_within p cell r = pointed_within p.table.config.pages (still_words p) r.value cell r.points
+
+pub may_mark_reached : (p : PassState) (cell : Cell) → IsWanted p → HoldsAll p.table.config (now_of p) p.seat
+    → IsReachedCell p cell → IsEnabledTo p (step.Mark cell.page (2 ^ cell.index))
+may_mark_reached p cell wanted all r =
+    may_mark_by_hand p wanted all cell
+    (marks_by p.table.config.pages (now_of p).words (hand_of p) r.value cell r.in_hand.hand r.in_hand.is r.in_hand.value
+    r.points)
+    (reached_within p cell r).0
+
+-- what a look at a root gives, and one at a scanned word
+
+pub root_in_hand : (p q : PassState) → IsWanted p → HoldsAll p.table.config (now_of p) p.seat → (x : Word)
+    → (a : Acts p (step.Look x) q) (n : ℕ) → Finds p (step.Look x) n q → is_root x ≡ true → HasInHand q n
+root_in_hand p q wanted all x a n finds root =
+    let h = root_hand p q wanted all x a n finds root in
+    record { hand = h.hand; is = h.is; value = h.value; found = by x root (found_there p q x n finds) }
+  where
+    by : (y : Word) → is_root y ≡ true → named_word (now_of q).words y ≡ n → IsSweptValue q.table.config (world_of q) n
+    by (word.Reg j r) e is = InRegister (8 * j + r) is
+    by (word.Global g) e is = InGlobal g is
+    by _ e is = cc
+
+module _ (p q : PassState) (sweeping : IsSweeping p) (all : HoldsAll p.table.config (now_of p) p.seat)
+    (history : IsHistory p.table.config p.seen) (n : ℕ)
+    (scanned : IsScannedWord p.table.config (world_of p).allocations n) where
+  abbrev a : PlacedAllocation
+  a = placed_at (world_of p).allocations scanned.number
+
+  abbrev cell : Cell
+  cell = cell_of_allocation p.table.config (placed_at (world_of p).allocations scanned.number)
+
+  word_pointed : pointed_cell p.table.config.pages (now_of p).words.pages (address_of n)
+      ≡ Some (cell_of_allocation p.table.config (placed_at (world_of p).allocations scanned.number))
+  word_pointed =
+      let mapped = (and_parts (is_mapped p.table.config a) (not (storage_of p.table.config a).leaf)
+      scanned.scanned).0 in
+      let st = allocations_stand p.table.config p.seen history scanned.number (mapped_stays p.table.config a mapped) in
+      word_points p.table.config (now_of p).words a history.within_limits st.stands st.headers n scanned.word
+
+  pub word_named : is_word p.table.config (word.Heap n) ≡ true
+  word_named =
+      let mapped = (and_parts (is_mapped p.table.config a) (not (storage_of p.table.config a).leaf)
+      scanned.scanned).0 in
+      let st = allocations_stand p.table.config p.seen history scanned.number (mapped_stays p.table.config a mapped) in
+      lt-ltb n (64 * p.table.config.pages)
+      (let end = st.stands.within in let high = scanned.word.1 in omega arith)
+
+  module _ (acts : Acts p (step.Look (word.Heap n)) q) where
+    abbrev m : Moment
+    m = (world_at acts.makes).now
+
+    still : but_phase (world_at acts.makes).now.words ≡ still_words p
+    still = words_there p q (step.Look (word.Heap n)) acts sweeping.wanted all refl
+
+    abbrev gives : Bool → Bool → Bool → ℕ → Option Hand
+    gives bare marked mapped value =
+        if bare then None
+        else if marked
+        then Some (record { value = value; source = Marked })
+        else if mapped then Some (record { value = value; source = Unmarked }) else None
+
+    pointed_now : pointed_cell p.table.config.pages (world_at acts.makes).now.words.pages (address_of n)
+        ≡ Some (cell_of_allocation p.table.config (placed_at (world_of p).allocations scanned.number))
+    pointed_now = ap (λ (w : Words). pointed_cell p.table.config.pages w.pages (address_of n)) still ∙ word_pointed
+
+    bare_now : has_no_pointers (header_in (world_at acts.makes).now.words
+        (cell_of_allocation p.table.config (placed_at (world_of p).allocations scanned.number)).page) ≡ false
+    bare_now =
+        ap (λ (w : Words). has_no_pointers (header_in w cell.page)) still
+        ∙ (scanned_stands p.table.config p.seen history sweeping.settled scanned.number scanned.scanned).scanned
+
+    mapped_now : (is_in_stop p.table.config.callers (world_at acts.makes).now.words p.seat
+        && is_mapped_cell (world_at acts.makes).now.words (world_at acts.makes).now.seats.holding.placing
+        (cell_of_allocation p.table.config (placed_at (world_of p).allocations scanned.number))) ≡ true
+    mapped_now =
+        and_from (is_in_stop p.table.config.callers m.words p.seat) (is_mapped_cell m.words m.seats.holding.placing
+        cell)
+        (and_from (is_phase m.words 2) (others_are_held p.table.config.callers m.words p.seat)
+        (eq-eqb (phase_of m.words) 2 (phase_there p q (step.Look (word.Heap n)) acts sweeping.wanted all refl))
+        (ap (λ (w : Words). others_are_held p.table.config.callers w p.seat) still ∙ all.1))
+        (ap (λ (w : Words). is_mapped_cell w m.seats.holding.placing cell) still
+        ∙ ap (λ (x : Holding). is_mapped_cell (now_of p).words x.placing cell) acts.holding
+        ∙ mapped_cell p.table.config p.seen history sweeping.settled scanned.number scanned.scanned)
+
+    -- some hand, whether the cell is marked or not
+    given : (value : ℕ) → (h : Hand) × (hand_given p.table.config (world_at acts.makes).now p.seat (word.Heap n) value
+        ≡ Some h) × (h.value ≡ value)
+    given value = by (is_marked m.words cell) refl
+      where
+        to_cell : hand_given p.table.config (world_at acts.makes).now p.seat (word.Heap n) value
+            ≡ gives false (is_marked m.words cell) true value
+        to_cell =
+            ap (λ (o : Option Cell). option_and_then (λ (x : Cell). hand_of_cell m.words
+            (is_in_stop p.table.config.callers m.words p.seat) m.seats.holding.placing x value) o) pointed_now
+            ∙ ap (λ (b : Bool). gives b (is_marked m.words cell) (is_in_stop p.table.config.callers m.words p.seat
+            && is_mapped_cell m.words m.seats.holding.placing cell) value) bare_now
+            ∙ ap (λ (b : Bool). gives false (is_marked m.words cell) b value) mapped_now
+
+        by : (b : Bool) → is_marked m.words cell ≡ b
+            → (h : Hand) × (hand_given p.table.config (world_at acts.makes).now p.seat (word.Heap n) value ≡ Some h)
+            × (h.value ≡ value)
+        by true e =
+            (record { value = value; source = Marked }, to_cell ∙ ap (λ (b : Bool). gives false b true value) e, refl)
+        by false e =
+            (record { value = value; source = Unmarked }, to_cell ∙ ap (λ (b : Bool). gives false b true value) e, refl)
+
+    pub word_in_hand : (k : ℕ) → Finds p (step.Look (word.Heap n)) k q → HasInHand q k
+    word_in_hand k finds =
+        let value : ℕ = found p.table.config m (event_of p (step.Look (word.Heap n))) in
+        let g = given value in
+        let same = step_untouched p q (step.Look (word.Heap n)) acts refl all refl in
+        let there : IsScannedWord p.table.config (world_of q).allocations n =
+        word_alike p.table.config (world_of p) (world_of q) (sym same) n scanned in
+        record {
+          hand = g.0;
+          is = hand_now p q sweeping.wanted all (word.Heap n) acts k finds ∙ ap (λ (o : Option Hand). or_else o
+              (hand_of p)) g.1;
+          value = g.2 ∙ found_now p q sweeping.wanted all (word.Heap n) acts k finds;
+          found = InWord n
+              (subst (λ (x : WordsState). IsScannedWord x.config (world_of q).allocations n)
+              (sym (ap (λ (x : PassState). x.table) acts.makes.is)) there)
+              (found_there p q (word.Heap n) k finds);
+        }

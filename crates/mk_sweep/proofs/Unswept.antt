@@ -1,0 +1,93 @@
+-- A cell that no swept value points into isn't marked by a sweep.
+use Rattle.std.proofs.Common.{◌≡◌, ◌∙◌, ℕ, true, false, List, [], ◌∷◌, sym, ap, subst, inl, inr}
+use Rattle.std.specs.Prelude.{slice_index, slice_set, bit_or}
+use Rattle.std.proofs.lemmas.Bool.{cases_Bool, false_from_ne_true, true≢false}
+use Rattle.mk_geom.specs.declared.addresses.Cell.{Cell}
+use Rattle.mk_core.specs.declared.config.Config.{Config}
+use Rattle.mk_core.specs.declared.events.Event.{Event}
+use Rattle.mk_core.specs.declared.events.Seat.{Seat}
+use Rattle.mk_core.specs.declared.events.Step.{Step}
+use Rattle.mk_core.specs.declared.events.Step.TheVariants as step
+use Rattle.mk_core.specs.Allocations.{cell_of_allocation, placed_at}
+use Rattle.mk_core.specs.Bits.{has_bit}
+use Rattle.mk_core.specs.Cells.{is_marked}
+use Rattle.mk_core.specs.Growing.{is_same_seat}
+use Rattle.mk_core.specs.History.{World, left_from, never_behind, world_behind}
+use Rattle.mk_core.specs.Moments.{Moment}
+use Rattle.mk_core.proofs.HistoryParts.{left_in_parts}
+use Rattle.mk_core.proofs.WordBits.{bit_of_power, more_bits}
+use Rattle.mk_images.proofs.KnownWorlds.{known_world}
+use Rattle.mk_invariant.proofs.Histories.{histories_keep_the_invariant}
+use Rattle.mk_precision.proofs.Worlds.{comes_back}
+use Rattle.mk_words.specs.States.{PassState, world_of}
+use Rattle.mk_tracing.specs.Tracing.{OwnStepsKeep, is_tracing}
+use Rattle.mk_tracing.proofs.Parts.{kinds_keep}
+use Rattle.mk_sweep.specs.Swept.{IsSweptCell, MarksSwept, SweepsBy}
+use Rattle.mk_sweep.specs.Unswept.{OthersLeaveUnmarked, UnsweptStaysUnmarked}
+
+-- an own step is a tracing one
+abbrev IsTracing : Config → Moment → Step → Type 0
+IsTracing c m s = is_tracing s ≡ true
+
+-- A mark of a swept cell leaves one unmarked that isn't swept.
+mark_leaves : (c : Config) (v : World) (marks : List ℕ) (page value : ℕ) (cell : Cell) → MarksSwept c v page value
+    → (IsSweptCell c v cell → ⊥) → has_bit (slice_index marks cell.page) cell.index ≡ false
+    → has_bit (slice_index (slice_set marks page (bit_or (slice_index marks page) value)) cell.page) cell.index ≡ false
+mark_leaves c v marks page value cell swept out was = false_from_ne_true _ (λ is.
+    elim (more_bits marks page value cell.page cell.index is) [
+      | inl before ↦ true≢false (sym before ∙ was)
+      | inr now ↦
+          let index = bit_of_power swept.index cell.index (subst (λ k. has_bit k cell.index ≡ true) swept.bit now.1) in
+          let same : record { page = page; index = swept.index } ≡ cell =
+          ap (λ (k : ℕ). record { page = k; index = swept.index }) (sym now.0)
+          ∙ ap (λ (k : ℕ). record { page = cell.page; index = k }) (sym index) in
+          out (subst (λ (x : Cell). IsSweptCell c v x) same swept.swept)
+    ])
+
+step_leaves : (c : Config) (v w : World) (seat : Seat) (cell : Cell) (s : Step) → is_tracing s ≡ true
+    → SweepsBy v c w.now s → (IsSweptCell c v cell → ⊥) → is_marked w.now.words cell ≡ false
+    → is_marked (world_behind c w (record { seat = seat; step = s })).now.words cell ≡ false
+step_leaves c v w seat cell (step.Mark p k) kind rule out was = mark_leaves c v w.now.words.marks p k cell rule out was
+step_leaves c v w seat cell (step.Look x) kind rule out was = was
+step_leaves c v w seat cell step.Want kind rule out was = was
+step_leaves c v w seat cell (step.Undirty p) kind rule out was = was
+step_leaves c v w seat cell (step.Black p k) kind rule out was = was
+step_leaves c v w seat cell (step.Unblack p) kind rule out was = was
+step_leaves c v w seat cell _ kind rule out was = cc
+
+list_leaves : (c : Config) (v w : World) (seat : Seat) (cell : Cell) (es : List Event)
+    → OwnStepsKeep IsTracing c seat w es → OwnStepsKeep (SweepsBy v) c seat w es
+    → OthersLeaveUnmarked c seat cell w es → (IsSweptCell c v cell → ⊥) → is_marked w.now.words cell ≡ false
+    → is_marked (left_from c w es).now.words cell ≡ false
+unfolding OwnStepsKeep OthersLeaveUnmarked left_from
+list_leaves c v w seat cell [] kinds rules others out was = was
+list_leaves c v w seat cell (e ∷ es) kinds rules others out was =
+    list_leaves c v (world_behind c w e) seat cell es kinds.1 rules.1 others.1 out
+    (elim (cases_Bool (is_same_seat seat e.seat)) [
+      | inl own ↦ step_leaves c v w e.seat cell e.step (kinds.0 own) (rules.0 own) out was
+      | inr other ↦ others.0 other was
+    ])
+
+pub unswept_stays_unmarked : UnsweptStaysUnmarked
+unswept_stays_unmarked p q n s i history one unreleased out was others =
+    let c : Config = p.table.config in
+    let w : World = world_of p in
+    let d = s.traces.does in
+    let cell : Cell = cell_of_allocation c (placed_at w.allocations i) in
+    let behind = list_leaves c w w p.seat cell d.more
+    (kinds_keep is_tracing IsTracing c p.seat w d.more (λ m x kind. kind) d.of_kinds)
+    s.traces.keeps others
+    (λ x. out (record {
+      value = x.value;
+      found = x.found;
+      points = (
+        unreleased,
+        comes_back c w (never_behind c p.seen)
+            (record {
+              known = known_world c p.seen history.within_limits history.enabled;
+              all = histories_keep_the_invariant c p.seen history;
+            }) (inl one) i x.value unreleased x.points,
+      );
+    })) was in
+    ap (λ (x : PassState). is_marked (world_of x).now.words cell) d.is
+    ∙ ap (λ (x : World). is_marked x.now.words cell) (left_in_parts c p.seen d.more) ∙ behind

@@ -1,0 +1,93 @@
+-- The words of a page's used cells, one after the other; and what points well of them.
+use Rattle.std.proofs.Common.{◌≡◌, ◌∙◌, ℕ, zero, suc, ◌+◌, ◌*◌, ◌≤◌, Bool, true, false, List, [], ◌∷◌, ◌++◌, sym, ap, inl, inr, arith}
+use Rattle.std.specs.Prelude.{Option, Some, slice_index, if◌then◌else◌}
+use Rattle.std.specs.List.{range_with_len}
+use Rattle.std.proofs.lemmas.List.Elements.{Contains-append_cases, Contains-push_cases}
+use Rattle.mk_geom.specs.declared.headers.Header.{Header}
+use Rattle.mk_geom.specs.declared.headers.Header.TheVariants.{Later}
+use Rattle.mk_geom.specs.Addresses.{head_page_under}
+use Rattle.mk_geom.specs.Headers.{header_of}
+use Rattle.mk_core.specs.Bits.{has_bit}
+use Rattle.mk_core.specs.Cells.{cells_under, has_no_pointers, head_page, header_in, points_well, word_points_well, words_under}
+use Rattle.mk_core.specs.Words.{Words, header_at, used_at}
+use Rattle.mk_tracing.specs.Grays.{MarksMore}
+use Rattle.mk_tracing.proofs.MoreMarks.{well_more}
+use Rattle.mk_sweep.specs.Sweeping.{PointWell, words_below, words_if, words_of_cells, words_on}
+
+-- The head of a page's run doesn't lie behind it.
+
+head_under : (x : Option Header) (p : ℕ) → head_page_under x p ≤ p
+head_under (Some (Later distance mapped)) p = omega arith
+head_under _ p = omega arith
+
+pub head_is_near : (w : Words) (p : ℕ) → head_page w p ≤ p
+head_is_near w p = head_under (header_in w p) p
+
+-- one word more, one cell more and one page more
+
+range_more : (a n : ℕ) → range_with_len a (suc n) ≡ range_with_len a n ++ (a + n) ∷ []
+range_more a zero = let e : a ≡ a + 0 = omega arith in ap (λ k. k ∷ []) e
+range_more a (suc n) =
+    let e : a + 1 + n ≡ a + suc n = omega arith in
+    ap (λ ns. a ∷ ns) (range_more (a + 1) n ∙ ap (λ k. range_with_len (a + 1) n ++ k ∷ []) e)
+
+pub word_more : (a n : ℕ) → range_with_len a n ++ (a + n) ∷ [] ≡ range_with_len a (n + 1)
+word_more a n = let e : suc n ≡ n + 1 = omega arith in sym (range_more a n) ∙ ap (λ k. range_with_len a k) e
+
+pub cell_more : (page size used n : ℕ)
+    → words_of_cells page size used n ++ words_if (has_bit used n) (64 * page + n * size) size
+    ≡ words_of_cells page size used (n + 1)
+cell_more page size used n =
+    let e : suc n ≡ n + 1 = omega arith in ap (λ k. words_of_cells page size used k) e
+
+pub page_more : (w : Words) (n : ℕ) → words_below w n ++ words_on w n ≡ words_below w (n + 1)
+page_more w n = let e : suc n ≡ n + 1 = omega arith in ap (λ k. words_below w k) e
+
+-- the words of a scanned page, and of one that isn't
+
+pub words_of_scanned : (w : Words) (p header used size count : ℕ) → header ≡ header_at w p → used ≡ used_at w p
+    → size ≡ words_under (header_of header) → count ≡ cells_under (header_of header)
+    → has_no_pointers (header_in w p) ≡ false → words_of_cells p size used count ≡ words_on w p
+words_of_scanned w p header used size count head bits words cells scanned =
+    ap (λ s. words_of_cells p s used count) (words ∙ ap (λ h. words_under (header_of h)) head)
+    ∙ ap (λ u. words_of_cells p (words_under (header_in w p)) u count) bits
+    ∙ ap (λ k. words_of_cells p (words_under (header_in w p)) (used_at w p) k)
+    (cells ∙ ap (λ h. cells_under (header_of h)) head)
+    ∙ sym (ap (λ (b : Bool). if b then [] else words_of_cells p (words_under (header_in w p)) (used_at w p)
+    (cells_under (header_in w p))) scanned)
+
+pub words_of_bare : (w : Words) (p : ℕ) → has_no_pointers (header_in w p) ≡ true → [] ≡ words_on w p
+words_of_bare w p bare =
+    sym (ap (λ (b : Bool). if b then [] else words_of_cells p (words_under (header_in w p)) (used_at w p)
+    (cells_under (header_in w p))) bare)
+
+-- Marks leave which words these are.
+pub words_kept : (w v : Words) (p : ℕ) → MarksMore w v → words_on v p ≡ words_on w p
+words_kept w v p more = ap (λ (y : Words). words_on y p) more.is
+
+-- What points well goes on doing so.
+
+pub none_well : (pages : ℕ) (w : Words) → PointWell pages w []
+none_well pages w n (k, lt, is) = absurd (omega arith)
+
+pub still_well : (pages : ℕ) (w v : Words) (ns : List ℕ) → MarksMore w v → PointWell pages w ns → PointWell pages v ns
+still_well pages w v ns more well n inside =
+    ap (λ (y : Words). points_well pages v (slice_index y.heap n)) more.is
+    ∙ well_more pages w v (slice_index w.heap n) more (well n inside)
+
+pub both_well : (pages : ℕ) (w v : Words) (ns ms : List ℕ) → MarksMore w v → PointWell pages w ns
+    → PointWell pages v ms → PointWell pages v (ns ++ ms)
+both_well pages w v ns ms more one two n inside = elim (Contains-append_cases ns ms n inside) [
+  | inl early ↦ still_well pages w v ns more one n early
+  | inr late ↦ two n late
+]
+
+pub one_well : (pages : ℕ) (w v : Words) (ns : List ℕ) (m value : ℕ) → MarksMore w v → PointWell pages w ns
+    → value ≡ slice_index w.heap m → points_well pages v value ≡ true → PointWell pages v (ns ++ m ∷ [])
+one_well pages w v ns m value more one is well n inside = elim (Contains-push_cases ns m n inside) [
+  | inl early ↦ still_well pages w v ns more one n early
+  | inr at ↦
+      ap (λ k. word_points_well pages v k) (sym at)
+      ∙ ap (λ (y : Words). points_well pages v (slice_index y.heap m)) more.is
+      ∙ ap (λ u. points_well pages v u) (sym is) ∙ well
+]

@@ -1,0 +1,14 @@
+use Rattle.std.proofs.Common.{◌≡◌, ℕ, ◌<◌, [], true}
+use Rattle.std.specs.Prelude.{slice_index}
+use Rattle.mk_core.specs.Bits.{has_bit}
+use Rattle.mk_tracing.specs.Stops.{still_words}
+use Rattle.mk_sweep.specs.Sweeping.{BlacksMore, SweepsOn}
+use Rattle.mk_sweep.proofs.blackening.blacken_cells.Given as goal
+
+abbrev pub invariant-loop-index : goal.invariant-loop-index
+invariant-loop-index l = record {
+  on : SweepsOn l.fn.stop l.stop [];
+  more : BlacksMore (still_words l.fn.stop.pass) (still_words l.stop.pass);
+  black : (k : ℕ) → k < l.index → has_bit l.marks k ≡ true
+      → has_bit (slice_index (still_words l.stop.pass).blacks l.page) k ≡ true;
+}

@@ -1,0 +1,14 @@
+use Rattle.std.proofs.Common.{[]}
+use Rattle.mk_sweep.specs.Sweeping.{SweepsOn}
+use Rattle.std.proofs.Common.{ℕ, ◌<◌, ◌≡◌}
+use Rattle.std.specs.Prelude.{slice_index}
+use Rattle.mk_tracing.specs.Grays.{DirtyFewer}
+use Rattle.mk_tracing.specs.Stops.{still_words}
+use Rattle.mk_sweep.proofs.clearing.undirty_all.Given as goal
+
+abbrev pub invariant-loop-page : goal.invariant-loop-page
+invariant-loop-page l = record {
+  on : SweepsOn l.fn.stop l.stop [];
+  fewer : DirtyFewer (still_words l.fn.stop.pass) (still_words l.stop.pass);
+  clean : (p : ℕ) → p < l.page → slice_index (still_words l.stop.pass).dirty p ≡ 0;
+}

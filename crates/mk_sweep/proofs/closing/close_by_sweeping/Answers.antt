@@ -1,0 +1,80 @@
+use Rattle.std.proofs.Common.{◌≡◌, ◌∙◌, ◌<◌, ℕ, length, ap, subst, sym}
+use Rattle.std.specs.Prelude.{slice_index}
+use Rattle.mk_guard.specs.Guard.{CellsAreClosed}
+use Rattle.mk_words.specs.States.{TurnState, WordsState}
+use Rattle.mk_tracing.specs.Stops.{still_words}
+use Rattle.mk_sweep.specs.Sweeping.{PageIsBlack, PointWell, SweepsOn, words_below}
+use Rattle.mk_sweep.proofs.Kept.{ready_of}
+use Rattle.mk_sweep.proofs.SweptMarks.{closes, sweeping_behind, sweeps}
+use Rattle.mk_sweep.proofs.closing.close_by_sweeping.Goals as goal
+
+pub want_and_wait-requires-clause-ready : goal.want_and_wait-requires-clause-ready
+want_and_wait-requires-clause-ready g c =
+    ready_of c.args.stop.now.pass c.is_in_order.ensures.history c.is_in_order.ensures.turn.holds c.requires.free
+
+pub sweep_in_stop-looks-requires-clause-sweeping : goal.sweep_in_stop-looks-requires-clause-sweeping
+sweep_in_stop-looks-requires-clause-sweeping g c =
+    sweeping_behind c.args.stop.now.pass c.want_and_wait.new.stop.pass c.want_and_wait.ensures.traces
+    c.want_and_wait.ensures.wanted c.requires.free c.requires.marking
+
+-- What is known by the table of the words, by that of the passes.
+
+swept_on : (words : WordsState) (t u : TurnState) → t.pass.table ≡ words
+    → SweepsOn t u (words_below (still_words t.pass) words.config.pages)
+    → SweepsOn t u (words_below (still_words t.pass) t.pass.table.config.pages)
+swept_on words t u table on =
+    subst (λ (x : WordsState). SweepsOn t u (words_below (still_words t.pass) x.config.pages)) (sym table) on
+
+closed_on : (words : WordsState) (u : TurnState) → u.pass.table ≡ words
+    → CellsAreClosed words.config (still_words u.pass) → CellsAreClosed u.pass.table.config (still_words u.pass)
+closed_on words u table closed =
+    subst (λ (x : WordsState). CellsAreClosed x.config (still_words u.pass)) (sym table) closed
+
+well_on : (words : WordsState) (t u : TurnState) → t.pass.table ≡ words → u.pass.table ≡ words
+    → PointWell words.config.pages (still_words u.pass) (words_below (still_words t.pass) words.config.pages)
+    → PointWell u.pass.table.config.pages (still_words u.pass)
+    (words_below (still_words t.pass) t.pass.table.config.pages)
+well_on words t u before behind well =
+    subst (λ (x : WordsState). PointWell u.pass.table.config.pages (still_words u.pass)
+    (words_below (still_words t.pass) x.config.pages)) (sym before)
+    (subst (λ (x : WordsState). PointWell x.config.pages (still_words u.pass)
+    (words_below (still_words t.pass) words.config.pages)) (sym behind) well)
+
+pub returns-clause-law : goal.returns-clause-law
+returns-clause-law g c =
+    let p = c.args.stop.now.pass in
+    let words : WordsState = c.args.words.now in
+    let t = c.want_and_wait.new.stop in
+    let u = c.sweep_in_stop-looks.new.stop in
+    let before : t.pass.table ≡ words = c.want_and_wait.ensures.table ∙ c.requires.one_table in
+    let behind : u.pass.table ≡ words = c.sweep_in_stop-looks.ensures.on.table ∙ before in
+    let sweeping = sweeping_behind p t.pass c.want_and_wait.ensures.traces
+    c.want_and_wait.ensures.wanted c.requires.free c.requires.marking in
+    closes p t u c.sweep_in_stop-looks.result c.want_and_wait.ensures.traces sweeping
+    c.is_in_order-2.ensures.history c.is_in_order-3.ensures.history
+    (swept_on words t u before c.sweep_in_stop-looks.ensures.on)
+    (closed_on words u behind c.sweep_in_stop-looks.ensures.closed)
+    (well_on words t u before behind c.sweep_in_stop-looks.ensures.well)
+    (c.is_in_order-3.ensures.turn.holds, c.is_in_order-3.ensures.gates)
+    (subst (λ (x : WordsState). (pg : ℕ) → pg < x.config.pages → PageIsBlack (still_words u.pass) pg) (sym behind)
+    c.sweep_in_stop-looks.ensures.black)
+    (subst (λ (x : WordsState). (pg : ℕ) → pg < x.config.pages → slice_index (still_words u.pass).dirty pg ≡ 0)
+    (sym behind) c.sweep_in_stop-looks.ensures.clean)
+
+pub returns-clause-sweeps : goal.returns-clause-sweeps
+returns-clause-sweeps g c =
+    let p = c.args.stop.now.pass in
+    let words : WordsState = c.args.words.now in
+    let t = c.want_and_wait.new.stop in
+    let u = c.sweep_in_stop-looks.new.stop in
+    let before : t.pass.table ≡ words = c.want_and_wait.ensures.table ∙ c.requires.one_table in
+    let behind : u.pass.table ≡ words = c.sweep_in_stop-looks.ensures.on.table ∙ before in
+    let sweeping = sweeping_behind p t.pass c.want_and_wait.ensures.traces
+    c.want_and_wait.ensures.wanted c.requires.free c.requires.marking in
+    sweeps p t u c.sweep_in_stop-looks.result c.want_and_wait.ensures.traces sweeping
+    c.is_in_order-2.ensures.history c.is_in_order-3.ensures.history
+    (swept_on words t u before c.sweep_in_stop-looks.ensures.on)
+    (closed_on words u behind c.sweep_in_stop-looks.ensures.closed)
+    (well_on words t u before behind c.sweep_in_stop-looks.ensures.well)
+    (c.sweep_in_stop-looks.ensures.looks
+    ∙ sym (ap (λ (x : WordsState). length (words_below (still_words t.pass) x.config.pages)) before))

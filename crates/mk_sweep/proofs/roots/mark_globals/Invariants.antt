@@ -1,0 +1,16 @@
+use Rattle.std.proofs.Common.{[]}
+use Rattle.mk_sweep.specs.Sweeping.{SweepsOn}
+use Rattle.std.proofs.Common.{◌≡◌, ℕ, ◌<◌, true}
+use Rattle.std.specs.Prelude.{slice_index}
+use Rattle.mk_core.specs.Cells.{points_well}
+use Rattle.mk_tracing.specs.Grays.{MarksMore}
+use Rattle.mk_tracing.specs.Stops.{still_words}
+use Rattle.mk_sweep.proofs.roots.mark_globals.Given as goal
+
+abbrev pub invariant-loop-global : goal.invariant-loop-global
+invariant-loop-global l = record {
+  on : SweepsOn l.fn.stop l.stop [];
+  more : MarksMore (still_words l.fn.stop.pass) (still_words l.stop.pass);
+  well : (g : ℕ) → g < l.global → points_well l.words.config.pages (still_words l.stop.pass)
+      (slice_index (still_words l.fn.stop.pass).globals g) ≡ true;
+}

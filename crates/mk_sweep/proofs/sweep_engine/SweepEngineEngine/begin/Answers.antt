@@ -1,0 +1,5 @@
+use Rattle.mk_sweep.proofs.SweptMarks.{begins_with_nothing}
+use Rattle.mk_sweep.proofs.sweep_engine.SweepEngineEngine.begin.Goals as goal
+
+pub returns-clause-law : goal.returns-clause-law
+returns-clause-law g c = begins_with_nothing c.args._turn.now.pass

@@ -1,0 +1,12 @@
+use Rattle.std.specs.List.{range_with_len}
+use Rattle.mk_tracing.specs.Grays.{MarksMore}
+use Rattle.mk_tracing.specs.Stops.{still_words}
+use Rattle.mk_sweep.specs.Sweeping.{PointWell, SweepsOn}
+use Rattle.mk_sweep.proofs.sweeping.sweep_words.Given as goal
+
+abbrev pub invariant-loop-i : goal.invariant-loop-i
+invariant-loop-i l = record {
+  on : SweepsOn l.fn.stop l.stop (range_with_len l.first l.i);
+  more : MarksMore (still_words l.fn.stop.pass) (still_words l.stop.pass);
+  well : PointWell l.words.config.pages (still_words l.stop.pass) (range_with_len l.first l.i);
+}

@@ -1,0 +1,4 @@
+pub mod Swept
+pub mod Sweeping
+pub mod Sweeps
+pub mod Unswept

@@ -1,0 +1,23 @@
+-- What `close_marks` of the sweep engine does: one sweep, in the stop.
+use Rattle.std.specs.Prelude.{◌≡◌, ℕ, ◌≤◌, ◌==◌, true, count_by, length}
+use Rattle.mk_core.specs.Allocations.{placed_at}
+use Rattle.mk_core.specs.ClosedMarks.{is_marked_allocation}
+use Rattle.mk_words.specs.States.{PassState, now_of, world_of}
+use Rattle.mk_tracing.specs.Tracing.{Traces, is_tracing}
+use Rattle.mk_sweep.specs.Swept.{IsScannedWord, IsSwept, SweepsBy, scanned_words}
+use Rattle.mk_sweep.specs.Sweeping.{heap_looks}
+
+pub record Sweeps (p q : PassState) (looks : ℕ) : Type 0 where
+  -- Only words of mapped allocations that aren't leaf are looked at, and only cells are marked into which one of these
+  -- points, or a register or a global.
+  pub traces : Traces is_tracing (SweepsBy (world_of p)) p q
+  -- No heap word is looked at twice, and each word of such an allocation is looked at.
+  pub never_twice : (n : ℕ) → count_by (λ k. k == n) (heap_looks traces.does) ≤ 1
+  pub each : (n : ℕ) → IsScannedWord p.table.config (world_of p).allocations n
+      → count_by (λ k. k == n) (heap_looks traces.does) ≡ 1
+  -- These are so many: the words of these allocations.
+  pub counted : looks ≡ length (heap_looks traces.does)
+  pub words : looks ≡ scanned_words p.table.config (world_of p).allocations
+  -- What is swept is marked.
+  pub swept : (i : ℕ) → IsSwept q.table.config (world_of q) i
+      → is_marked_allocation q.table.config (now_of q).words (placed_at (world_of q).allocations i) ≡ true

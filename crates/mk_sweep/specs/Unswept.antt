@@ -1,0 +1,33 @@
+-- What a sweep doesn't mark.
+use Rattle.std.specs.Prelude.{◌≡◌, ℕ, false, List, [], ◌∷◌, ⊤}
+use Rattle.mk_geom.specs.declared.addresses.Cell.{Cell}
+use Rattle.mk_core.specs.declared.config.Config.{Config}
+use Rattle.mk_core.specs.declared.events.Event.{Event}
+use Rattle.mk_core.specs.declared.events.Seat.{Seat}
+use Rattle.mk_core.specs.Allocations.{cell_of_allocation, placed_at}
+use Rattle.mk_core.specs.Cells.{is_marked}
+use Rattle.mk_core.specs.Growing.{is_same_seat}
+use Rattle.mk_core.specs.History.{World, IsHistory, world_behind}
+use Rattle.mk_words.specs.States.{PassState, now_of, world_of}
+use Rattle.mk_cycle.specs.EngineLaw.{IsAtPhase}
+use Rattle.mk_sweep.specs.Swept.{IsSwept}
+use Rattle.mk_sweep.specs.Sweeps.{Sweeps}
+
+-- No event of another seat marks the cell.
+unfoldable pub OthersLeaveUnmarked : Config → Seat → Cell → World → List Event → Type 0
+OthersLeaveUnmarked c s cell w [] = ⊤
+OthersLeaveUnmarked c s cell w (e ∷ es) =
+    (is_same_seat s e.seat ≡ false → is_marked w.now.words cell ≡ false
+    → is_marked (world_behind c w e).now.words cell ≡ false)
+    × OthersLeaveUnmarked c s cell (world_behind c w e) es
+
+-- Then the cell of an unreleased allocation that isn't swept is unmarked behind a sweep, if it was so before.
+abbrev pub UnsweptStaysUnmarked : Type 0
+UnsweptStaysUnmarked =
+    (p q : PassState) (n : ℕ) (s : Sweeps p q n) (i : ℕ)
+    → IsHistory p.table.config p.seen → IsAtPhase p 1
+    → (placed_at (world_of p).allocations i).released ≡ false → (IsSwept p.table.config (world_of p) i → ⊥)
+    → is_marked (now_of p).words (cell_of_allocation p.table.config (placed_at (world_of p).allocations i)) ≡ false
+    → OthersLeaveUnmarked p.table.config p.seat
+    (cell_of_allocation p.table.config (placed_at (world_of p).allocations i)) (world_of p) s.traces.does.more
+    → is_marked (now_of q).words (cell_of_allocation p.table.config (placed_at (world_of p).allocations i)) ≡ false

@@ -1,0 +1,16 @@
+//! An engine that sweeps: in the stop it looks once at each word of each mapped allocation that isn't leaf, and follows
+//! nothing.
+#![tactic(auto)]
+
+mod blackening;
+mod clearing;
+mod closing;
+mod laws;
+mod roots;
+mod stepping;
+mod sweep_engine;
+mod sweeping;
+mod values;
+
+pub use laws::what_is_not_swept_stays_unmarked;
+pub use sweep_engine::SweepEngine;

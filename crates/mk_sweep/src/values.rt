@@ -1,0 +1,69 @@
+//! What values point into, and the marks by them.
+ghost use Rattle.std.specs.Prelude.{◌≡◌, ◌<◌, [], true};
+ghost use Rattle.mk_core.specs.Cells.{is_marked, pointed_cell, points_well};
+ghost use Rattle.mk_tracing.specs.Grays.{MarksMore};
+ghost use Rattle.mk_tracing.specs.Stops.{hand_of, still_words};
+ghost use Rattle.mk_sweep.specs.Sweeping.{HasInHand, IsSweeping, SweepsOn};
+
+use crate::stepping::{look_at, mark_cell};
+use mk_core::Word;
+use mk_geom::{Cell, lookup};
+use mk_tracing::has_bit;
+use mk_words::{Stopped, Words};
+
+/// The address of the heap's first word.
+const HEAP_START: u64 = 65536;
+
+const PAGE_BYTES: u64 = 512;
+
+/// The cell into which a value points.
+fn cell_pointed(words: &Words, stop: &mut Stopped, value: u64) -> Option<Cell>
+    requires one_table { stop.old.pass.table ≡ words.now }
+    requires sweeping { IsSweeping stop.old.pass }
+    ensures on { SweepsOn stop.old stop.new [] }
+    ensures words { still_words stop.new.pass ≡ still_words stop.old.pass }
+    ensures hand { hand_of stop.new.pass ≡ hand_of stop.old.pass }
+    ensures points { result ≡ pointed_cell words.now.config.pages (still_words stop.old.pass).pages value }
+{
+    if value < HEAP_START {
+        return None;
+    }
+    let page = (value - HEAP_START) / PAGE_BYTES;
+    if page >= words.pages() {
+        return None;
+    }
+    let header = look_at(words, stop, Word::Head(page));
+    lookup(words.pages(), header, value)
+}
+
+/// Whether the cell is marked.
+fn is_marked(words: &Words, stop: &mut Stopped, cell: Cell) -> bool
+    requires one_table { stop.old.pass.table ≡ words.now }
+    requires sweeping { IsSweeping stop.old.pass }
+    requires page { cell.page < words.now.config.pages }
+    ensures on { SweepsOn stop.old stop.new [] }
+    ensures words { still_words stop.new.pass ≡ still_words stop.old.pass }
+    ensures hand { hand_of stop.new.pass ≡ hand_of stop.old.pass }
+    ensures marked { result ≡ is_marked (still_words stop.old.pass) cell }
+{
+    let marks = look_at(words, stop, Word::Mark(cell.page));
+    has_bit(marks, cell.index)
+}
+
+/// Marks what the hand points into, if that isn't marked yet.
+pub(crate) fn mark_value(words: &Words, stop: &mut Stopped, value: u64)
+    requires one_table { stop.old.pass.table ≡ words.now }
+    requires sweeping { IsSweeping stop.old.pass }
+    requires hand { HasInHand stop.old.pass value }
+    ensures on { SweepsOn stop.old stop.new [] }
+    ensures more { MarksMore (still_words stop.old.pass) (still_words stop.new.pass) }
+    ensures well { points_well words.now.config.pages (still_words stop.new.pass) value ≡ true }
+{
+    let Some(cell) = cell_pointed(words, stop, value) else {
+        return;
+    };
+    if is_marked(words, stop, cell) {
+        return;
+    }
+    mark_cell(words, stop, cell);
+}

@@ -1,0 +1,14 @@
+pub mod Along
+pub mod EvaluatedPeaks
+pub mod EvaluatedPlays
+pub mod EvaluatedTraces
+pub mod HandedOn
+pub mod Kept
+pub mod NoForm
+pub mod PeaksGrow
+pub mod Playable
+pub mod PrintedLines
+pub mod ReadEvents
+pub mod ReadSlots
+pub mod SlotTypes
+pub mod WholeText

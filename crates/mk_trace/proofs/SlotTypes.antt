@@ -1,0 +1,56 @@
+-- The types of slots, and the globals that hold pointers to them.
+use Rattle.std.proofs.Common.{◌≡◌, ℕ, ◌+◌, ◌-◌, ◌<◌, ◌≤◌, suc, zero, List, [], ◌∷◌, ◌++◌, length, replicate, refl, sym}
+use Rattle.std.proofs.Common.{ap, ◌∙◌, subst, append_assoc, arith}
+use Rattle.std.specs.Prelude.{All}
+use Rattle.std.specs.List.{range_with_len}
+use Rattle.std.proofs.Math.Seq.{get_or-append_seam}
+use Rattle.std.proofs.lemmas.List.{length-append, length-replicate}
+use Rattle.std.proofs.lemmas.List.Elements.{All-nil, All-cons, All-head, All-tail, All-replicate}
+use Rattle.mk_never.specs.declared.types.Kind.{Kind}
+use Rattle.mk_never.specs.declared.types.Kind.TheVariants.{Num, To}
+use Rattle.mk_never.specs.Types.{kinds_of}
+use Rattle.mk_core.specs.Config.{IsBetween, IsAmong, IsTypeAmong}
+use Rattle.mk_trace.specs.Playing.{slot_type, types_from}
+
+pub length-types_from : (slot : ℕ) (slots : List ℕ) → length (types_from slot slots) ≡ length slots
+length-types_from slot [] = refl
+length-types_from slot (words ∷ slots) = ap (λ n. suc n) (length-types_from (slot + 1) slots)
+
+-- a slot's type stands at its number among the types
+type_among : (types before behind : List (List Kind)) (words : ℕ)
+    → types ≡ before ++ slot_type (length before) words ∷ behind
+    → IsBetween 1 4096 words → IsTypeAmong types (slot_type (length before) words)
+type_among types before behind words is within =
+    let slot = length before in
+    let size : length (slot_type slot words) ≡ words = omega (arith, within.0, length-replicate (words - 1) Num) in
+    let here : kinds_of types slot ≡ slot_type slot words =
+    ap (λ (ts : List (List Kind)). kinds_of ts slot) is ∙ get_or-append_seam before (slot_type slot words) behind [] in
+    let inside : slot < length types = omega
+    (arith, ap length is, length-append before (slot_type slot words ∷ behind)) in
+    let points : 0 < length (kinds_of types slot) = omega (arith, ap length here) in (
+      (omega (arith, size, within.0), omega (arith, size, within.1)),
+      All-cons (IsAmong types) (To slot 0) (replicate (words - 1) Num) (inside, points)
+          (All-replicate (IsAmong types) (words - 1) Num tt),
+    )
+
+pub types_among : (types before : List (List Kind)) (slot : ℕ) (slots : List ℕ) → slot ≡ length before
+    → types ≡ before ++ types_from slot slots
+    → All (IsBetween 1 4096) slots → All (IsTypeAmong types) (types_from slot slots)
+types_among types before slot [] at is within = All-nil (IsTypeAmong types)
+types_among types before slot (words ∷ slots) at is within =
+    let first : IsBetween 1 4096 words = All-head (IsBetween 1 4096) words slots within in
+    let others = All-tail (IsBetween 1 4096) words slots within in
+    let behind = types_from (slot + 1) slots in
+    let next : slot + 1 ≡ length (before ++ slot_type slot words ∷ []) = omega
+    (arith, at, length-append before (slot_type slot words ∷ [])) in
+    All-cons (IsTypeAmong types) (slot_type slot words) behind
+    (subst (λ n. IsTypeAmong types (slot_type n words)) (sym at)
+    (type_among types before behind words (is ∙ ap (λ n. before ++ slot_type n words ∷ behind) at) first))
+    (types_among types (before ++ slot_type slot words ∷ []) (slot + 1) slots next
+    (is ∙ sym (append_assoc before (slot_type slot words ∷ []) behind)) others)
+
+pub range_below : (first count limit : ℕ) → first + count ≤ limit → All (λ n. n < limit) (range_with_len first count)
+range_below first zero limit h = All-nil (λ n. n < limit)
+range_below first (suc count) limit h =
+    All-cons (λ n. n < limit) first (range_with_len (first + 1) count) (omega (arith, h))
+    (range_below (first + 1) count limit (omega (arith, h)))

@@ -1,0 +1,25 @@
+use Rattle.std.proofs.Common.{◌<◌, length, ◌∙◌, ap, arith}
+use Rattle.mk_script.specs.Words.{texts_of}
+use Rattle.mk_trace.specs.Traces.{contents_of}
+use Rattle.mk_trace.proofs.WholeText.{read_whole, stops_whole}
+use Rattle.mk_trace.proofs.parsing.parse_trace.Goals as goal
+
+pub at_end-requires : goal.at_end-requires
+at_end-requires c =
+    let lines = c.as_slice.result.now in
+    let some : 0 < length lines = omega (arith, c.in-len1-up.len_at_least) in (
+      c.args.bytes.now,
+      read_whole c.args.bytes.now lines _ c.in_ok-heap.heap c.in_ok-draft.draft c.if-bytes-gt-TEXT_LIMIT.false
+          (ap texts_of c.as_slice.ensures.value
+          ∙ c.in_ok-lines.ensures) some c.in_ok-heap.ensures.heap c.in_ok-draft.ensures.draft,
+    )
+
+pub returns-clause-fault : goal.returns-clause-fault
+returns-clause-fault c =
+    let lines = c.as_slice.result.now in
+    let some : 0 < length lines = omega (arith, c.in-len1-up.len_at_least) in
+    stops_whole c.at_end.result (contents_of c.in_ok-heap.heap c.in_ok-draft.draft) _
+    (read_whole c.args.bytes.now lines _ c.in_ok-heap.heap c.in_ok-draft.draft c.if-bytes-gt-TEXT_LIMIT.false
+    (ap texts_of c.as_slice.ensures.value
+    ∙ c.in_ok-lines.ensures) some c.in_ok-heap.ensures.heap c.in_ok-draft.ensures.draft)
+    c.at_end.ensures.fault

@@ -1,0 +1,9 @@
+use Rattle.std.proofs.Common.{◌≡◌, ◌+◌, drop, []}
+use Rattle.mk_trace.specs.Grammar.{events_from}
+use Rattle.mk_trace.proofs.resolving.events.Given as goal
+
+-- the lines that are left decide
+abbrev pub invariant-loop-index : goal.invariant-loop-index
+invariant-loop-index l =
+    events_from l.slots (l.first + l.index) (drop l.index l.lines) l.events.items
+    ≡ events_from l.slots l.first l.lines []

@@ -1,0 +1,51 @@
+-- Lines one behind the other, up to the first that has a fault.
+use Rattle.std.specs.Prelude.{ℕ, ◌+◌, List, [], ◌∷◌, ◌++◌, Ok, Err}
+use Rattle.std.specs.declared.result.Result.{Result}
+use Rattle.mk_script.specs.declared.faults.LineFault.{LineFault}
+use Rattle.mk_script.specs.declared.faults.LineFault.TheVariants.{Text, Limit}
+use Rattle.mk_script.specs.Words.{words_of}
+use Rattle.mk_check.specs.declared.typing_faults.TypeKind.{TypeKind}
+use Rattle.mk_trace.specs.declared.faults.TraceStop.{TraceStop}
+use Rattle.mk_trace.specs.declared.faults.TraceStop.TheVariants as stop
+use Rattle.mk_trace.specs.declared.lines.Slot.{Slot}
+use Rattle.mk_trace.specs.declared.lines.EventLine.{EventLine}
+use Rattle.mk_trace.specs.declared.lines.Line.{Line}
+use Rattle.mk_trace.specs.declared.trace.TraceEvent.{TraceEvent}
+use Rattle.mk_trace.specs.Lines.{Written, with_line, line_of}
+use Rattle.mk_trace.specs.Typing.{typed_event}
+
+-- a fault at a line
+abbrev pub text_fault : ℕ → LineFault → TraceStop
+text_fault line (Text kind) = stop.Text line kind
+text_fault line (Limit which found) = stop.Limit line which found
+
+abbrev pub type_fault : ℕ → TypeKind → TraceStop
+type_fault line kind = stop.IllTyped line kind
+
+-- goes on with what a line gives, or ends with its fault
+abbrev pub go_on : {X Y Fault : Type 0} → (Fault → TraceStop) → Result X Fault → (X → Result Y TraceStop)
+    → Result Y TraceStop
+go_on told (Ok x) next = next x
+go_on told (Err fault) next = Err (told fault)
+
+-- What lines give, the first of which has this number: each is read behind what those before it gave, and added to it.
+unfoldable pub along : {Line Given Whole Fault : Type 0} → (ℕ → Fault → TraceStop) → (Whole → Line → Result Given Fault)
+    → (Whole → Given → Whole) → ℕ → List Line → Whole → Result Whole TraceStop
+along told read add number [] before = Ok before
+along told read add number (line ∷ lines) before =
+    go_on (told number) (read before line) (λ given. along told read add (number + 1) lines (add before given))
+
+abbrev pub read_behind : Written → List ℕ → Result Line LineFault
+read_behind written line = line_of written (words_of line)
+
+-- the slots and the events of lines behind others
+abbrev pub written_from : ℕ → List (List ℕ) → Written → Result Written TraceStop
+written_from number lines before = along text_fault read_behind with_line number lines before
+
+abbrev pub with_event : List TraceEvent → TraceEvent → List TraceEvent
+with_event events event = events ++ event ∷ []
+
+-- the events of lines, behind others
+abbrev pub events_from : List Slot → ℕ → List EventLine → List TraceEvent → Result (List TraceEvent) TraceStop
+events_from slots number lines before =
+    along type_fault (λ events line. typed_event slots line) with_event number lines before

@@ -1,0 +1,38 @@
+-- What holds of every trace of some text, and of peaks.
+use Rattle.std.specs.Prelude.{◌≡◌, ℕ, ◌<◌, ◌≤◌, length, get_or, List, ◌++◌, All}
+use Rattle.mk_core.specs.declared.config.Config.{Config}
+use Rattle.mk_core.specs.declared.events.Event.{Event}
+use Rattle.mk_core.specs.Allocations.{PlacedAllocation}
+use Rattle.mk_core.specs.History.{left}
+use Rattle.mk_core.specs.Config.{IsBetween, IsWithinLimits}
+use Rattle.mk_trace.specs.declared.trace.TraceEvent.{TraceEvent}
+use Rattle.mk_trace.specs.declared.trace.TraceEvent.TheVariants.{A, K, F, C, W}
+use Rattle.mk_trace.specs.Playing.{config_of}
+use Rattle.mk_trace.specs.Traces.{Contents}
+
+-- an event is of one of the slots, and a write is to a number of the slot's objects
+abbrev pub IsEventOf : List ℕ → TraceEvent → Type 0
+IsEventOf slots (A slot) = slot < length slots
+IsEventOf slots (K slot) = slot < length slots
+IsEventOf slots (F slot) = slot < length slots
+IsEventOf slots (C slot) = slot < length slots
+IsEventOf slots (W slot index value) = (slot < length slots) × (1 ≤ index) × (index < get_or slots slot 0)
+
+-- It can be played: its heap is within the limits, and its events are of its slots.
+pub record IsPlayable (trace : Contents) : Type 0 where
+  pub slot_count : IsBetween 1 64 (length trace.slots)
+  pub slots : All (IsBetween 1 4096) trace.slots
+  pub events : All (IsEventOf trace.slots) trace.events
+  pub heap : IsWithinLimits (config_of trace)
+
+-- a beginning of the events leaves allocations of this measure
+pub record IsReached (c : Config) (measure : List PlacedAllocation → ℕ) (es : List Event) (n : ℕ) : Type 0 where
+  pub before : List Event
+  pub behind : List Event
+  pub is : es ≡ before ++ behind
+  pub same : n ≡ measure (left c before).allocations
+
+-- The greatest measure is reached, and no beginning of the events passes it.
+pub record IsGreatest (c : Config) (measure : List PlacedAllocation → ℕ) (es : List Event) (n : ℕ) : Type 0 where
+  pub reached : IsReached c measure es n
+  pub above : (before behind : List Event) → es ≡ before ++ behind → measure (left c before).allocations ≤ n

@@ -1,0 +1,9 @@
+pub mod Grammar
+pub mod Laws
+pub mod Lines
+pub mod Peaks
+pub mod Playing
+pub mod Printed
+pub mod Reading
+pub mod Traces
+pub mod Typing

@@ -1,0 +1,118 @@
+-- What a line of a trace's text says, behind those before it, or its first fault: of form and place, numbers and names,
+-- slots that are declared twice, limits.
+use Rattle.std.specs.Prelude.{ℕ, ◌+◌, ◌==◌, if◌then◌else◌, List, [], ◌∷◌, ◌++◌, length, is_some, Option, Some, None, Ok}
+use Rattle.std.specs.Prelude.{Err}
+use Rattle.std.specs.declared.result.Result.{Result}
+use Rattle.std.specs.List.{position}
+use Rattle.std.specs.Str.{bytes_eq}
+use lib.Chars.{codes}
+use Rattle.mk_script.specs.declared.faults.LineFault.{LineFault}
+use Rattle.mk_script.specs.declared.faults.LineFault.TheVariants.{Text}
+use Rattle.mk_script.specs.declared.faults.TextKind.TheVariants as kind
+use Rattle.mk_script.specs.declared.faults.Which.TheVariants as which
+use Rattle.mk_script.specs.Lines.{at_most, within, or_else}
+use Rattle.mk_script.specs.Operands.{◌>>=◌, name, number}
+use Rattle.mk_trace.specs.declared.lines.HeapPages.{HeapPages}
+use Rattle.mk_trace.specs.declared.lines.Slot.{Slot}
+use Rattle.mk_trace.specs.declared.lines.Action.{Action}
+use Rattle.mk_trace.specs.declared.lines.Action.TheVariants.{New, Link, Free, Clear, Write}
+use Rattle.mk_trace.specs.declared.lines.EventLine.{EventLine}
+use Rattle.mk_trace.specs.declared.lines.Line.{Line}
+use Rattle.mk_trace.specs.declared.lines.Line.TheVariants as line
+
+-- what the lines behind the first say so far
+pub record Written : Type 0 where
+  pub slots : List Slot
+  pub events : List EventLine
+
+abbrev pub nothing : Written
+nothing = record { slots = []; events = [] }
+
+abbrev pub with_line : Written → Line → Written
+with_line written (line.Slot slot) = record written { slots = written.slots ++ slot ∷ [] }
+with_line written (line.Event event) = record written { events = written.events ++ event ∷ [] }
+
+abbrev pub unless : {A : Type 0} → Option LineFault → A → Result A LineFault
+unless None x = Ok x
+unless (Some fault) x = Err fault
+
+-- line 1: `trace PAGES RESIDENT`
+
+abbrev pub heap_limit : ℕ → ℕ → Option LineFault
+heap_limit pages resident = or_else (within 1 pages 4096 which.Pages) (within 1 resident pages which.Resident)
+
+abbrev pub heap_pages : List ℕ → List ℕ → Result HeapPages LineFault
+heap_pages pages resident =
+    number pages >>= (λ p. number resident >>= (λ r. unless (heap_limit p r) (record { pages = p; resident = r })))
+
+abbrev pub header_of : List (List ℕ) → Result HeapPages LineFault
+header_of (word ∷ pages ∷ resident ∷ []) =
+    if bytes_eq word (codes "trace") then heap_pages pages resident else Err (Text kind.Header)
+header_of words = Err (Text kind.Header)
+
+-- `slot S WORDS`, before the first event
+
+-- Slots are numbered from 0, in the order of their lines.
+abbrev pub slot_number : List Slot → List ℕ → Option ℕ
+slot_number slots name' = position (λ (slot : Slot). bytes_eq name' slot.name) slots
+
+-- the limit that is passed by a slot of so many words, as the one of this number, counted from 1
+abbrev pub slot_limit : ℕ → ℕ → Option LineFault
+slot_limit count words = or_else (at_most count 64 which.Types) (within 1 words 4096 which.Words)
+
+abbrev pub checked_slot : List Slot → Slot → Result Slot LineFault
+checked_slot before slot =
+    if is_some (slot_number before slot.name)
+    then Err (Text kind.Twice)
+    else unless (slot_limit (length before + 1) slot.words) slot
+
+abbrev pub slot_of : List Slot → List ℕ → List ℕ → Result Slot LineFault
+slot_of before slot words =
+    name slot >>= (λ s. number words >>= (λ n. checked_slot before (record { name = s; words = n })))
+
+abbrev pub slot_line : Written → List (List ℕ) → Result Line LineFault
+slot_line before (slot ∷ words ∷ []) =
+    if length before.events == 0
+    then slot_of before.slots slot words >>= (λ checked. Ok (line.Slot checked))
+    else Err (Text kind.Word)
+slot_line before operands = Err (Text kind.Word)
+
+-- `a S`, `k S`, `f S`, `c S` and `w S i N`, behind the first slot
+
+abbrev pub plain_action : List ℕ → Option Action
+plain_action word =
+    if bytes_eq word (codes "a") then Some New else
+    if bytes_eq word (codes "k") then Some Link else
+    if bytes_eq word (codes "f") then Some Free else
+    if bytes_eq word (codes "c") then Some Clear else None
+
+abbrev pub with_action : Option Action → List ℕ → Result EventLine LineFault
+with_action None slot = Err (Text kind.Word)
+with_action (Some action) slot = name slot >>= (λ s. Ok (record { slot = s; action = action }))
+
+abbrev pub plain_event : List ℕ → List ℕ → Result EventLine LineFault
+plain_event word slot = with_action (plain_action word) slot
+
+abbrev pub write_event : List ℕ → List ℕ → List ℕ → List ℕ → Result EventLine LineFault
+write_event word slot index value =
+    if bytes_eq word (codes "w")
+    then name slot
+    >>= (λ s. number index >>= (λ i. number value >>= (λ n. Ok (record { slot = s; action = Write i n }))))
+    else Err (Text kind.Word)
+
+abbrev pub event_of : List ℕ → List (List ℕ) → Result EventLine LineFault
+event_of word (slot ∷ []) = plain_event word slot
+event_of word (slot ∷ index ∷ value ∷ []) = write_event word slot index value
+event_of word operands = Err (Text kind.Word)
+
+abbrev pub event_line : Written → List ℕ → List (List ℕ) → Result Line LineFault
+event_line before word operands =
+    if length before.slots == 0
+    then Err (Text kind.Word)
+    else event_of word operands >>= (λ event. Ok (line.Event event))
+
+-- a line behind the first
+abbrev pub line_of : Written → List (List ℕ) → Result Line LineFault
+line_of before [] = Err (Text kind.Word)
+line_of before (word ∷ operands) =
+    if bytes_eq word (codes "slot") then slot_line before operands else event_line before word operands

@@ -1,0 +1,87 @@
+-- The peaks of a history: how much was held, quarantined and reserved at most, how many cycles ended, and through how
+-- many of their ends freed objects stayed.
+use Rattle.std.specs.Prelude.{ℕ, ◌+◌, max, Bool, ◌&&◌, nat_lt, ◌==◌, if◌then◌else◌, List, [], ◌∷◌, filter, fold, map}
+use Rattle.std.specs.Prelude.{sum_by}
+use Rattle.mk_never.specs.Types.{kinds_of, is_large}
+use Rattle.mk_core.specs.declared.config.Config.{Config}
+use Rattle.mk_core.specs.declared.events.Event.{Event}
+use Rattle.mk_core.specs.Allocations.{PlacedAllocation, placed_at, storage_words, held_words}
+use Rattle.mk_core.specs.Counts.{ends, in_a_word}
+use Rattle.mk_core.specs.Cycles.{is_end, is_quarantined}
+use Rattle.mk_core.specs.History.{World, first_world, world_behind, left}
+
+-- the storage of the freed and unreleased allocations, and of the large ones among them, whose addresses are reserved
+
+abbrev pub quarantined_words : Config → List PlacedAllocation → ℕ
+quarantined_words c xs = sum_by (storage_words c) (filter is_quarantined xs)
+
+abbrev pub is_reserved : Config → PlacedAllocation → Bool
+is_reserved c a = is_quarantined a && is_large (kinds_of c.types a.ty)
+
+abbrev pub reserved_words : Config → List PlacedAllocation → ℕ
+reserved_words c xs = sum_by (storage_words c) (filter (is_reserved c) xs)
+
+-- the greatest measure of the allocations that a beginning of the events leaves
+unfoldable pub greatest_from : Config → World → (List PlacedAllocation → ℕ) → List Event → ℕ
+greatest_from c w measure [] = measure w.allocations
+greatest_from c w measure (e ∷ es) = max (measure w.allocations) (greatest_from c (world_behind c w e) measure es)
+
+abbrev pub greatest : Config → (List PlacedAllocation → ℕ) → List Event → ℕ
+greatest c measure es = greatest_from c (first_world c) measure es
+
+-- the allocations that each `end` finds
+unfoldable pub found_by_ends_from : Config → World → List Event → List (List PlacedAllocation)
+found_by_ends_from c w [] = []
+found_by_ends_from c w (e ∷ es) =
+    if is_end e.step
+    then w.allocations ∷ found_by_ends_from c (world_behind c w e) es
+    else found_by_ends_from c (world_behind c w e) es
+
+abbrev pub found_by_ends : Config → List Event → List (List PlacedAllocation)
+found_by_ends c es = found_by_ends_from c (first_world c) es
+
+-- The age of an allocation: how many ends find it freed, up to and with the first that finds it released. That is the
+-- end of the cycle that released it.
+abbrev pub age_of : ℕ → List (List PlacedAllocation) → ℕ
+age_of number [] = 0
+age_of number (found ∷ later) =
+    if (placed_at found number).freed
+    then (if (placed_at found number).released then 1 else 1 + age_of number later)
+    else age_of number later
+
+-- the ages of the released ones among these allocations, the first of which has this number
+abbrev pub released_ages : List (List PlacedAllocation) → ℕ → List PlacedAllocation → List ℕ
+released_ages found number [] = []
+released_ages found number (a ∷ xs) =
+    if a.released
+    then in_a_word (age_of number found) ∷ released_ages found (number + 1) xs
+    else released_ages found (number + 1) xs
+
+-- pairs of an age and how many have it, ascending, with one more
+abbrev pub with_age : List (ℕ × ℕ) → ℕ → List (ℕ × ℕ)
+with_age [] age = (age, 1) ∷ []
+with_age (pair ∷ pairs) age =
+    if age == pair.0
+    then (age, pair.1 + 1) ∷ pairs
+    else if nat_lt age pair.0 then (age, 1) ∷ pair ∷ pairs else pair ∷ with_age pairs age
+
+abbrev pub counted : List ℕ → List (ℕ × ℕ)
+counted ages = map (λ (pair : ℕ × ℕ). (pair.0, in_a_word pair.1)) (fold with_age [] ages)
+
+-- What a history alone says. A number above 2^64 - 1 stands there as 2^64 - 1.
+pub record HistoryPeaks : Type 0 where
+  pub held : ℕ
+  pub quarantined : ℕ
+  pub reserved : ℕ
+  pub cycles : ℕ
+  pub ages : List (ℕ × ℕ)
+
+abbrev pub peaks_of : Config → List Event → HistoryPeaks
+peaks_of c es =
+    record {
+      held = in_a_word (greatest c (held_words c) es);
+      quarantined = in_a_word (greatest c (quarantined_words c) es);
+      reserved = in_a_word (greatest c (reserved_words c) es);
+      cycles = in_a_word (ends es);
+      ages = counted (released_ages (found_by_ends c es) 0 (left c es).allocations);
+    }

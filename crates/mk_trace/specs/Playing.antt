@@ -1,0 +1,114 @@
+-- Playing a trace: the operations that its events make, given their answers, on a heap of one caller whose globals are
+-- the slots.
+use Rattle.std.specs.Prelude.{◌≡◌, ℕ, ◌+◌, ◌-◌, Bool, true, false, if◌then◌else◌, List, [], ◌∷◌, ◌++◌, length, map}
+use Rattle.std.specs.Prelude.{replicate, take, drop}
+use Rattle.std.specs.List.{list_any, range_with_len}
+use Rattle.mk_never.specs.declared.types.Kind.{Kind}
+use Rattle.mk_never.specs.declared.types.Kind.TheVariants.{Num, To}
+use Rattle.mk_never.specs.declared.operations.Op.{Op}
+use Rattle.mk_never.specs.declared.operations.Op.TheVariants.{New, Free, SetNum, SetPtr, Clear, GetGlobal, SetGlobal}
+use Rattle.mk_never.specs.NeverHeap.{Call}
+use Rattle.mk_core.specs.declared.config.Config.{Config}
+use Rattle.mk_core.specs.declared.events.Answer.{Answer}
+use Rattle.mk_core.specs.declared.events.Answer.TheVariants as answer
+use Rattle.mk_core.specs.declared.events.Event.{Event}
+use Rattle.mk_core.specs.declared.events.Seat.TheVariants.{Caller}
+use Rattle.mk_core.specs.Calls.{at_rest}
+use Rattle.mk_core.specs.Counts.{is_full_answer, IsTidy}
+use Rattle.mk_core.specs.Decided.{asked, answered}
+use Rattle.mk_core.specs.History.{left, calls, IsHistory, RefinesNever}
+use Rattle.mk_core.specs.Moments.{flight_of}
+use Rattle.mk_trace.specs.declared.trace.TraceEvent.{TraceEvent}
+use Rattle.mk_trace.specs.declared.trace.TraceEvent.TheVariants.{A, K, F, C, W}
+use Rattle.mk_trace.specs.declared.peaks.Peaks.{Peaks}
+use Rattle.mk_trace.specs.Peaks.{HistoryPeaks, peaks_of}
+use Rattle.mk_trace.specs.Traces.{Contents}
+
+-- The type of a slot's objects: a pointer to such an object, and numbers.
+abbrev pub slot_type : ℕ → ℕ → List Kind
+slot_type slot words = To slot 0 ∷ replicate (words - 1) Num
+
+-- the types of slots, the first of which has this number
+abbrev pub types_from : ℕ → List ℕ → List (List Kind)
+types_from slot [] = []
+types_from slot (words ∷ slots) = slot_type slot words ∷ types_from (slot + 1) slots
+
+-- the heap that a trace is played on
+abbrev pub config_of : Contents → Config
+config_of trace =
+    record {
+      pages = trace.pages;
+      resident = trace.resident;
+      callers = 1;
+      markers = 0;
+      types = types_from 0 trace.slots;
+      globals = range_with_len 0 (length trace.slots);
+    }
+
+-- The operations of an event, where a New of its is full, or isn't. Behind each all registers are null.
+abbrev pub ops_of : Bool → TraceEvent → List Op
+ops_of false (A slot) = New 0 slot false ∷ SetGlobal slot 0 ∷ Clear 0 ∷ []
+ops_of false (K slot) =
+    New 0 slot false ∷ GetGlobal 1 slot ∷ SetPtr 0 0 1 ∷ SetGlobal slot 0 ∷ Clear 0 ∷ Clear 1 ∷ []
+ops_of true (A slot) = New 0 slot true ∷ Clear 0 ∷ []
+ops_of true (K slot) = New 0 slot true ∷ Clear 0 ∷ Clear 1 ∷ []
+ops_of full (F slot) = GetGlobal 0 slot ∷ Free 0 ∷ Clear 0 ∷ []
+ops_of full (C slot) = SetGlobal slot 0 ∷ []
+ops_of full (W slot index value) = GetGlobal 0 slot ∷ SetNum 0 index value ∷ Clear 0 ∷ []
+
+-- What the first of these answers says.
+abbrev pub begins_full : List Answer → Bool
+begins_full [] = false
+begins_full (first ∷ answers) = is_full_answer first
+
+-- the operations of the events, where these are the answers
+abbrev pub ops_played : List TraceEvent → List Answer → List Op
+ops_played [] answers = []
+ops_played (event ∷ events) answers =
+    let ops = ops_of (begins_full answers) event in ops ++ ops_played events (drop (length ops) answers)
+
+abbrev pub is_refusal : Answer → Bool
+is_refusal answer.Full = true
+is_refusal answer.Fault = true
+is_refusal answer.Null = true
+is_refusal answer.Double = true
+is_refusal answer' = false
+
+-- how many of the events are refused: one of their own answers is a refusal
+abbrev pub refused_events : List TraceEvent → List Answer → ℕ
+refused_events [] answers = 0
+refused_events (event ∷ events) answers =
+    let count = length (ops_of (begins_full answers) event) in
+    let later = refused_events events (drop count answers) in
+    if list_any is_refusal (take count answers) then later + 1 else later
+
+-- the operations as calls of the one caller
+abbrev pub calls_of_caller : List Op → List Call
+calls_of_caller ops = map (λ (o : Op). record { caller = 0; op = o }) ops
+
+-- A history is what playing the trace makes: it refines the heap that never reuses storage, its calls are those of the
+-- events, in order, and none is under way.
+pub record IsPlayed (trace : Contents) (es : List Event) : Type 0 where
+  pub history : IsHistory (config_of trace) es
+  pub tidy : IsTidy (config_of trace) es
+  pub refines : RefinesNever (config_of trace) es
+  pub ops : asked (calls (config_of trace) es)
+      ≡ calls_of_caller (ops_played trace.events (answered (calls (config_of trace) es)))
+  pub at_rest : flight_of (left (config_of trace) es).now (Caller 0) ≡ at_rest
+
+-- what of the peaks a history alone says
+abbrev pub history_peaks : Peaks → HistoryPeaks
+history_peaks peaks =
+    record {
+      held = peaks.held;
+      quarantined = peaks.quarantined;
+      reserved = peaks.reserved;
+      cycles = peaks.cycles;
+      ages = peaks.ages.items;
+    }
+
+-- The peaks of a trace whose playing made this history.
+pub record ArePeaks (trace : Contents) (es : List Event) (peaks : Peaks) : Type 0 where
+  pub events : peaks.events ≡ length trace.events
+  pub refused : peaks.refused ≡ refused_events trace.events (answered (calls (config_of trace) es))
+  pub of_history : history_peaks peaks ≡ peaks_of (config_of trace) es

@@ -1,0 +1,27 @@
+-- What the reader of lines finds on its way.
+-- Private functions alone cite these words.
+use Rattle.std.specs.Prelude.{◌≡◌, ℕ, List, Ok, Err}
+use Rattle.std.specs.declared.result.Result.{Result}
+use Rattle.mk_script.specs.declared.faults.LineFault.{LineFault}
+use Rattle.mk_trace.specs.declared.faults.TraceStop.{TraceStop}
+use Rattle.mk_trace.specs.declared.lines.Line.{Line}
+use Rattle.mk_trace.specs.Grammar.{text_fault}
+use Rattle.mk_trace.specs.declared.lines.HeapPages.{HeapPages}
+use Rattle.mk_trace.specs.Lines.{Written, with_line, line_of}
+use Rattle.mk_trace.specs.Traces.{trace_of, contents_of}
+
+-- a line has a fault, which is told with the line's number
+pub record IsFaultOf {A : Type 0} (number : ℕ) (found : Result A LineFault) (stop : TraceStop) : Type 0 where
+  pub fault : LineFault
+  pub is_fault : found ≡ Err fault
+  pub told : stop ≡ text_fault number fault
+
+-- a line was read behind others
+pub record ReadsLine (before : Written) (words : List (List ℕ)) (behind : Written) : Type 0 where
+  pub line : Line
+  pub is_line : line_of before words ≡ Ok line
+  pub behind_is : behind ≡ with_line before line
+
+-- the heap and the lines of some text whose lines are of the grammar
+abbrev pub IsReadFrom : HeapPages → Written → Type 0
+IsReadFrom heap written = (text : List ℕ) × (trace_of text ≡ contents_of heap written)

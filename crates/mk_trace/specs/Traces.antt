@@ -1,0 +1,56 @@
+-- A text and its trace, or its first fault.
+use Rattle.std.specs.Prelude.{◌≡◌, ℕ, ◌+◌, ◌==◌, nat_le, if◌then◌else◌, List, [], ◌∷◌, length, map, Ok, Err}
+use Rattle.std.specs.declared.result.Result.{Result}
+use Rattle.mk_script.specs.declared.faults.TextKind.TheVariants as kind
+use Rattle.mk_script.specs.declared.faults.Which.TheVariants as which
+use Rattle.mk_script.specs.Words.{lines_of, words_of}
+use Rattle.mk_trace.specs.declared.faults.TraceStop.{TraceStop}
+use Rattle.mk_trace.specs.declared.faults.TraceStop.TheVariants as stop
+use Rattle.mk_trace.specs.declared.lines.HeapPages.{HeapPages}
+use Rattle.mk_trace.specs.declared.lines.Slot.{Slot}
+use Rattle.mk_trace.specs.declared.trace.TraceEvent.{TraceEvent}
+use Rattle.mk_trace.specs.Lines.{Written, nothing, header_of}
+use Rattle.mk_trace.specs.Grammar.{text_fault, go_on, written_from, events_from}
+
+-- What a trace says: the pages of its heap and how many of them may be resident, how many words the objects of each
+-- slot have, and what is done with the slots.
+pub record Contents : Type 0 where
+  pub pages : ℕ
+  pub resident : ℕ
+  pub slots : List ℕ
+  pub events : List TraceEvent
+
+abbrev pub contents_from : ℕ → ℕ → List ℕ → List TraceEvent → Contents
+contents_from pages resident slots events =
+    record { pages = pages; resident = resident; slots = slots; events = events }
+
+-- goes on with what was read, or ends with its fault
+abbrev pub and_then : {X Y : Type 0} → Result X TraceStop → (X → Result Y TraceStop) → Result Y TraceStop
+and_then (Ok x) next = next x
+and_then (Err stop') next = Err stop'
+
+abbrev pub words_of_slots : List Slot → List ℕ
+words_of_slots slots = map (λ (slot : Slot). slot.words) slots
+
+-- The end of the text, where all lines are of the grammar and within the limits. Without a slot line 1 is the last.
+-- Event lines stand behind that line and those of the slots.
+abbrev pub contents_of : HeapPages → Written → Result Contents TraceStop
+contents_of heap written =
+    if length written.slots == 0
+    then Err (stop.Limit 1 which.Types 0)
+    else and_then (events_from written.slots (length written.slots + 2) written.events [])
+    (λ events. Ok (contents_from heap.pages heap.resident (words_of_slots written.slots) events))
+
+abbrev pub trace_of_lines : List (List ℕ) → Result Contents TraceStop
+trace_of_lines [] = Err (stop.Text 1 kind.Header)
+trace_of_lines (first ∷ lines) =
+    go_on (text_fault 1) (header_of (words_of first))
+    (λ heap. and_then (written_from 2 lines nothing) (contents_of heap))
+
+-- The trace of a text of at most 1,048,576 bytes, or its first fault. All faults of lines come before those of types.
+abbrev pub trace_of : List ℕ → Result Contents TraceStop
+trace_of text =
+    if nat_le (length text) 1048576 then trace_of_lines (lines_of text) else Err (stop.Limit 0 which.Bytes 1048577)
+
+abbrev pub IsOfSomeText : Contents → Type 0
+IsOfSomeText contents = (text : List ℕ) × (trace_of text ≡ Ok contents)

@@ -1,0 +1,35 @@
+-- Which events the types of their slots admit. Word 0 of each slot's objects is a pointer, and the others are numbers.
+use Rattle.std.specs.Prelude.{ℕ, ◌==◌, nat_le, if◌then◌else◌, List, [], get_or, Option, Some, None, Ok, Err}
+use Rattle.std.specs.declared.result.Result.{Result}
+use Rattle.mk_check.specs.declared.typing_faults.TypeKind.{TypeKind}
+use Rattle.mk_check.specs.declared.typing_faults.TypeKind.TheVariants as kind
+use Rattle.mk_trace.specs.declared.lines.Slot.{Slot}
+use Rattle.mk_trace.specs.declared.lines.Action.{Action}
+use Rattle.mk_trace.specs.declared.lines.Action.TheVariants as action
+use Rattle.mk_trace.specs.declared.lines.EventLine.{EventLine}
+use Rattle.mk_trace.specs.declared.trace.TraceEvent.{TraceEvent}
+use Rattle.mk_trace.specs.declared.trace.TraceEvent.TheVariants.{A, K, F, C, W}
+use Rattle.mk_trace.specs.Lines.{slot_number}
+
+abbrev pub write_event : ℕ → ℕ → ℕ → ℕ → Result TraceEvent TypeKind
+write_event slot words index value =
+    if nat_le words index then Err kind.Offset else if index == 0 then Err kind.Kind else Ok (W slot index value)
+
+-- the action on the slot of this number, whose objects have so many words
+abbrev pub event_on : ℕ → ℕ → Action → Result TraceEvent TypeKind
+event_on slot words action.New = Ok (A slot)
+event_on slot words action.Link = Ok (K slot)
+event_on slot words action.Free = Ok (F slot)
+event_on slot words action.Clear = Ok (C slot)
+event_on slot words (action.Write index value) = write_event slot words index value
+
+-- how many words the objects of a slot have
+abbrev pub words_at : List Slot → ℕ → ℕ
+words_at slots slot = (get_or slots slot (record { name = []; words = 0 })).words
+
+abbrev pub on_slot : List Slot → Option ℕ → Action → Result TraceEvent TypeKind
+on_slot slots None action' = Err kind.NoGlobal
+on_slot slots (Some slot) action' = event_on slot (words_at slots slot) action'
+
+abbrev pub typed_event : List Slot → EventLine → Result TraceEvent TypeKind
+typed_event slots event = on_slot slots (slot_number slots event.slot) event.action

@@ -1,0 +1,126 @@
+//! What the lines so far say.
+ghost use Rattle.std.specs.Prelude.{◌≡◌, ◌∷◌, OnOk, position};
+ghost use Rattle.std.specs.Str.{bytes_eq};
+ghost use Rattle.mk_script.specs.Words.{texts_of};
+ghost use Rattle.mk_trace.specs.declared.lines.Slot.{Slot};
+ghost use Rattle.mk_trace.specs.Lines as spec;
+
+use crate::lines::{EventLine, Line, Slot, WORD, event, name, number, slot_limit};
+use mk_script::{LineFault, Name, TextKind};
+use std::alloc::{AllocError, Global};
+use std::marker::Model;
+
+/// The slots and the events of the lines so far.
+#[derive(Drop)]
+pub struct Draft {
+    slots: Vec<Slot>,
+    events: Vec<EventLine>,
+}
+
+impl Model for Draft {
+    ghost use Rattle.mk_trace.specs.Lines.{Written};
+
+    ghost Value = { Written };
+
+    ghost view = { λ d. record { slots = d.slots.items; events = d.events.items } };
+}
+
+impl Draft {
+    pub fn new(alloc: Global) -> Draft
+        ensures { result ≡ spec.nothing }
+    {
+        Draft {
+            slots: Vec::new(alloc),
+            events: Vec::new(alloc),
+        }
+    }
+
+    pub fn slots(&self) -> &[Slot]
+        ensures { result.now ≡ self.now.slots }
+    {
+        self.slots.as_slice()
+    }
+
+    pub fn events(&self) -> &[EventLine]
+        ensures { result.now ≡ self.now.events }
+    {
+        self.events.as_slice()
+    }
+
+    /// What a line of these words says behind these.
+    pub fn line(&self, words: &[&[u8]]) -> Result<Line, LineFault>
+        ensures { result ≡ spec.line_of self.now (texts_of words.now) }
+    {
+        let [word, operands @ ..] = words else {
+            return Err(WORD);
+        };
+        if *word == b"slot".as_slice() {
+            self.slot_line(operands)
+        } else {
+            self.event_line(word, operands)
+        }
+    }
+
+    fn slot_line(&self, operands: &[&[u8]]) -> Result<Line, LineFault>
+        ensures { result ≡ spec.slot_line self.now (texts_of operands.now) }
+    {
+        let [name, words] = operands else {
+            return Err(WORD);
+        };
+        if !self.events.is_empty() {
+            return Err(WORD);
+        }
+        let slot = slot(&self.slots, name, words)?;
+        Ok(Line::Slot(slot))
+    }
+
+    fn event_line(&self, word: &[u8], operands: &[&[u8]]) -> Result<Line, LineFault>
+        ensures { result ≡ spec.event_line self.now word.now (texts_of operands.now) }
+    {
+        if self.slots.is_empty() {
+            return Err(WORD);
+        }
+        let event = event(word, operands)?;
+        Ok(Line::Event(event))
+    }
+
+    /// Adds a line.
+    pub fn push(&mut self, line: Line) -> Result<(), AllocError>
+        ensures { OnOk result (self.new ≡ spec.with_line self.old line) }
+    {
+        match line {
+            Line::Slot(slot) => self.slots.push(slot)?,
+            Line::Event(event) => self.events.push(event)?,
+        }
+        Ok(())
+    }
+}
+
+/// The number of the slot of this name.
+pub fn slot_number(slots: &[Slot], name: &Name) -> Option<usize>
+    ensures { result ≡ spec.slot_number slots.now name.now }
+{
+    slots.iter().position(|slot| name.is(&slot.name))
+}
+
+/// The slot that two words say, where it may stand behind these.
+fn slot(before: &[Slot], word: &[u8], words: &[u8]) -> Result<Slot, LineFault>
+    ensures { result ≡ spec.slot_of before.now word.now words.now }
+{
+    let name = name(word)?;
+    let words = number(words)?;
+    checked_slot(before, Slot { name, words })
+}
+
+/// The slot, where it may stand behind these.
+fn checked_slot(slots: &[Slot], slot: Slot) -> Result<Slot, LineFault>
+    ensures { result ≡ spec.checked_slot slots.now slot }
+{
+    if slot_number(slots, &slot.name).is_some() {
+        return Err(LineFault::Text(TextKind::Twice));
+    }
+    match slot_limit(slots.len() as u64 + 1, slot.words) {
+        None => Ok(slot),
+        Some(fault) => Err(fault),
+    }
+}

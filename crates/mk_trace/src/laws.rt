@@ -1,0 +1,19 @@
+//! Laws of traces and peaks.
+ghost use Rattle.std.specs.Prelude.{ℕ, List};
+ghost use Rattle.mk_core.specs.declared.config.Config.{Config};
+ghost use Rattle.mk_core.specs.declared.events.Event.{Event};
+ghost use Rattle.mk_core.specs.Allocations.{PlacedAllocation};
+ghost use Rattle.mk_trace.specs.Laws.{IsPlayable, IsGreatest};
+ghost use Rattle.mk_trace.specs.Peaks.{greatest};
+ghost use Rattle.mk_trace.specs.Traces.{Contents, IsOfSomeText};
+
+/// A trace of some text can be played: its heap is within the limits, and its events are of its slots.
+pub fn traces_are_playable()
+    ensures { (trace : Contents) → IsOfSomeText trace → IsPlayable trace }
+{}
+
+/// The greatest measure of what a history leaves is over all its beginnings.
+pub fn greatest_is_over_all_beginnings()
+    ensures { (c : Config) (measure : List PlacedAllocation → ℕ) (es : List Event)
+        → IsGreatest c measure es (greatest c measure es) }
+{}

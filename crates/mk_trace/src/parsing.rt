@@ -1,0 +1,108 @@
+//! The reader.
+ghost use Rattle.std.specs.Prelude.{◌≡◌, ◌≢◌, ◌≤◌, ◌<◌, ◌+◌, ◌^◌, List, length, MatchResult, Ok, Err, IfOk, IfErr};
+ghost use Rattle.mk_script.specs.Words.{words_of, texts_of, lines_of};
+ghost use Rattle.mk_trace.specs.Grammar.{written_from};
+ghost use Rattle.mk_trace.specs.Lines.{nothing, header_of, line_of};
+ghost use Rattle.mk_trace.specs.Reading.{IsFaultOf, ReadsLine, IsReadFrom};
+ghost use Rattle.mk_trace.specs.Traces as spec;
+ghost use Rattle.mk_trace.specs.Traces.{trace_of, contents_of};
+
+use crate::draft::Draft;
+use crate::faults::TraceStop;
+use crate::lines::{HeapPages, Slot, header};
+use crate::resolving::events;
+use crate::trace::Trace;
+use mk_script::{TextKind, Which, lines, words};
+use std::alloc::{AllocError, Global};
+
+/// The greatest length of a text, in bytes.
+const TEXT_LIMIT: usize = 1_048_576;
+
+/// The trace of a text, or its first fault: that of the first line that isn't of the grammar or passes a limit, and
+/// where there is none, that of the first event that isn't well typed. `NoMemory` says nothing of the text.
+pub fn parse_trace(alloc: Global, bytes: &[u8]) -> Result<Trace, TraceStop>
+    ensures trace { IfOk result (λ trace. trace_of bytes.now ≡ Ok trace) }
+    ensures fault { IfErr result (λ stop. stop ≢ TraceStop.NoMemory → trace_of bytes.now ≡ Err stop) }
+{
+    if bytes.len() > TEXT_LIMIT {
+        return Err(TraceStop::Limit {
+            line: 0,
+            which: Which::Bytes,
+            found: 1_048_577,
+        });
+    }
+    let lines = lines(alloc, bytes)?;
+    let [first, lines @ ..] = lines.as_slice() else {
+        return Err(TraceStop::Text {
+            line: 1,
+            kind: TextKind::Header,
+        });
+    };
+    let heap = read_header(alloc, first)?;
+    let draft = read_lines(alloc, lines)?;
+    at_end(alloc, heap, &draft)
+}
+
+/// Line 1.
+fn read_header(alloc: Global, line: &[u8]) -> Result<HeapPages, TraceStop>
+    ensures heap { IfOk result (λ heap. header_of (words_of line.now) ≡ Ok heap) }
+    ensures fault { IfErr result (λ stop. stop ≢ TraceStop.NoMemory
+        → IsFaultOf 1 (header_of (words_of line.now)) stop) }
+{
+    let words = words(alloc, line)?;
+    match header(&words) {
+        Ok(heap) => Ok(heap),
+        Err(fault) => Err(TraceStop::at_line(1, fault)),
+    }
+}
+
+/// The lines behind the first.
+fn read_lines(alloc: Global, lines: &[&[u8]]) -> Result<Draft, TraceStop>
+    ensures draft { IfOk result (λ draft. written_from 2 (texts_of lines.now) nothing ≡ Ok draft) }
+    ensures fault { IfErr result (λ stop. stop ≢ TraceStop.NoMemory
+        → written_from 2 (texts_of lines.now) nothing ≡ Err stop) }
+{
+    let mut draft = Draft::new(alloc);
+    for (index, line) in lines.iter().enumerate() {
+        read_line(alloc, index as u64 + 2, &mut draft, line)?;
+    }
+    Ok(draft)
+}
+
+/// Reads a line of this number behind those of the draft.
+fn read_line(alloc: Global, number: u64, draft: &mut Draft, line: &[u8]) -> Result<(), TraceStop>
+    ensures { MatchResult result (λ _. ReadsLine draft.old (words_of line.now) draft.new)
+        (λ stop. stop ≢ TraceStop.NoMemory → IsFaultOf number (line_of draft.old (words_of line.now)) stop) }
+{
+    let words = words(alloc, line)?;
+    match draft.line(&words) {
+        Ok(line) => Ok(draft.push(line)?),
+        Err(fault) => Err(TraceStop::at_line(number, fault)),
+    }
+}
+
+/// The trace, where all lines are of the grammar.
+fn at_end(alloc: Global, heap: HeapPages, draft: &Draft) -> Result<Trace, TraceStop>
+    requires { IsReadFrom heap draft.now }
+    ensures trace { IfOk result (λ trace. contents_of heap draft.now ≡ Ok trace) }
+    ensures fault { IfErr result (λ stop. stop ≢ TraceStop.NoMemory → contents_of heap draft.now ≡ Err stop) }
+{
+    let slots = draft.slots();
+    if slots.is_empty() {
+        return Err(TraceStop::Limit {
+            line: 1,
+            which: Which::Types,
+            found: 0,
+        });
+    }
+    let events = events(alloc, slots.len() as u64 + 2, slots, draft.events())?;
+    let words = words_of_slots(alloc, slots)?;
+    Ok(Trace::from_parts(heap.pages, heap.resident, words, events))
+}
+
+/// How many words the objects of each slot have.
+fn words_of_slots(alloc: Global, slots: &[Slot]) -> Result<Vec<u64>, AllocError>
+    ensures { IfOk result (λ words. words.items ≡ spec.words_of_slots slots.now) }
+{
+    slots.iter().map(|slot| slot.words).collect(alloc)
+}

@@ -1,0 +1,74 @@
+//! Events by the numbers of their slots.
+ghost use Rattle.std.specs.Prelude.{◌≡◌, ◌≢◌, ◌<◌, ◌+◌, ◌^◌, [], length, Ok, Err, IfOk, IfErr};
+ghost use Rattle.mk_trace.specs.Grammar.{events_from};
+ghost use Rattle.mk_trace.specs.Typing as typing;
+
+use crate::draft::slot_number;
+use crate::faults::TraceStop;
+use crate::lines::{Action, EventLine, Slot};
+use crate::trace::TraceEvent;
+use mk_check::TypeKind;
+use std::alloc::{AllocError, Global};
+
+/// The events of lines of which the first has this number.
+pub fn events(
+    alloc: Global,
+    first: u64,
+    slots: &[Slot],
+    lines: &[EventLine],
+) -> Result<Vec<TraceEvent>, TraceStop>
+    requires { first + length lines.now < 2 ^ 64 }
+    ensures events { IfOk result (λ events. events_from slots.now first lines.now [] ≡ Ok events.items) }
+    ensures fault { IfErr result (λ stop. stop ≢ TraceStop.NoMemory
+        → events_from slots.now first lines.now [] ≡ Err stop) }
+{
+    let mut events = Vec::new(alloc);
+    for (index, line) in lines.iter().enumerate() {
+        match event(slots, line) {
+            Ok(event) => events.push(event).map_err(AllocError::from)?,
+            Err(kind) => {
+                return Err(TraceStop::IllTyped {
+                    line: first + index as u64,
+                    kind,
+                });
+            }
+        }
+    }
+    Ok(events)
+}
+
+/// The event that a line says, where its slot's type admits it.
+fn event(slots: &[Slot], line: &EventLine) -> Result<TraceEvent, TypeKind>
+    ensures { result ≡ typing.typed_event slots.now line.now }
+{
+    let Some(number) = slot_number(slots, &line.slot) else {
+        return Err(TypeKind::NoGlobal);
+    };
+    event_on(number as u64, slots[number].words, line.action)
+}
+
+/// What the action is on the slot of this number, whose objects have so many words.
+fn event_on(slot: u64, words: u64, action: Action) -> Result<TraceEvent, TypeKind>
+    ensures { result ≡ typing.event_on slot words action }
+{
+    match action {
+        Action::New => Ok(TraceEvent::A(slot)),
+        Action::Link => Ok(TraceEvent::K(slot)),
+        Action::Free => Ok(TraceEvent::F(slot)),
+        Action::Clear => Ok(TraceEvent::C(slot)),
+        Action::Write { index, value } => write_event(slot, words, index, value),
+    }
+}
+
+/// A write of a number, which word 0 isn't.
+fn write_event(slot: u64, words: u64, index: u64, value: u64) -> Result<TraceEvent, TypeKind>
+    ensures { result ≡ typing.write_event slot words index value }
+{
+    if index >= words {
+        return Err(TypeKind::Offset);
+    }
+    if index == 0 {
+        return Err(TypeKind::Kind);
+    }
+    Ok(TraceEvent::W { slot, index, value })
+}

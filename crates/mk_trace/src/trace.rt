@@ -1,0 +1,92 @@
+//! Traces.
+ghost use Rattle.std.specs.Prelude.{◌≡◌};
+ghost use Rattle.mk_trace.specs.Traces.{contents_from, IsOfSomeText};
+
+use std::marker::Model;
+
+/// What a trace does with a slot. Slots are numbered from 0, in the order of their lines.
+#[derive(Clone, Copy, Debug, PartialEq, Eq)]
+pub enum TraceEvent {
+    /// The slot points to a new object.
+    A(u64),
+    /// The same, and word 0 of the new object holds the slot's old pointer.
+    K(u64),
+    /// The slot's object is freed.
+    F(u64),
+    /// The slot becomes null.
+    C(u64),
+    /// A number is stored into a word of the slot's object.
+    W { slot: u64, index: u64, value: u64 },
+}
+
+/// A trace of some text: its heap's pages and how many of them may be resident, how many words the objects of
+/// each slot have, and what is done with the slots.
+#[derive(Drop)]
+pub struct Trace {
+    pages: u64,
+    resident: u64,
+    slots: Vec<u64>,
+    events: Vec<TraceEvent>,
+}
+
+impl Model for Trace {
+    ghost use Rattle.mk_trace.specs.Traces.{Contents, contents_from, IsOfSomeText};
+
+    ghost Value = { Contents };
+
+    ghost view = { λ t. contents_from t.pages t.resident t.slots.items t.events.items };
+
+    ghost invariant = { λ t. IsOfSomeText (contents_from t.pages t.resident t.slots.items t.events.items) };
+}
+
+impl Trace {
+    /// Its parts, which are those of some text.
+    pub(crate) fn from_parts(
+        pages: u64,
+        resident: u64,
+        slots: Vec<u64>,
+        events: Vec<TraceEvent>,
+    ) -> Trace
+        requires { IsOfSomeText (contents_from pages resident slots.items events.items) }
+        ensures { result ≡ contents_from pages resident slots.items events.items }
+    {
+        Trace {
+            pages,
+            resident,
+            slots,
+            events,
+        }
+    }
+
+    /// The pages of its heap.
+    pub fn pages(&self) -> u64
+        ensures pages { result ≡ self.now.pages }
+        ensures of_some_text { IsOfSomeText self.now }
+    {
+        self.pages
+    }
+
+    /// How many of them may be resident.
+    pub fn resident(&self) -> u64
+        ensures resident { result ≡ self.now.resident }
+        ensures of_some_text { IsOfSomeText self.now }
+    {
+        self.resident
+    }
+
+    /// How many words the objects of each slot have.
+    pub fn slots(&self) -> &[u64]
+        ensures slots { result.now ≡ self.now.slots }
+        ensures of_some_text { IsOfSomeText self.now }
+    {
+        self.slots.as_slice()
+    }
+
+    /// Its events, in the order of their lines.
+    pub fn events(&self) -> &[TraceEvent]
+        ensures events { result.now ≡ self.now.events }
+        ensures of_some_text { IsOfSomeText self.now }
+    {
+        self.events.as_slice()
+    }
+}

@@ -1,0 +1,57 @@
+-- Waiting for the turn, a try after the other.
+use Rattle.std.proofs.Common.{◌≡◌, Bool, true, false, not, ◌||◌, ◌&&◌, List, [], ◌∷◌, ◌++◌, refl, sym, ◌∙◌, ap, subst, append-nil, append_assoc}
+use Rattle.std.specs.Prelude.{Option}
+use Rattle.std.specs.List.{list_all}
+use Rattle.std.proofs.lemmas.Bool.{and_from}
+use Rattle.std.proofs.lemmas.List.Folds.{list_all-append}
+use Rattle.mk_never.specs.declared.operations.Op.{Op}
+use Rattle.mk_core.specs.declared.events.Event.{Event}
+use Rattle.mk_core.specs.declared.events.Step.{Step}
+use Rattle.mk_core.specs.declared.events.Step.TheVariants as step
+use Rattle.mk_core.specs.Growing.{AreOfOthers, is_one_of, is_same_seat}
+use Rattle.mk_words.specs.States.{PassState, event_of}
+use Rattle.mk_words.specs.Steps.{Makes}
+use Rattle.mk_words.proofs.Seats.{same_self}
+use Rattle.mk_waiting.specs.Taking.{is_take, waits_for, Waits}
+
+-- the list of a pass that made a step
+pub joined_lists : (p q r : PassState) (first : List Event) (s : Step) → q ≡ record p { seen = p.seen ++ first }
+    → (m : Makes q s r)
+    → r ≡ record p { seen = p.seen ++ (first ++ (m.others ++ event_of p s ∷ [])) }
+joined_lists p q r first s is m =
+    m.is ∙ ap (λ (x : PassState). record x { seen = x.seen ++ m.others ++ event_of x s ∷ [] }) is
+    ∙ ap (λ (l : List Event). record p { seen = l })
+    (append_assoc (p.seen ++ first) m.others (event_of p s ∷ [])
+    ∙ append_assoc p.seen first (m.others ++ event_of p s ∷ []))
+
+others_wait : (p : PassState) (es : List Event) → AreOfOthers p.seats es → list_all (waits_for p) es ≡ true
+unfolding AreOfOthers
+others_wait p [] h = refl
+others_wait p (e ∷ es) h =
+    and_from (waits_for p e) (list_all (waits_for p) es)
+    (ap (λ (b : Bool). not b || (is_take e.step && is_same_seat e.seat p.seat)) h.0) (others_wait p es h.1)
+
+or_last : (b : Bool) → (b || true) ≡ true
+or_last true = refl
+or_last false = refl
+
+pub waits_none : (p : PassState) → Waits p p
+waits_none p =
+    record { more = []; is = ap (λ (l : List Event). record p { seen = l }) (sym (append-nil p.seen)); only = refl }
+
+pub waits_more : (p q r : PassState) (o : Option Op) → Waits p q → Makes q (step.Take o) r → Waits p r
+waits_more p q r o w m =
+    let e : Event = event_of p (step.Take o) in
+    let others : AreOfOthers p.seats m.others =
+    subst (λ (x : PassState). AreOfOthers x.seats m.others) w.is m.of_others in
+    record {
+      more = w.more ++ (m.others ++ e ∷ []);
+      is = joined_lists p q r w.more (step.Take o) w.is m;
+      only = list_all-append (waits_for p) w.more (m.others ++ e ∷ [])
+          ∙ and_from (list_all (waits_for p) w.more) (list_all (waits_for p) (m.others ++ e ∷ [])) w.only
+          (list_all-append (waits_for p) m.others (e ∷ [])
+          ∙ and_from (list_all (waits_for p) m.others) (list_all (waits_for p) (e ∷ [])) (others_wait p m.others others)
+          (and_from (waits_for p e) true
+          (ap (λ (b : Bool). not (is_one_of p.seats p.seat) || b) (same_self p.seat)
+          ∙ or_last (not (is_one_of p.seats p.seat))) refl));
+    }

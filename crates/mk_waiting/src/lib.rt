@@ -1,0 +1,38 @@
+//! Waiting for the turn.
+#![tactic(auto)]
+
+ghost use Rattle.std.specs.Prelude.{◌≡◌};
+ghost use Rattle.mk_core.specs.declared.events.Step.TheVariants as step;
+ghost use Rattle.mk_core.specs.Counts.{TalliesAreExact, TalliesAreTidy};
+ghost use Rattle.mk_words.specs.Steps.{IsEnabledTo};
+ghost use Rattle.mk_words.specs.TurnSteps.{IsFresh};
+ghost use Rattle.mk_waiting.specs.Taking.{TakesTurn};
+
+use crossbeam_utils::Backoff;
+use mk_never::Op;
+use mk_words::{Pass, Turn, Words};
+use std::sync::Wait;
+
+/// Waits for the turn, and takes it.
+pub fn take_turn<R: Wait>(rt: &R, words: &Words, home: Pass, op: Option<Op>) -> Turn
+    requires one_table { home.table ≡ words.now }
+    requires enabled { IsEnabledTo home (step.Take op) }
+    ensures takes { TakesTurn home op result.pass }
+    ensures op { result.op ≡ op }
+    ensures fresh { IsFresh result.pass op }
+    ensures exact { TalliesAreExact result.pass.table.config result.pass.seen }
+    ensures tidy { TalliesAreTidy result.pass.table.config result.pass.seen }
+{
+    let mut pass = home;
+    let backoff = Backoff::new();
+    'waiting: for _ in rt.forever() {
+        if words.is_turn_free(&mut pass) {
+            match pass.try_take(words, op) {
+                Ok(turn) => return turn,
+                Err((back, _)) => pass = back,
+            }
+        }
+        backoff.snooze();
+    }
+    unreachable!()
+}
