@@ -1,5 +1,5 @@
 -- The texts of the scripts, one behind the other, are all that a run prints.
-use Rattle.std.proofs.Common.{◌≡◌, ℕ, ◌+◌, ◌<◌, suc, List, [], ◌∷◌, ◌++◌, length, false, refl, ap, ◌∙◌, arith}
+use Rattle.std.proofs.Common.{◌≡◌, ℕ, ◌+◌, ◌<◌, suc, List, [], ◌∷◌, ◌++◌, length, Bool, false, refl, ap, ◌∙◌, arith}
 use Rattle.std.specs.List.{flat_map, range_with_len}
 use Rattle.std.specs.Prelude.{slice_index_or}
 use Rattle.mk_core.specs.declared.events.Event.{Event}
@@ -8,10 +8,17 @@ use Rattle.mk_check.specs.declared.text.Text.{Text}
 use Rattle.mk_check.specs.Declarations.{config_of}
 use Rattle.mk_check.specs.Output.{text_behind, output}
 use Rattle.mk_replay.specs.Replays.{AreTextsOf}
+use Rattle.mk_heap.specs.Reports as report
 use Rattle.mk_run.specs.declared.outcomes.Outcome.{Outcome}
 use Rattle.mk_run.specs.Running.{IsRunOf}
+use Rattle.mk_run.specs.Unswept.{IsUnswept}
 use Rattle.mk_run.specs.Headline.{StandsInOneHistory, cycles_go_on}
+use Rattle.mk_run.specs.LastCycle.{EndsWithCycle}
 use Rattle.mk_run.proofs.Headline.{runs_stand_in_one_history, runs_print_their_texts}
+use Rattle.mk_why.specs.declared.kept.Kept.{Kept}
+use Rattle.mk_why.specs.Chains.{AreKept}
+use Rattle.markus.specs.KeptText.{kept_text}
+use Rattle.markus.specs.Outputs.{TellsWhatIsKept}
 
 -- pieces that are those of their places
 pieces : {X A : Type 0} (f : X → List A) (g : ℕ → List A) (a : ℕ) (xs : List X)
@@ -31,10 +38,31 @@ texts_are_printed program es texts are =
     ∙ ap (λ n. flat_map text_of (range_with_len 0 n)) are.count
 
 -- The texts of a run are what its scripts print of one history.
-pub run_is_printed : (program : List Item) (markers : ℕ) (outcome : Outcome) (bytes : List ℕ)
+pub run_is_printed : (program : List Item) (markers : ℕ) (sweep : Bool) (outcome : Outcome) (bytes : List ℕ)
     → IsRunOf (cycles_go_on markers) program markers outcome
+    → (sweep ≡ false → IsUnswept (config_of program markers) (report.history_of outcome.report))
     → bytes ≡ flat_map (λ (text : Text). text.bytes.items) outcome.texts.items
-    → StandsInOneHistory program markers (output program) bytes
-run_is_printed program markers outcome bytes runs are =
-    runs_stand_in_one_history program markers outcome (output program) bytes runs
+    → StandsInOneHistory program markers sweep (output program) bytes
+run_is_printed program markers sweep outcome bytes runs unswept are =
+    runs_stand_in_one_history program markers sweep outcome (output program) bytes runs unswept
     (are ∙ runs_print_their_texts (cycles_go_on markers) program markers outcome runs)
+
+-- With the lines of the entries behind them they tell what was kept in that history's last cycle.
+pub run_is_explained : (program : List Item) (markers : ℕ) (sweep : Bool) (outcome : Outcome) (texts bytes : List ℕ)
+    (entries : List Kept) → IsRunOf (cycles_go_on markers) program markers outcome
+    → (sweep ≡ false → IsUnswept (config_of program markers) (report.history_of outcome.report))
+    → EndsWithCycle (λ c w. AreKept c w entries) (config_of program markers) (report.history_of outcome.report)
+    → texts ≡ flat_map (λ (text : Text). text.bytes.items) outcome.texts.items
+    → bytes ≡ texts ++ kept_text program entries
+    → TellsWhatIsKept program markers sweep bytes
+unfolding runs_stand_in_one_history
+run_is_explained program markers sweep outcome texts bytes entries runs unswept ends are is =
+    let lines = kept_text program entries in
+    let front = are ∙ runs_print_their_texts (cycles_go_on markers) program markers outcome runs in
+    record {
+      entries = entries;
+      stands =
+          runs_stand_in_one_history program markers sweep outcome (λ c es. output program c es ++ lines) bytes runs
+          unswept (is ∙ ap (λ (text : List ℕ). text ++ lines) front);
+      ends_with_cycle = ends;
+    }

@@ -22,6 +22,7 @@ use Rattle.mk_heap.specs.Reports as report
 use Rattle.mk_run.specs.declared.outcomes.Outcome.{Outcome}
 use Rattle.mk_run.specs.Running.{answers_in, IsRunOf}
 use Rattle.mk_run.specs.Headline.{StandsInOneHistory, cycles_go_on}
+use Rattle.mk_run.specs.Unswept.{IsUnswept}
 use Rattle.mk_run.proofs.Headline.{runs_to_its_end, runs_stand_in_one_history}
 use Rattle.markus.specs.Summary.{script_line, total_line, calls_made, line_of, summary}
 use Rattle.markus.specs.SummedTexts.{line_of_text, lines_from, all_ops, summary_of_texts, AreFew}
@@ -139,6 +140,8 @@ module _ (start count markers : ℕ) (outcome : Outcome)
       ∙ ap (λ (n : ℕ). flat_map (line_of program c es) (range_with_len 0 (length texts)) ++ total_line n) sums
       ∙ ap (λ (n : ℕ). flat_map (line_of program c es) (range_with_len 0 n) ++ total_line (sum_by (calls_made c es) (range_with_len 0 n))) counted
 
-  pub run_is_summed : (bytes : List ℕ) → bytes ≡ summary_of_texts outcome.texts.items
-      → StandsInOneHistory program markers (summary program) bytes
-  run_is_summed bytes is = runs_stand_in_one_history program markers outcome (summary program) bytes runs (is ∙ summary_is)
+  pub run_is_summed : IsUnswept c es → (bytes : List ℕ) → bytes ≡ summary_of_texts outcome.texts.items
+      → StandsInOneHistory program markers false (summary program) bytes
+  run_is_summed unswept bytes is =
+      runs_stand_in_one_history program markers false outcome (summary program) bytes runs (λ none. unswept)
+      (is ∙ summary_is)

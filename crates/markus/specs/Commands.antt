@@ -3,9 +3,9 @@ use Rattle.std.specs.Prelude.{ℕ, ◌≤◌, ◌&&◌, ◌||◌, nat_lt, nat_le
 use Rattle.std.specs.Str.{bytes_eq}
 use lib.Chars.{codes}
 use Rattle.markus.specs.declared.commands.Command.{Command}
-use Rattle.markus.specs.declared.commands.Command.TheVariants.{OnText, Gen, Trace}
+use Rattle.markus.specs.declared.commands.Command.TheVariants.{OnText, Gen}
 use Rattle.markus.specs.declared.commands.TextCommand.{TextCommand}
-use Rattle.markus.specs.declared.commands.TextCommand.TheVariants.{Run, Check, Print, Replay}
+use Rattle.markus.specs.declared.commands.TextCommand.TheVariants.{Run, Check, Print, Replay, Trace}
 use Rattle.markus.specs.declared.given.Given.{Given}
 use Rattle.markus.specs.Given.{given_by}
 
@@ -43,7 +43,7 @@ command_named name g =
     else if bytes_eq name (codes "print") then alone_of (OnText Print) g
     else if bytes_eq name (codes "replay") then alone_of (OnText Replay) g
     else if bytes_eq name (codes "gen") then gen_of g
-    else if bytes_eq name (codes "trace") then alone_of Trace g
+    else if bytes_eq name (codes "trace") then alone_of (OnText Trace) g
     else None
 
 -- There are no more markers than a heap has.
@@ -52,12 +52,12 @@ AreWithin (Run options) = options.markers ≤ 8
 AreWithin Check = Unit {0}
 AreWithin Print = Unit {0}
 AreWithin Replay = Unit {0}
+AreWithin Trace = Unit {0}
 
 -- A program that is generated makes no more turns than a script may have.
 abbrev pub IsWithin : Command → Type 0
 IsWithin (OnText on_text) = AreWithin on_text
 IsWithin (Gen request) = (request.count ≤ 3000000) × (request.markers ≤ 8)
-IsWithin Trace = Unit {0}
 
 -- The command of the words: the first names it, and the others are its numbers and options. `--markers K` and
 -- `--markers=K` may stand anywhere behind the name. Behind `--` there are no options.

@@ -1,5 +1,5 @@
 -- What a command writes, and the status that it ends with where nothing fails.
-use Rattle.std.specs.Prelude.{◌≡◌, ℕ, ◌==◌, ◌&&◌, not, List, [], if◌then◌else◌, Option, Some, None, IfSome, Ok as Accepted, Err as Refused, ◌⊎◌}
+use Rattle.std.specs.Prelude.{◌≡◌, ℕ, Bool, true, false, List, [], ◌++◌, Option, Some, None, IfSome, Ok as Accepted, Err as Refused, ◌⊎◌}
 use Rattle.std.specs.declared.result.Result.{Result}
 use lib.Chars.{codes}
 use Rattle.mk_script.specs.declared.items.Item.{Item}
@@ -15,26 +15,29 @@ use Rattle.mk_check.specs.Output.{output as output_behind}
 use Rattle.mk_core.specs.History.{AreEnabled}
 use Rattle.mk_theorems.specs.Promises.{KeepsAllPromises}
 use Rattle.mk_run.specs.Headline.{StandsInOneHistory}
+use Rattle.mk_run.specs.LastCycle.{EndsWithCycle}
+use Rattle.mk_why.specs.declared.kept.Kept.{Kept}
+use Rattle.mk_why.specs.Chains.{AreKept}
 use Rattle.mk_replay.specs.declared.schedule.Entry.{Entry}
 use Rattle.mk_replay.specs.declared.replaying.ReplayStop.{ReplayStop}
 use Rattle.mk_replay.specs.declared.replaying.ReplayStop.TheVariants as replay
 use Rattle.mk_replay.specs.Schedules.{replay_of}
 use Rattle.mk_replay.specs.Replays.{history_of, refusal_of}
 use Rattle.mk_gen.specs.Generated.{generated}
+use Rattle.mk_trace.specs.declared.faults.TraceStop.{TraceStop}
+use Rattle.mk_trace.specs.declared.faults.TraceStop.TheVariants as trace
+use Rattle.mk_trace.specs.Traces.{Contents, trace_of}
 use Rattle.markus.specs.declared.commands.Command.{Command}
 use Rattle.markus.specs.declared.commands.Command.TheVariants as asked
 use Rattle.markus.specs.declared.commands.TextCommand.{TextCommand}
-use Rattle.markus.specs.declared.commands.TextCommand.TheVariants.{Run, Check, Print, Replay}
+use Rattle.markus.specs.declared.commands.TextCommand.TheVariants.{Run, Check, Print, Replay, Trace}
 use Rattle.markus.specs.declared.commands.Options.{Options}
 use Rattle.markus.specs.declared.commands.Request.{Request}
 use Rattle.markus.specs.declared.statuses.Status.{Status}
 use Rattle.markus.specs.declared.statuses.Status.TheVariants.{Ok, NoMemory, Text, IllTyped, Limit, NotEnabled, NotBuilt}
 use Rattle.markus.specs.Commands.{command_of}
+use Rattle.markus.specs.KeptText.{kept_text}
 use Rattle.markus.specs.Summary.{summary}
-
--- Scripts run without a report on what was kept so far.
-abbrev pub status_of_options : Options → Status
-status_of_options o = if o.why then NotBuilt else Ok
 
 -- where a program is well typed, this status; else that of its least ill-typed line
 abbrev pub typed_or : Option TypingFault → Status → Status
@@ -43,10 +46,11 @@ typed_or (Some fault) status = IllTyped fault.line fault.kind
 
 -- To be printed a program needn't be well typed.
 abbrev pub status_of_program : TextCommand → List Item → Status
-status_of_program (Run options) program = typed_or (first_typing_fault program) (status_of_options options)
+status_of_program (Run options) program = typed_or (first_typing_fault program) Ok
 status_of_program Check program = typed_or (first_typing_fault program) Ok
 status_of_program Print program = Ok
 status_of_program Replay program = typed_or (first_typing_fault program) Ok
+status_of_program Trace program = Ok
 
 abbrev pub status_of_text_stop : TextStop → Status
 status_of_text_stop (stop.Text line kind) = Text line kind
@@ -75,17 +79,47 @@ abbrev pub status_of_replay : Result (List Item × List Entry) TextStop → Stat
 status_of_replay (Accepted parts) = status_of_schedule parts.0 parts.1
 status_of_replay (Refused stop) = status_of_text_stop stop
 
+abbrev pub status_of_trace_stop : TraceStop → Status
+status_of_trace_stop (trace.Text line kind) = Text line kind
+status_of_trace_stop (trace.IllTyped line kind) = IllTyped line kind
+status_of_trace_stop (trace.Limit line which found) = Limit line which found
+status_of_trace_stop trace.NoMemory = NoMemory
+
+-- A trace without a fault isn't played yet.
+abbrev pub status_of_trace : Result Contents TraceStop → Status
+status_of_trace (Accepted contents) = NotBuilt
+status_of_trace (Refused stop) = status_of_trace_stop stop
+
 -- the status of a command on an input, where nothing fails
 abbrev pub status_on : TextCommand → List ℕ → Status
 status_on Replay input = status_of_replay (replay_of input)
+status_on Trace input = status_of_trace (trace_of input)
 status_on command input = status_of_text command (program_of input)
 
--- With `run` the program's replies stand in one history of its heap, and what its scripts print of it is written.
+-- What a run prints that tells why objects are kept. The program's replies stand in one history of its heap, and what
+-- its scripts print of it is written, whole, and behind that the lines of the entries. In this history a cycle is begun
+-- and ended behind the last step of every script, in one turn of the host. The entries are those of its `close`, the last
+-- one of all: each object that was freed before this cycle and is marked, with a shortest chain from a register or a
+-- global to it.
+pub record TellsWhatIsKept (program : List Item) (markers : ℕ) (sweep : Bool) (output : List ℕ) : Type 0 where
+  pub entries : List Kept
+  pub stands :
+      StandsInOneHistory program markers sweep (λ c es. output_behind program c es ++ kept_text program entries) output
+  pub ends_with_cycle : EndsWithCycle (λ c w. AreKept c w entries) (config_of program markers) stands.history
+
+-- What a run prints, asked why objects are kept or not: without that, its program's replies stand in one history of its
+-- heap, and what its scripts print of it is written.
+abbrev pub IsOutputOfRun : Bool → List Item → ℕ → Bool → List ℕ → Type 0
+IsOutputOfRun true program markers sweep output = TellsWhatIsKept program markers sweep output
+IsOutputOfRun false program markers sweep output = StandsInOneHistory program markers sweep (output_behind program) output
+
 abbrev pub IsOutputOf : TextCommand → List Item → List ℕ → Type 0
-IsOutputOf (Run options) program output = StandsInOneHistory program options.markers (output_behind program) output
+IsOutputOf (Run options) program output =
+    IsOutputOfRun options.why program options.markers options.sweep output
 IsOutputOf Check program output = output ≡ codes "ok\n"
 IsOutputOf Print program output = output ≡ canonical_text program
 IsOutputOf Replay program output = ⊥
+IsOutputOf Trace program output = ⊥
 
 -- what a command on a program writes on one that it accepts
 pub record IsOutputOnProgram (command : TextCommand) (input output : List ℕ) : Type 0 where
@@ -107,6 +141,7 @@ pub record IsOutputOnSchedule (input output : List ℕ) : Type 0 where
 -- what a command writes on an input that it accepts
 abbrev pub IsOutput : TextCommand → List ℕ → List ℕ → Type 0
 IsOutput Replay input output = IsOutputOnSchedule input output
+IsOutput Trace input output = ⊥
 IsOutput command input output = IsOutputOnProgram command input output
 
 -- An input was read from the source to its end, and this is what the command writes on it. Where the source doesn't
@@ -122,12 +157,11 @@ pub record IsOutputOfRequest (request : Request) (old new : Option (List ℕ)) (
   pub unread : new ≡ old
   pub output_is :
       let program = generated request.start request.count in
-      StandsInOneHistory program request.markers (summary program) output
+      StandsInOneHistory program request.markers false (summary program) output
 
 abbrev pub Answers : Command → Option (List ℕ) → Option (List ℕ) → List ℕ → Type 0
 Answers (asked.OnText on_text) old new output = IsOutputOnSource on_text old new output
 Answers (asked.Gen request) old new output = IsOutputOfRequest request old new output
-Answers asked.Trace old new output = ⊥
 
 -- W holds of what the words' command writes, where the source had one list of bytes left, and then the other.
 pub record HasAnswered (words : List (List ℕ)) (old new : Option (List ℕ)) (W : List ℕ → Type 0) : Type 0 where
@@ -142,7 +176,6 @@ abbrev pub IsStatusOf : Command → Option (List ℕ) → Status → Type 0
 IsStatusOf (asked.OnText on_text) (Some input) status = (status ≡ NoMemory) ⊎ (status ≡ status_on on_text input)
 IsStatusOf (asked.OnText on_text) None status = Unit {0}
 IsStatusOf (asked.Gen request) left status = (status ≡ NoMemory) ⊎ (status ≡ Ok)
-IsStatusOf asked.Trace left status = status ≡ NotBuilt
 
 abbrev pub IsStatusOn : Option Command → Option (List ℕ) → Status → Type 0
 IsStatusOn (Some command) left status = IsStatusOf command left status

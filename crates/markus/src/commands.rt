@@ -7,8 +7,6 @@ pub enum Command {
     OnText(TextCommand),
     /// Runs a generated program, and sums up.
     Gen(Request),
-    /// Plays a trace.
-    Trace,
 }
 
 #[derive(Clone, Copy, Debug, PartialEq, Eq)]
@@ -21,6 +19,8 @@ pub enum TextCommand {
     Print,
     /// Runs the schedule behind a text.
     Replay,
+    /// Plays a text's trace.
+    Trace,
 }
 
 /// How scripts are run.

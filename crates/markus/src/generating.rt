@@ -1,5 +1,5 @@
 //! Generated programs, and what is told of their runs.
-ghost use Rattle.std.specs.Prelude.{◌≡◌, ◌≤◌, ◌⊎◌, ◌++◌, length, string_bytes, IfOk, IfErr, OnOk};
+ghost use Rattle.std.specs.Prelude.{◌≡◌, ◌≤◌, ◌⊎◌, ◌++◌, length, string_bytes, IfOk, IfErr, OnOk, false};
 ghost use Rattle.mk_gen.specs.Generated.{generated};
 ghost use Rattle.mk_run.specs.Headline.{StandsInOneHistory};
 ghost use Rattle.markus.specs.Commands.{IsWithin};
@@ -28,7 +28,7 @@ pub fn summed<P: Pace + Sync, R: Threads + Wait + Sync>(
 ) -> Result<Vec<u8>, Status>
     requires { IsWithin (Command.Gen request) }
     ensures ok { IfOk result (λ output. StandsInOneHistory (generated request.start request.count) request.markers
-        (summary (generated request.start request.count)) output.items) }
+        false (summary (generated request.start request.count)) output.items) }
     ensures refused { IfErr result (λ status. status ≡ Status.NoMemory) }
     ensures of_text { IfErr result (λ status. IsOfText status) }
 {
@@ -47,7 +47,7 @@ fn run<P: Pace + Sync, R: Threads + Wait + Sync>(
 ) -> Result<Vec<u8>, NoMemory>
     requires { IsWithin (Command.Gen request) }
     ensures { IfOk result (λ bytes. StandsInOneHistory (generated request.start request.count) request.markers
-        (summary (generated request.start request.count)) bytes.items) }
+        false (summary (generated request.start request.count)) bytes.items) }
 {
     let program = generate(alloc, request.start, request.count)?;
     let outcome = outcome_of(rt, alloc, &program, request.markers, false, pace)?;

@@ -11,8 +11,9 @@ use crate::commands::{Command, Options, TextCommand};
 use crate::generating::summed;
 use crate::refusals::{text_refusal, type_refusal};
 use crate::replays::replayed;
-use crate::running::printed;
+use crate::running::told;
 use crate::statuses::Status;
+use crate::traces::trace_status;
 use mk_check::check;
 use mk_io::{ReadStop, Source, read_all};
 use mk_run::Pace;
@@ -45,7 +46,6 @@ pub fn output_of<S: Source, P: Pace + Sync, R: Threads + Wait + Sync>(
             output_on(rt, alloc, command, &text, pace)
         }
         Command::Gen(request) => summed(rt, alloc, request, pace),
-        Command::Trace => Err(Status::NotBuilt),
     }
 }
 
@@ -90,6 +90,7 @@ fn output_on<P: Pace + Sync, R: Threads + Wait + Sync>(
         TextCommand::Check => accept(alloc, read(alloc, text)?),
         TextCommand::Print => canonical(alloc, read(alloc, text)?),
         TextCommand::Replay => replayed(alloc, text),
+        TextCommand::Trace => Err(trace_status(alloc, text)),
     }
 }
 
@@ -128,7 +129,7 @@ fn accept(alloc: Global, program: Program) -> Result<Vec<u8>, Status>
     }
 }
 
-/// What a program's scripts print.
+/// What a program's scripts print, and behind it, where this is asked, what the last cycle kept and why.
 fn run<P: Pace + Sync, R: Threads + Wait + Sync>(
     rt: &R,
     alloc: Global,
@@ -147,10 +148,7 @@ fn run<P: Pace + Sync, R: Threads + Wait + Sync>(
         Ok(checked) => checked,
         Err(stop) => return Err(type_refusal(stop)),
     };
-    if options.why {
-        return Err(Status::NotBuilt);
-    }
-    match printed(rt, alloc, &checked, options.markers, options.sweep, pace) {
+    match told(rt, alloc, &checked, options, pace) {
         Ok(output) => Ok(output),
         Err(_) => Err(Status::NoMemory),
     }

@@ -6,13 +6,14 @@ mod conditions;
 mod cycles;
 mod geometry;
 mod memory;
+mod paces;
 mod texts;
 mod walks;
 
 use crate::statuses::Status;
 use crate::top::markus;
 use mk_io::{MemSink, MemSource};
-use mk_run::NoPace;
+use mk_run::{NoPace, Pace};
 use std::alloc::{AllocError, Global};
 use std::sync::Wait;
 use std::test::Fail;
@@ -25,8 +26,8 @@ const FIRST_RUN: &[u8] = b"heap 1 1\ntype A n*32\nscript s\nptr p A\nnum n\nnew 
 /// Commands, the lines of a text with `/` for a newline, and what is written, or the line that is told. They are: the first
 /// script; a refused load; a full heap; a loop of two rounds and a branch; a dangling load; a load from a freed run; a second
 /// free; scripts without instructions; options; a script of as many instructions as one may execute; a canonical text; a
-/// schedule with a load of a global before the store and one behind, that ends within a call of `s`; the smallest generated
-/// program; and what isn't built yet.
+/// schedule with a load of a global before the store and one behind, that ends within a call of `s`; and the smallest generated
+/// program.
 const RUNS: &str = "\
 run | heap 1 1/type A n*32/script s/ptr p A/num n/new p A/const n 7/setn p 1 n/const n 0/\
     getn n p 1/print n/ -> script s/7/
@@ -42,7 +43,6 @@ run | heap 1 1/type A n p:A+0/script s/ptr p A -> script s/
 run | heap 1 1/script s/script t/ -> script s/script t/
 run --markers 1 | heap 1 1/script s/ -> script s/
 run --sweep | heap 1 1/script s/ -> script s/
-run --why --sweep | heap 1 1/script s/ -> not built/
 run --markers=0 -- | heap 1 1/script s/ -> script s/
 check | heap 1 1/type A n/script s/ptr p A/num n/const n 3/new p A/repeat 2/setn p 0 n/const n 0/\
     getn n p 0/if n/print n/else/new p A/end/end/ -> ok/
@@ -57,7 +57,6 @@ gen 0 48 |  -> script s0 ops 12 refused 0/script s1 ops 12 refused 0/script s2 o
     script s3 ops 12 refused 0/total 48/
 gen 0 --markers 1 48 |  -> script s0 ops 12 refused 0/script s1 ops 12 refused 0/script s2 ops 12 refused 0/\
     script s3 ops 12 refused 0/total 48/
-trace |  -> not built/
 ";
 
 /// Words of no form, a row each. `run` alone and `check --` are of one.
@@ -124,6 +123,16 @@ fn run<R: Threads + Wait + Sync>(
     alloc: Global,
     case: &Case,
 ) -> Result<(Status, Vec<u8>), AllocError> {
+    run_at(rt, alloc, case, &NoPace)
+}
+
+/// The same at a pace.
+fn run_at<P: Pace + Sync, R: Threads + Wait + Sync>(
+    rt: &R,
+    alloc: Global,
+    case: &Case,
+    pace: &P,
+) -> Result<(Status, Vec<u8>), AllocError> {
     let mut words = Vec::new(alloc);
     for word in case.words {
         words.push(String::from_str(alloc, word)?)?;
@@ -133,7 +142,7 @@ fn run<R: Threads + Wait + Sync>(
     let (chunk, fails) = case.sink;
     let mut sink = MemSink::new(alloc, chunk.max(1), fails.to_vec(alloc)?);
     sink.reserve(4096).map_err(|_| AllocError)?;
-    let status = markus(rt, alloc, &words, &mut source, &mut sink, &NoPace);
+    let status = markus(rt, alloc, &words, &mut source, &mut sink, pace);
     Ok((status, sink.bytes().to_vec(alloc)?))
 }
 

@@ -15,12 +15,14 @@ use std::alloc::Global;
 use std::sync::Wait;
 use std::thread::Threads;
 
-/// Does all that the program does. With the word `run`, `check`, `print` or `replay` it reads a text from the source, and
-/// writes to the sink what its scripts print, the line `ok`, its canonical text, or what its scripts have printed when
-/// the schedule behind it ends. With `gen START COUNT` it reads nothing, runs the program that is generated, and sums up.
-/// The whole output is made before the first write.
+/// Does all that the program does. With the word `run`, `check`, `print`, `replay` or `trace` it reads a text from the
+/// source, and writes to the sink what its scripts print, the line `ok`, its canonical text, what its scripts have printed
+/// when the schedule behind it ends, or the peaks of its trace. Behind what the scripts print `run --why` tells which freed
+/// objects are kept, and by which pointers. With `gen START COUNT` it reads nothing, runs the program that is generated,
+/// and sums up. The whole output is made before the first write.
 ///
-/// Each script runs on a thread of its own, and the pace is told of each of its memory instructions.
+/// Each script runs on a thread of its own, and the pace is told of each of its memory instructions. A trace is played on
+/// the calling thread.
 ///
 /// Where the source doesn't tell its bytes, or the sink what it took, the clauses on these say nothing, as with standard
 /// input and output.
@@ -34,7 +36,8 @@ pub fn markus<S: Source, K: Sink, P: Pace + Sync, R: Threads + Wait + Sync>(
 ) -> Status
     // What the command writes was written: on the text that was read to its end, which it accepts, or, with `gen`, of the
     // program that it generates. With `run` and `gen` the replies of the program's scripts stand in one history of a heap
-    // that never reuses storage, each script's operations there once and in order.
+    // that never reuses storage, each script's operations there once and in order. With `run --why` the entries are those
+    // of the cycle with which that history ends, and with `trace` the peaks are those of the history that playing makes.
     ensures ok { result ≡ Status.Ok →
         HasAnswered (map (λ word. string_bytes word) words.now) (S.left source.old) (S.left source.new) (Appends (K.taken sink.old) (K.taken sink.new)) }
     ensures part { result ≡ Status.WriteFault →

@@ -79,7 +79,7 @@ pub fn command_in(words: &[String]) -> Option<Command>
     } else if name == "gen" {
         generate(given)
     } else if name == "trace" {
-        alone(Command::Trace, given)
+        alone(Command::OnText(TextCommand::Trace), given)
     } else {
         None
     }

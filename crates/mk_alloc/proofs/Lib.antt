@@ -22,3 +22,4 @@ pub mod SeekingTurns
 pub mod FullTurns
 pub mod CountedFulls
 pub mod NewTurns
+pub mod UnsweptTurns

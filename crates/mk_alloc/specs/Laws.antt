@@ -1,4 +1,4 @@
--- The turns of a caller stay exact, whatever its next call is.
+-- The turns of a caller stay exact, whatever its next call is, and its calls sweep nothing.
 use Rattle.std.specs.Prelude.{Bool, List}
 use Rattle.mk_never.specs.declared.operations.Op.{Op}
 use Rattle.mk_core.specs.declared.config.Config.{Config}
@@ -9,6 +9,7 @@ use Rattle.mk_core.specs.Growing.{Grows}
 use Rattle.mk_words.specs.States.{PassState}
 use Rattle.mk_caller.specs.Called.{Called}
 use Rattle.mk_caller.specs.Causes.{FindsGateHeld}
+use Rattle.mk_turns.specs.Sweeping.{SweepsNothing}
 use Rattle.mk_words.specs.Seats.{Has}
 use Rattle.mk_alloc.specs.TurnCalls.{CalledInTurn}
 use Rattle.mk_alloc.specs.TurnCycles.{TurnsOfAreExact}
@@ -37,3 +38,11 @@ abbrev pub StayExactBehindOthers : Type 0
 StayExactBehindOthers =
     (on : Bool) (c : Config) (s : Seat) (seats : List Seat) (es fs : List Event) → Has seats s → Grows seats es fs
     → TurnsOfAreExact on c s es → TurnsOfAreExact on c s fs
+
+-- A call with `enter` and `leave` makes no sweeping mark, nor does one that finds its gate held.
+
+abbrev pub CallsSweepNothing : Type 0
+CallsSweepNothing = (p : PassState) (o : Op) (a : Answer) (q : PassState) → Called p o a q → SweepsNothing p q
+
+abbrev pub SweepNothingWhereHeld : Type 0
+SweepNothingWhereHeld = (p : PassState) (o : Op) (q : PassState) → Has p.seats p.seat → FindsGateHeld p o q → SweepsNothing p q

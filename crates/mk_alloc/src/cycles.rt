@@ -1,5 +1,6 @@
 //! The cycle that a free begins where it is due.
-ghost use Rattle.std.specs.Prelude.{◌≡◌, length};
+ghost use Rattle.std.specs.Prelude.{◌≡◌, length, false};
+ghost use Rattle.mk_turns.specs.Sweeping.{SweepsNothing};
 ghost use Rattle.mk_alloc.specs.DueCycles.{EndsOlder, RunsCycle, RunsIfDue};
 ghost use Rattle.mk_alloc.specs.Underway.{IsQuiet};
 
@@ -24,6 +25,7 @@ fn finish_older<E: Engine, R: Threads + Wait + Sync>(
     ensures made_for { E.made_for bench.new.engine ≡ E.made_for bench.old.engine }
     ensures book { length bench.new.book ≡ length bench.old.book }
     ensures ends { EndsOlder turn.pass result.pass }
+    ensures reached { E.sweeps ≡ false → SweepsNothing turn.pass result.pass }
 {
     let mut turn = turn;
     if is_cycle_on(words, &mut turn) {
@@ -49,6 +51,7 @@ fn run_cycle<E: Engine, R: Threads + Wait + Sync>(
     ensures made_for { E.made_for bench.new.engine ≡ E.made_for bench.old.engine }
     ensures book { length bench.new.book ≡ length bench.old.book }
     ensures runs { RunsCycle E.on turn.pass result.pass }
+    ensures reached { E.sweeps ≡ false → SweepsNothing turn.pass result.pass }
 {
     turn.is_in_order();
     let mut turn = finish_older(rt, words, turn, bench);
@@ -77,6 +80,7 @@ pub(crate) fn run_if_due<E: Engine, R: Threads + Wait + Sync>(
     ensures made_for { E.made_for bench.new.engine ≡ E.made_for bench.old.engine }
     ensures book { length bench.new.book ≡ length bench.old.book }
     ensures runs { RunsIfDue E.on due turn.pass result.pass }
+    ensures reached { E.sweeps ≡ false → SweepsNothing turn.pass result.pass }
 {
     if due {
         run_cycle(rt, words, turn, bench)

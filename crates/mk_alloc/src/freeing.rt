@@ -1,7 +1,8 @@
 //! Freeing objects.
-ghost use Rattle.std.specs.Prelude.{◌≡◌, ◌<◌, ◌∷◌, [], IfOk, OnErr, true, length};
+ghost use Rattle.std.specs.Prelude.{◌≡◌, ◌<◌, ◌∷◌, [], IfOk, OnErr, true, false, length};
 ghost use Rattle.mk_never.specs.Admitted.{IsBase};
 ghost use Rattle.mk_caller.specs.States.{number_of, value_of};
+ghost use Rattle.mk_turns.specs.Sweeping.{SweepsNothing};
 ghost use Rattle.mk_alloc.specs.TurnCalls.{FreesObject, IsAnsweredDouble};
 
 use crate::cycles::run_if_due;
@@ -33,6 +34,7 @@ pub fn free_object<E: Engine, R: Threads + Wait + Sync>(
     ensures book { length bench.new.book ≡ length bench.old.book }
     ensures freed { IfOk result (λ freed. FreesObject E.on caller.old.pass p freed.due caller.new.pass) }
     ensures double { OnErr result (IsAnsweredDouble E.on caller.old.pass p caller.new.pass) }
+    ensures reached { E.sweeps ≡ false → SweepsNothing caller.old.pass caller.new.pass }
 {
     caller.is_idle();
     let words = caller.words();

@@ -1,5 +1,6 @@
 //! What calls leave of the turns before: facts alone, with no code.
 ghost use Rattle.mk_alloc.specs.Laws.{StayExactBehindCalls, StayExactWhereHeld, StayExactBehindTurns, StayExactBehindOthers};
+ghost use Rattle.mk_alloc.specs.Laws.{CallsSweepNothing, SweepNothingWhereHeld};
 
 /// A caller's turns stay exact, whatever its next call is, and whatever others do.
 pub fn turns_stay_exact()
@@ -7,4 +8,10 @@ pub fn turns_stay_exact()
     ensures held { StayExactWhereHeld }
     ensures turns { StayExactBehindTurns }
     ensures others { StayExactBehindOthers }
+{}
+
+/// A caller's calls without a turn make no sweeping mark.
+pub fn calls_sweep_nothing()
+    ensures calls { CallsSweepNothing }
+    ensures held { SweepNothingWhereHeld }
 {}

@@ -3,6 +3,7 @@ ghost use Rattle.std.specs.Prelude.{◌≡◌, ◌<◌, ◌∷◌, [], OnOk, IfE
 ghost use Rattle.mk_never.specs.declared.operations.Op.TheVariants as op;
 ghost use Rattle.mk_core.specs.declared.events.Answer.TheVariants as answer;
 ghost use Rattle.mk_caller.specs.States.{number_of};
+ghost use Rattle.mk_turns.specs.Sweeping.{SweepsNothing};
 ghost use Rattle.mk_alloc.specs.TurnCalls.{CalledInTurn, IsAnsweredFull};
 
 use crate::fulls::answer_full;
@@ -44,6 +45,7 @@ pub fn new_object<E: Engine, R: Threads + Wait + Sync>(
     ensures made { OnOk result (CalledInTurn E.on caller.old.pass (op.New d ty false) answer.Done caller.new.pass) }
     ensures full { IfErr result (λ full.
         IsAnsweredFull E.on caller.old.pass (op.New d ty false) full.census caller.new.pass) }
+    ensures reached { E.sweeps ≡ false → SweepsNothing caller.old.pass caller.new.pass }
 {
     caller.is_idle();
     let words = caller.words();

@@ -2,6 +2,7 @@
 ghost use Rattle.std.specs.Prelude.{◌≡◌, Some, None, true, false, length};
 ghost use Rattle.mk_core.specs.declared.events.Answer.TheVariants as answer;
 ghost use Rattle.mk_words.specs.States.{now_of};
+ghost use Rattle.mk_turns.specs.Sweeping.{SweepsNothing};
 ghost use Rattle.mk_cycle.specs.EngineLaw.{IsAtPhase};
 ghost use Rattle.mk_core.specs.Effects.{cycle_ended};
 ghost use Rattle.mk_objects.specs.Placing.{IsUnplaced, OnlyLooks, place_now_for};
@@ -28,6 +29,7 @@ fn try_place<E: Engine>(words: &Words, turn: &mut Turn, bench: &mut Bench<E>) ->
     ensures misfits { result ≡ false → Misfits turn.old.pass turn.new.pass }
     ensures looks { result ≡ false → OnlyLooks turn.old.pass turn.new.pass }
     ensures shows { result ≡ false → bench.new.book ≡ (now_of turn.new.pass).words.pages }
+    ensures reached { SweepsNothing turn.old.pass turn.new.pass }
 {
     turn.is_in_order();
     let placed = place_object(words, turn, &mut bench.book);
@@ -57,6 +59,7 @@ fn finish_and_place<E: Engine, R: Threads + Wait + Sync>(
     ensures cycle { result.1 ≡ false → (now_of result.0.pass).seats.holding.cycle
         ≡ cycle_ended (now_of turn.pass).seats.holding.cycle }
     ensures shows { result.1 ≡ false → bench.new.book ≡ (now_of result.0.pass).words.pages }
+    ensures reached { E.sweeps ≡ false → SweepsNothing turn.pass result.0.pass }
 {
     turn.is_in_order();
     let (mut turn, _) = finish_cycle(rt, words, turn, bench);
@@ -83,6 +86,7 @@ fn place_behind_older<E: Engine, R: Threads + Wait + Sync>(
     ensures book { length bench.new.book ≡ length bench.old.book }
     ensures placed { result.1 ≡ true → Seeks (Some answer.Done) turn.pass result.0.pass }
     ensures misfits { result.1 ≡ false → MisfitsIdly turn.pass result.0.pass }
+    ensures reached { E.sweeps ≡ false → SweepsNothing turn.pass result.0.pass }
 {
     let mut turn = turn;
     turn.is_in_order();
@@ -120,6 +124,7 @@ fn place_behind_cycle<E: Engine, R: Threads + Wait + Sync>(
     ensures placed { result.1 ≡ true → Seeks (Some answer.Done) turn.pass result.0.pass }
     ensures misfits { result.1 ≡ false → MisfitsAtLast turn.pass result.0.pass }
     ensures shows { result.1 ≡ false → bench.new.book ≡ (now_of result.0.pass).words.pages }
+    ensures reached { E.sweeps ≡ false → SweepsNothing turn.pass result.0.pass }
 {
     let mut turn = turn;
     turn.is_in_order();
@@ -148,6 +153,7 @@ pub(crate) fn place<E: Engine, R: Threads + Wait + Sync>(
     ensures placed { result.1 ≡ true → Seeks (Some answer.Done) turn.pass result.0.pass }
     ensures misfits { result.1 ≡ false → MisfitsAtLast turn.pass result.0.pass }
     ensures shows { result.1 ≡ false → bench.new.book ≡ (now_of result.0.pass).words.pages }
+    ensures reached { E.sweeps ≡ false → SweepsNothing turn.pass result.0.pass }
 {
     turn.is_in_order();
     let (turn, placed) = place_behind_older(rt, words, turn, bench);

@@ -11,3 +11,4 @@ pub mod Chains
 pub mod Accessing
 pub mod Idle
 pub mod After
+pub mod Comparing

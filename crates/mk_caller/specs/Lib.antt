@@ -3,3 +3,4 @@ pub mod Called
 pub mod Causes
 pub mod Moves
 pub mod Laws
+pub mod Comparing

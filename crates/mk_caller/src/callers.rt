@@ -12,6 +12,7 @@ ghost use Rattle.mk_caller.specs.declared.refusals.Refusal.TheVariants as refusa
 ghost use Rattle.mk_caller.specs.States.{at_home, lent, number_of, value_of, Admits, IsIdleCaller};
 ghost use Rattle.mk_caller.specs.Called.{Called, Says, IsAnswered};
 ghost use Rattle.mk_caller.specs.Causes.{FindsGateHeld, IsRefused, ProbesAWord};
+ghost use Rattle.mk_caller.specs.Comparing.{ComparesValues};
 
 use crate::calls;
 use crate::refusals::Refusal;
@@ -186,6 +187,7 @@ impl<'h> Caller<'h> {
         requires admitted { Admits self.old.pass (op.CasPtr q i p r) }
         ensures home { self.new.home ≡ true }
         ensures called { IfOk result (λ exchanged. Says self.old.pass (op.CasPtr q i p r) exchanged self.new.pass) }
+        ensures compares { IfOk result (λ exchanged. ComparesValues self.old.pass q i p r exchanged self.new.pass) }
         ensures reached { OnOk result (ProbesAWord self.old.pass (op.CasPtr q i p r) self.new.pass) }
         ensures refused { IfErr result (λ e. IsRefused self.old.pass (op.CasPtr q i p r) e self.new.pass) }
     {

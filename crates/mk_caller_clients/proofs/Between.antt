@@ -1,4 +1,4 @@
--- Two calls of one caller, one behind the other, and the calls of others between the events that decide them.
+-- Two calls, of one caller or of two, one behind the other, and the calls between the events that decide them.
 use Rattle.std.proofs.Common.{◌≡◌, Bool, true, List, [], ◌∷◌, ◌++◌, length, refl, sym, ◌∙◌, ap, append_assoc, append-nil, length-append, arith, cond}
 use Rattle.std.specs.Prelude.{filter}
 use Rattle.std.proofs.lemmas.List.Elements.{filter-append}
@@ -14,6 +14,7 @@ use Rattle.mk_core.proofs.HistoryParts.{calls_in_parts, never_in_parts}
 use Rattle.mk_words.specs.States.{PassState}
 use Rattle.mk_caller.specs.States.{number_of}
 use Rattle.mk_caller.specs.Called.{Called}
+use Rattle.mk_caller_clients.specs.Setters.{HasSeenAllOf}
 
 -- those of the calls whose operations pass a test
 abbrev pub picked : (Op → Bool) → List Decided → List Decided
@@ -34,8 +35,12 @@ one_call : (c : Config) (es : List Event) (e : Event) → calls_from c (left c e
 unfolding calls_from
 one_call c es e = append-nil (call_decided c (left c es).now e)
 
-module _ {p0 p1 p2 : PassState} {o1 o2 : Op} {a1 a2 : Answer} (first : Called p0 o1 a1 p1)
-    (second : Called p1 o2 a2 p2) where
+-- where both calls are of one pass
+pub at_once : (p : PassState) → HasSeenAllOf p p
+at_once p = record { config = refl; more = []; is = sym (append-nil p.seen) }
+
+module _ {p0 p1 r1 p2 : PassState} {o1 o2 : Op} {a1 a2 : Answer} (first : Called p0 o1 a1 p1)
+    (later : HasSeenAllOf p1 r1) (second : Called r1 o2 a2 p2) where
   abbrev c : Config
   c = p0.table.config
 
@@ -46,27 +51,32 @@ module _ {p0 p1 p2 : PassState} {o1 o2 : Op} {a1 a2 : Answer} (first : Called p0
   abbrev pub decided : List Event
   decided = before ++ first.decided.event ∷ []
 
-  -- and what comes up to the second one's deciding event
+  -- and what comes up to the second one's deciding event: what the second pass has seen more, and in the call
+  abbrev came : List Event
+  came = later.more ++ second.decided.before
+
   abbrev pub others : List Event
-  others = first.decided.behind ++ second.decided.before
+  others = first.decided.behind ++ came
 
   abbrev entry : Decided
   entry = record { caller = number_of p0; op = flagged o1 a1; answer = a1 }
 
-  pub same_config : p1.table.config ≡ c
-  same_config = ap (λ (x : PassState). x.table.config) first.is
+  pub same_config : r1.table.config ≡ c
+  same_config = later.config ∙ ap (λ (x : PassState). x.table.config) first.is
 
   pub same_number : number_of p1 ≡ number_of p0
   same_number = ap (λ (x : PassState). number_of x) first.is
 
-  pub place : p1.seen ++ second.decided.before ≡ decided ++ others
+  pub place : r1.seen ++ second.decided.before ≡ decided ++ others
   place =
-      ap (λ (x : PassState). x.seen ++ second.decided.before) first.is
-      ∙ ap (λ (l : List Event). (p0.seen ++ l) ++ second.decided.before) first.decided.is
-      ∙ ap (λ (l : List Event). l ++ second.decided.before)
+      ap (λ (l : List Event). l ++ second.decided.before) later.is
+      ∙ append_assoc p1.seen later.more second.decided.before
+      ∙ ap (λ (x : PassState). x.seen ++ came) first.is
+      ∙ ap (λ (l : List Event). (p0.seen ++ l) ++ came) first.decided.is
+      ∙ ap (λ (l : List Event). l ++ came)
       (sym (append_assoc p0.seen first.decided.before (first.decided.event ∷ first.decided.behind))
       ∙ sym (append_assoc before (first.decided.event ∷ []) first.decided.behind))
-      ∙ append_assoc decided first.decided.behind second.decided.before
+      ∙ append_assoc decided first.decided.behind came
 
   calls_there : calls c decided ≡ calls c before ++ entry ∷ []
   calls_there =
@@ -96,10 +106,10 @@ module _ {p0 p1 p2 : PassState} {o1 o2 : Op} {a1 a2 : Answer} (first : Called p0
     whole =
         on
         ∙ ap (λ (x : PassState). x.seen ++ more) second.is
-        ∙ ap (λ (l : List Event). (p1.seen ++ l) ++ more) second.decided.is
+        ∙ ap (λ (l : List Event). (r1.seen ++ l) ++ more) second.decided.is
         ∙ ap (λ (l : List Event). l ++ more)
-        (sym (append_assoc p1.seen second.decided.before (second.decided.event ∷ second.decided.behind)))
-        ∙ append_assoc (p1.seen ++ second.decided.before) (second.decided.event ∷ second.decided.behind) more
+        (sym (append_assoc r1.seen second.decided.before (second.decided.event ∷ second.decided.behind)))
+        ∙ append_assoc (r1.seen ++ second.decided.before) (second.decided.event ∷ second.decided.behind) more
         ∙ ap (λ (l : List Event). l ++ ((second.decided.event ∷ second.decided.behind) ++ more)) place
 
     abbrev z : List Decided

@@ -29,7 +29,7 @@ use Rattle.mk_caller.specs.States.{number_of, never_of, value_of, Admits}
 use Rattle.mk_caller.specs.Called.{Called}
 use Rattle.mk_caller.proofs.After.{still_caller, calls_leave_other_registers}
 use Rattle.mk_caller_clients.specs.Setters.{is_store, IsOnlyStore}
-use Rattle.mk_caller_clients.proofs.Between.{picked, before, between, same_config, same_number, place, never_there, never_later, none_between}
+use Rattle.mk_caller_clients.proofs.Between.{at_once, picked, before, between, same_config, same_number, place, never_there, never_later, none_between}
 
 -- Calls that don't store store to no word.
 stores_nothing : (n : NeverState) (k : ℕ) (o : Op) (number at : ℕ) → is_store o ≡ false → StoresTo n k o number at → ⊥
@@ -116,24 +116,24 @@ module _ {p0 p1 p2 : PassState} (x i n loaded : ℕ) (lt : x < 8) (h : IsHistory
   k = number_of p0
 
   abbrev n1 : NeverState
-  n1 = never_behind c (before set get)
+  n1 = never_behind c (before set (at_once p1) get)
 
   abbrev n2 : NeverState
-  n2 = after_calls (after_op n1 k (op.SetNum x i n)) (asked (between set get))
+  n2 = after_calls (after_op n1 k (op.SetNum x i n)) (asked (between set (at_once p1) get))
 
   there : never_behind p1.table.config (p1.seen ++ get.decided.before) ≡ n2
   there =
-      ap (λ (k : Config). never_behind k (p1.seen ++ get.decided.before)) (same_config set get)
-      ∙ ap (λ (l : List Event). never_behind c l) (place set get)
-      ∙ never_later set get
-      ∙ ap (λ (m : NeverState). after_calls m (asked (between set get))) (never_there set get)
+      ap (λ (k : Config). never_behind k (p1.seen ++ get.decided.before)) (same_config set (at_once p1) get)
+      ∙ ap (λ (l : List Event). never_behind c l) (place set (at_once p1) get)
+      ∙ never_later set (at_once p1) get
+      ∙ ap (λ (m : NeverState). after_calls m (asked (between set (at_once p1) get))) (never_there set (at_once p1) get)
 
   -- the register, at both places
   register : register_at n2 k x ≡ register_at n1 k x
   register =
       ap (λ (m : NeverState). register_at m k x) (sym there)
       ∙ ap (λ j. register_at (never_behind p1.table.config (p1.seen ++ get.decided.before)) j x)
-      (sym (same_number set get))
+      (sym (same_number set (at_once p1) get))
       ∙ get.decided.known x lt
       ∙ calls_leave_other_registers p0 (op.SetNum x i n) answer.Done p1 x set lt (λ e. cc)
       ∙ sym (set.decided.known x lt)
@@ -150,7 +150,7 @@ module _ {p0 p1 p2 : PassState} (x i n loaded : ℕ) (lt : x < 8) (h : IsHistory
       (reply_of m (number_of p1) (op.GetNum x i))) there
       ∙ ap (λ j. answer_of (bases_of (left p1.table.config
       (p1.seen ++ get.decided.before ++ get.decided.event ∷ [])).allocations) (reply_of n2 j (op.GetNum x i)))
-      (same_number set get)
+      (same_number set (at_once p1) get)
 
   loaded_from : Word n2 (register_at n2 k x) i
   loaded_from = number_gets _ n2 (register_at n2 k x) i loaded (λ a w. number_in (word_at n2 a w))
@@ -163,12 +163,12 @@ module _ {p0 p1 p2 : PassState} (x i n loaded : ℕ) (lt : x < 8) (h : IsHistory
 
   pub load_gives : IsOnlyStore p0 x i n p2 → loaded ≡ n
   load_gives only =
-      let none = none_between set get is_store p2.seen [] (sym (append-nil p2.seen)) refl only in
+      let none = none_between set (at_once p1) get is_store p2.seen [] (sym (append-nil p2.seen)) refl only in
       let ad = (admitted_there set h).0 in
       let inside = store_is_inside n1 k (op.SetNum x i n) stored_to.number stored_to.at ad.access stored_to.is in
-      let gives = load_gives_stored n1 k (op.SetNum x i n) (asked (between set get)) stored_to.number stored_to.at
+      let gives = load_gives_stored n1 k (op.SetNum x i n) (asked (between set (at_once p1) get)) stored_to.number stored_to.at
       inside stored_to.is
-      (none_store (after_op n1 k (op.SetNum x i n)) (between set get) stored_to.number stored_to.at none) in
+      (none_store (after_op n1 k (op.SetNum x i n)) (between set (at_once p1) get) stored_to.number stored_to.at none) in
       let is : reply_of n2 k (op.GetNum x i) ≡ reply.Num n = gives.a_number k x i reaches in
       numbers (answered ∙ ap (λ (r : Reply). answer_of
       (bases_of (left p1.table.config (p1.seen ++ get.decided.before ++ get.decided.event ∷ [])).allocations) r)

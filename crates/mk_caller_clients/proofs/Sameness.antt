@@ -19,9 +19,9 @@ use Rattle.mk_caller.specs.States.{number_of, never_of, value_of, Admits}
 use Rattle.mk_caller.specs.Called.{Called, IsAnswered}
 use Rattle.mk_caller.proofs.After.{set_same, value_left, calls_leave_other_registers, still_caller, caller_there}
 use Rattle.mk_frames.proofs.OtherCalls.{never_continues}
-use Rattle.mk_caller_clients.specs.Setters.{is_set_of, IsOnlySetter}
+use Rattle.mk_caller_clients.specs.Setters.{is_set_of, IsOnlySetter, HasSeenAllOf, TakesOut}
 use Rattle.mk_caller_clients.proofs.Globals.{calls_keep, set_gives}
-use Rattle.mk_caller_clients.proofs.Between.{before, decided, others, between, same_config, place, never_there, never_later, none_between}
+use Rattle.mk_caller_clients.proofs.Between.{at_once, before, decided, others, between, same_config, place, never_there, never_later, none_between}
 
 pub same_is : (p : PassState) (x y : ℕ) → value_of p x ≡ value_of p y → is_same (value_of p x) (value_of p y) ≡ true
 same_is p x y e = same_from_equal (value_of p x) (value_of p y) e
@@ -62,46 +62,61 @@ may_get {p} {q} d g r ad lt c =
     (subst (λ count. g < count) (sym on.globals) ad.in_range.0) in
     record { of_a_caller = still_caller c ad.of_a_caller; in_range = (lt, there); access = tt; store = tt }
 
-module _ {p0 p1 p2 p3 : PassState} (d g r : ℕ) (word : ℕ) (a : Answer) (o : Op) (ad : Admits p0 (op.SetGlobal g r))
-    (lt : d < 8) (ne : d ≢ r)
-    (set : Called p0 (op.SetGlobal g r) answer.Done p1) (get : Called p1 (op.GetGlobal d g) (answer.Word word) p2)
-    (last : Called p2 o a p3) where
+module _ {p0 p1 r1 p2 p3 : PassState} (d g r : ℕ) (word : ℕ) (a : Answer) (o : Op) (ad : Admits p0 (op.SetGlobal g r))
+    (may : Admits r1 (op.GetGlobal d g)) (set : Called p0 (op.SetGlobal g r) answer.Done p1)
+    (later : HasSeenAllOf p1 r1) (get : Called r1 (op.GetGlobal d g) (answer.Word word) p2) (last : Called p2 o a p3) where
   abbrev c : Config
   c = p0.table.config
 
   abbrev n1 : NeverState
-  n1 = never_behind c (before set get)
+  n1 = never_behind c (before set later get)
 
-  global_there : IsOnlySetter p0 g r p3 → global_at (never_behind c (decided set get ++ others set get)) g ≡ value_of
-      p0 r
+  global_there : IsOnlySetter p0 g r p3 → global_at (never_behind c (decided set later get ++ others set later get)) g
+      ≡ value_of p0 r
   global_there only =
-      ap (λ (n : NeverState). global_at n g) (never_later set get)
-      ∙ calls_keep (never_behind c (decided set get)) g (between set get)
-      (none_between set get (is_set_of g) p3.seen last.more (ap (λ (x : PassState). x.seen) last.is) (eq-eqb g g refl)
-      only)
-      ∙ ap (λ (n : NeverState). global_at n g) (never_there set get)
+      ap (λ (n : NeverState). global_at n g) (never_later set later get)
+      ∙ calls_keep (never_behind c (decided set later get)) g (between set later get)
+      (none_between set later get (is_set_of g) p3.seen last.more (ap (λ (x : PassState). x.seen) last.is)
+      (eq-eqb g g refl) only)
+      ∙ ap (λ (n : NeverState). global_at n g) (never_there set later get)
       ∙ set_gives n1 (number_of p0) g r
       (subst (λ count. g < count) (sym (never_continues c p0.seen set.decided.before).globals) ad.in_range.0)
       ∙ set.decided.known r ad.in_range.1
 
-  got : IsOnlySetter p0 g r p3 → value_of p2 d ≡ value_of p0 r
+  -- The register that is loaded holds what the other one held.
+  pub got : IsOnlySetter p0 g r p3 → value_of p2 d ≡ value_of p0 r
   got only =
-      value_left get d lt
-      ∙ set_same (never_behind p1.table.config (p1.seen ++ get.decided.before)) (number_of p1) d _
-      (caller_there get (still_caller set ad.of_a_caller)) lt
-      ∙ ap (λ (k : Config). global_at (never_behind k (p1.seen ++ get.decided.before)) g) (same_config set get)
-      ∙ ap (λ (l : List Event). global_at (never_behind c l) g) (place set get)
+      value_left get d may.in_range.0
+      ∙ set_same (never_behind r1.table.config (r1.seen ++ get.decided.before)) (number_of r1) d _
+      (caller_there get may.of_a_caller) may.in_range.0
+      ∙ ap (λ (k : Config). global_at (never_behind k (r1.seen ++ get.decided.before)) g) (same_config set later get)
+      ∙ ap (λ (l : List Event). global_at (never_behind c l) g) (place set later get)
       ∙ global_there only
 
-  kept : value_of p2 r ≡ value_of p0 r
-  kept =
-      calls_leave_other_registers p1 (op.GetGlobal d g) (answer.Word word) p2 r get ad.in_range.1 (λ e. ne (cc e))
-      ∙ calls_leave_other_registers p0 (op.SetGlobal g r) answer.Done p1 r set ad.in_range.1 (λ e. cc)
+  -- Another register stays as it is while the global is loaded.
+  pub kept : (x : ℕ) → x < 8 → d ≢ x → value_of p2 x ≡ value_of r1 x
+  kept x lt ne = calls_leave_other_registers r1 (op.GetGlobal d g) (answer.Word word) p2 x get lt (λ e. ne (cc e))
 
-  pub through_global : IsOnlySetter p0 g r p3 → is_same (value_of p2 r) (value_of p2 d) ≡ true
-  through_global only = same_is p2 r d (kept ∙ sym (got only))
+through_global : {p0 p1 p2 p3 : PassState} (d g r : ℕ) (word : ℕ) (a : Answer) (o : Op)
+    → Admits p0 (op.SetGlobal g r) → d < 8 → d ≢ r → Called p0 (op.SetGlobal g r) answer.Done p1
+    → Called p1 (op.GetGlobal d g) (answer.Word word) p2 → Called p2 o a p3 → IsOnlySetter p0 g r p3
+    → is_same (value_of p2 r) (value_of p2 d) ≡ true
+through_global {p0} {p1} {p2} d g r word a o ad lt ne set get last only =
+    let may = may_get d g r ad lt set in
+    same_is p2 r d (kept d g r word a o ad may set (at_once p1) get last r ad.in_range.1 ne
+    ∙ calls_leave_other_registers p0 (op.SetGlobal g r) answer.Done p1 r set ad.in_range.1 (λ e. cc)
+    ∙ sym (got d g r word a o ad may set (at_once p1) get last only))
 
 -- The answers of the clients.
+
+pub told_of_other : (b p2 p3 : PassState) (y : Result Bool Held) (d g x : ℕ) → Admits b (op.GetGlobal d g) → x < 8
+    → d ≢ x → IsAnswered b (op.GetGlobal d g) p2
+    → IfOk y (λ s. Called p2 (op.Same d x) (answer.Num (one_if s)) p3)
+    → IfOk y (λ s. s ≡ is_same (value_of p2 d) (value_of p2 x)) → IfOk y (λ s. TakesOut b g x s p3)
+told_of_other b p2 p3 (Ok s) d g x may lt ne get last is = λ p0 p1 r ad set later only e. is
+    ∙ same_is p2 d x (got d g r get.word (answer.Num (one_if s)) (op.Same d x) ad may set later get.called last only
+    ∙ sym e ∙ sym (kept d g r get.word (answer.Num (one_if s)) (op.Same d x) ad may set later get.called last x lt ne))
+told_of_other b p2 p3 (Err e) d g x may lt ne get last is = tt
 
 pub told : (x : Result Bool Held) (b : Bool) → IfOk x (λ s. s ≡ b) → b ≡ true → IfOk x (λ s. s ≡ true)
 told (Ok s) b is h = is ∙ h

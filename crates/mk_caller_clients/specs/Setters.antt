@@ -7,7 +7,8 @@ use Rattle.mk_core.specs.declared.events.Event.{Event}
 use Rattle.mk_core.specs.Decided.{Decided}
 use Rattle.mk_core.specs.History.{calls}
 use Rattle.mk_words.specs.States.{PassState}
-use Rattle.mk_caller.specs.States.{number_of}
+use Rattle.mk_caller.specs.States.{number_of, value_of, Admits}
+use Rattle.mk_caller.specs.Called.{Called}
 
 abbrev pub is_set_of : ℕ → Op → Bool
 is_set_of g (op.SetGlobal x p) = x == g
@@ -22,6 +23,19 @@ abbrev pub IsOnlySetter : PassState → ℕ → ℕ → PassState → Type 0
 IsOnlySetter p g r q =
     setters p g q.seen ≡ setters p g p.seen
     ++ record { caller = number_of p; op = op.SetGlobal g r; answer = Done } ∷ []
+
+-- The latter pass has seen all that the former has, as where the host joined that one and split off this one.
+pub record HasSeenAllOf (p q : PassState) : Type 0 where
+  pub config : q.table.config ≡ p.table.config
+  pub more : List Event
+  pub is : q.seen ≡ p.seen ++ more
+
+-- Whatever call of another caller put its register r into the global, if this pass had seen it and it is the only one
+-- that set the global since, then what is taken out is the same as register x, where that holds what r held.
+abbrev pub TakesOut : PassState → ℕ → ℕ → Bool → PassState → Type 0
+TakesOut b g x same q =
+    (p0 p1 : PassState) (r : ℕ) → Admits p0 (op.SetGlobal g r) → Called p0 (op.SetGlobal g r) Done p1
+    → HasSeenAllOf p1 b → IsOnlySetter p0 g r q → value_of b x ≡ value_of p0 r → same ≡ true
 
 -- The operation may store to an allocation's word.
 abbrev pub is_store : Op → Bool

@@ -8,7 +8,7 @@ ghost use Rattle.mk_never.specs.declared.operations.Op.TheVariants as op;
 ghost use Rattle.mk_core.specs.declared.events.Seat.TheVariants.{Caller as OfCaller, Host};
 ghost use Rattle.mk_words.specs.Seats.{Has};
 ghost use Rattle.mk_caller.specs.States.{Admits};
-ghost use Rattle.mk_caller_clients.specs.Setters.{IsOnlySetter, IsOnlyStore};
+ghost use Rattle.mk_caller_clients.specs.Setters.{IsOnlySetter, IsOnlyStore, TakesOut};
 
 use mk_caller::{Caller, Refusal};
 use mk_core::Seat;
@@ -36,6 +36,19 @@ pub fn moves_through_global(caller: &mut Caller, d: u8, g: u8, p: u8) -> Result<
     caller.set_global(g, p)?;
     caller.get_global(d, g)?;
     caller.same(p, d)
+}
+
+/// A pointer that one caller puts into a global and this one takes out is the same, where this one had seen that call, and
+/// nobody has set the global since. A register tells what it is to be the same as.
+pub fn takes_out_of_global(caller: &mut Caller, d: u8, g: u8, x: u8) -> Result<bool, Held>
+    requires home { caller.old.home ≡ true }
+    requires admitted { Admits caller.old.pass (op.GetGlobal d g) }
+    requires register { x < 8 }
+    requires another { d ≢ x }
+    ensures { IfOk result (λ same. TakesOut caller.old.pass g x same caller.new.pass) }
+{
+    caller.get_global(d, g)?;
+    caller.same(d, x)
 }
 
 /// A number that is stored is what is loaded, where no other caller stores in between.

@@ -1,9 +1,10 @@
 -- What was released is counted page by page.
-use Rattle.std.proofs.Common.{◌≡◌, ℕ, zero, suc, ◌+◌, ◌*◌, ◌/◌, ◌^◌, bit_and, count_ones, List, refl, ap, ◌∙◌, arith}
+use Rattle.std.proofs.Common.{◌≡◌, ℕ, zero, suc, ◌+◌, ◌*◌, ◌/◌, ◌^◌, ◌≤◌, bit_and, count_ones, List, refl, sym, ap, ◌∙◌, arith}
 use Rattle.std.specs.Prelude.{slice_index}
 use Rattle.mk_geom.specs.Headers.{header_of}
 use Rattle.mk_core.specs.Bits.{without}
-use Rattle.mk_core.specs.Cells.{words_under}
+use Rattle.std.proofs.lemmas.Nat.{and_le_l, ones_le_self}
+use Rattle.mk_core.specs.Cells.{header_in, words_under}
 use Rattle.mk_core.specs.Words.{Words, header_at, quarantine_word}
 use Rattle.mk_words.specs.States.{PassState, now_of}
 use Rattle.mk_cycle.specs.declared.finishing.Released.{Released}
@@ -41,24 +42,44 @@ told_by snapshot marks header s m h r is_snapshot is_marks is_header count words
     ∙ ap (λ (n : ℕ). count_ones (without s m) * words_under (header_of n)) is_header)
     (kept ∙ marked)
 
--- what three looks tell of a page
-pub counted_on : (p a b d : PassState) (page quarantine marks header : ℕ) (r : Released) → InTurn a
-    → FreesNone p a → FreesNone a b → FreesNone b d
+-- what looks at the marks and the header tell of a page
+pub counted_on : (p a b : PassState) (page snapshot marks header : ℕ) (r : Released) → FreesNone p a → FreesNone a b
+    → snapshot ≡ slice_index (now_of p).words.snapshot page
+    → marks ≡ slice_index (now_of a).words.marks page → header ≡ header_at (now_of b).words page
+    → r.count ≡ count_ones (without snapshot marks)
+    → r.words ≡ count_ones (without snapshot marks) * words_under (header_of header)
+    → r.kept ≡ count_ones (bit_and snapshot marks)
+    → r ≡ released_on (now_of p).words page
+counted_on p a b page snapshot marks header r first second is mark head count words kept =
+    let w : Words = (now_of p).words in
+    told_by snapshot marks header (slice_index w.snapshot page) (slice_index w.marks page) (header_at w page) r is
+    (mark ∙ ap (λ (ms : List ℕ). slice_index ms page) first.frees.marks)
+    (head ∙ same_header p b page ((none_then p a b first second).same page))
+    count words kept
+
+-- what a look at the quarantine word tells of it
+pub snapshot_told : (p a : PassState) (page quarantine : ℕ) → InTurn a → FreesNone p a
     → quarantine
     ≡ quarantine_word (slice_index (now_of a).words.freed page) (slice_index (now_of a).words.snapshot page)
-    → marks ≡ slice_index (now_of b).words.marks page → header ≡ header_at (now_of d).words page
-    → r.count ≡ count_ones (without (quarantine / 2 ^ 32) marks)
-    → r.words ≡ count_ones (without (quarantine / 2 ^ 32) marks) * words_under (header_of header)
-    → r.kept ≡ count_ones (bit_and (quarantine / 2 ^ 32) marks)
-    → r ≡ released_on (now_of p).words page
-counted_on p a b d page quarantine marks header r t first second third word mark head count words kept =
-    let w : Words = (now_of p).words in
-    told_by (quarantine / 2 ^ 32) marks header (slice_index w.snapshot page) (slice_index w.marks page)
-    (header_at w page) r
-    ((halves a page quarantine t word).snapshot ∙ ap (λ (x : PageState). x.snapshot) (first.same page))
-    (mark ∙ ap (λ (ms : List ℕ). slice_index ms page) (second.frees.marks ∙ first.frees.marks))
-    (head ∙ same_header p d page ((none_then p a d first (none_then a b d second third)).same page))
-    count words kept
+    → quarantine / 2 ^ 32 ≡ slice_index (now_of p).words.snapshot page
+snapshot_told p a page quarantine t first word =
+    (halves a page quarantine t word).snapshot ∙ ap (λ (x : PageState). x.snapshot) (first.same page)
+
+-- Where its snapshot is empty, nothing is released on it.
+pub nothing_on : (w : Words) (page : ℕ) → slice_index w.snapshot page ≡ 0
+    → record { count = 0; words = 0; kept = 0 } ≡ released_on w page
+nothing_on w page none =
+    let m : ℕ = slice_index w.marks page in
+    let size : ℕ = words_under (header_in w page) in
+    let common : bit_and 0 m ≡ 0 = let most : bit_and 0 m ≤ 0 = and_le_l 0 m in omega arith in
+    let left : without 0 m ≡ 0 = omega arith in
+    let ones : 0 ≡ count_ones 0 = let few : count_ones 0 ≤ 0 = ones_le_self 0 in omega arith in
+    let times : 0 ≡ 0 * size = omega arith in
+    told_by 0 m (header_at w page) (slice_index w.snapshot page) m (header_at w page)
+    (record { count = 0; words = 0; kept = 0 }) (sym none) refl refl
+    (ones ∙ ap count_ones (sym left))
+    (times ∙ ap (λ (n : ℕ). n * size) (ones ∙ ap count_ones (sym left)))
+    (ones ∙ ap count_ones (sym common))
 
 -- the same page, where nothing was given back since
 pub told_alike : (p q : PassState) (page : ℕ) → FreesNone p q

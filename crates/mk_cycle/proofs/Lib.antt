@@ -25,3 +25,5 @@ pub mod CountedPages
 pub mod TallySteps
 pub mod HeldPages
 pub mod FinishedCycles
+pub mod Sweepless
+pub mod Told

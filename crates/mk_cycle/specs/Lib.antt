@@ -10,3 +10,4 @@ pub mod GivingAll
 pub mod FinishCycle
 pub mod ReleasedPages
 pub mod Tallying
+pub mod Telling

@@ -1,5 +1,6 @@
 //! The beginning of a cycle.
-ghost use Rattle.std.specs.Prelude.{◌≡◌};
+ghost use Rattle.std.specs.Prelude.{◌≡◌, false};
+ghost use Rattle.mk_turns.specs.Sweeping.{SweepsNothing};
 ghost use Rattle.mk_cycle.specs.BeginCycle.{BeginsCycle};
 ghost use Rattle.mk_cycle.specs.EngineLaw.{IsFreeForCycle, IsAtPhase};
 
@@ -27,6 +28,7 @@ pub fn begin_cycle<E: Engine, R: Threads + Wait + Sync>(
     ensures made_for { E.made_for bench.new.engine ≡ E.made_for bench.old.engine }
     ensures book { bench.new.book ≡ bench.old.book }
     ensures law { BeginsCycle turn.old.pass turn.new.pass }
+    ensures reached { E.sweeps ≡ false → SweepsNothing turn.old.pass turn.new.pass }
 {
     clean_pages(turn, words);
     tally(turn, words, Tally::Fresh, 0);

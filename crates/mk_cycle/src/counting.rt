@@ -1,5 +1,5 @@
 //! What a cycle released is counted before it is given back: by the snapshot and the marks of each page.
-ghost use Rattle.std.specs.Prelude.{◌≡◌, ◌<◌, ◌*◌, true, false, bit_and, count_ones};
+ghost use Rattle.std.specs.Prelude.{◌≡◌, ◌<◌, ◌*◌, true, false, bit_and, count_ones, slice_index};
 ghost use Rattle.mk_core.specs.Bits.{without};
 ghost use Rattle.mk_core.specs.Cells.{words_under};
 ghost use Rattle.mk_core.specs.Ranges.{is_word};
@@ -47,7 +47,24 @@ fn look(turn: &mut Turn, words: &Words, x: Word) -> u64
     turn_steps::look(turn, words, x)
 }
 
-/// What was released on a page.
+/// What was released on a page with this snapshot.
+fn released_of(turn: &mut Turn, words: &Words, page: u64, snapshot: u64) -> Released
+    requires one_table { turn.old.pass.table ≡ words.now }
+    requires free { IsFreeForCycle turn.old.pass }
+    requires phase { IsAtPhase turn.old.pass 4 }
+    requires within { page < words.now.config.pages }
+    requires snapshot { snapshot ≡ slice_index (now_of turn.old.pass).words.snapshot page }
+    ensures op { turn.new.op ≡ turn.old.op }
+    ensures frees { FreesNone turn.old.pass turn.new.pass }
+    ensures exact { result ≡ released_on (now_of turn.old.pass).words page }
+    ensures few { IsOfOnePage result }
+{
+    let marks = look(turn, words, Word::Mark(page));
+    let header = look(turn, words, Word::Head(page));
+    released_cells(snapshot, marks, header)
+}
+
+/// What was released on a page. Where its snapshot is empty, no more is looked at.
 fn released_on(turn: &mut Turn, words: &Words, page: u64) -> Released
     requires one_table { turn.old.pass.table ≡ words.now }
     requires free { IsFreeForCycle turn.old.pass }
@@ -58,10 +75,15 @@ fn released_on(turn: &mut Turn, words: &Words, page: u64) -> Released
     ensures exact { result ≡ released_on (now_of turn.old.pass).words page }
     ensures few { IsOfOnePage result }
 {
-    let quarantine = look(turn, words, Word::Quar(page));
-    let marks = look(turn, words, Word::Mark(page));
-    let header = look(turn, words, Word::Head(page));
-    released_cells(quarantine / FREED_END, marks, header)
+    let snapshot = look(turn, words, Word::Quar(page)) / FREED_END;
+    if snapshot == 0 {
+        return Released {
+            count: 0,
+            words: 0,
+            kept: 0,
+        };
+    }
+    released_of(turn, words, page, snapshot)
 }
 
 /// What was released on all pages.

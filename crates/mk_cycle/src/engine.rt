@@ -1,6 +1,10 @@
 //! Engines: how the marks of a cycle are made.
-ghost use Rattle.std.specs.Prelude.{◌≡◌, ℕ, Bool, IfOk};
+ghost use Rattle.std.specs.Prelude.{◌≡◌, ℕ, Bool, false, IfOk};
+ghost use Rattle.mk_core.specs.declared.config.Config.{Config};
+ghost use Rattle.mk_core.specs.History.{World};
+ghost use Rattle.mk_turns.specs.Sweeping.{SweepsNothing};
 ghost use Rattle.mk_cycle.specs.EngineLaw.{IsFreeForCycle, IsAtPhase, BeginsMarking, ClosesMarks};
+ghost use Rattle.mk_cycle.specs.Telling.{IsToldOf};
 
 use mk_never::NoMemory;
 use mk_words::{Stopped, Turn, Words};
@@ -9,11 +13,15 @@ use std::sync::Wait;
 use std::thread::Threads;
 
 /// What makes the marks of a cycle, for a heap of so many pages. What it answers to `keeps_on` is the same for all
-/// values of its type.
+/// values of its type, and so is whether it makes sweeping marks. Of the marks that it closed last it tells something.
 pub trait Engine: Drop {
     ghost on: { Bool };
 
+    ghost sweeps: { Bool };
+
     ghost made_for: { Self → ℕ };
+
+    ghost tells: { Self → Config → World → Type 0 };
 
     /// An engine for so many pages. It takes all its memory here.
     fn make(alloc: Global, pages: u64) -> Result<Self, NoMemory>
@@ -31,7 +39,8 @@ pub trait Engine: Drop {
         requires free { IsFreeForCycle turn.old.pass }
         ensures made_for { made_for self.new ≡ made_for self.old }
         ensures op { turn.new.op ≡ turn.old.op }
-        ensures law { BeginsMarking turn.old.pass turn.new.pass };
+        ensures law { BeginsMarking turn.old.pass turn.new.pass }
+        ensures reached { sweeps ≡ false → SweepsNothing turn.old.pass turn.new.pass };
 
     /// Wants the close, and makes the marks that are left to make, so that the phase may be closed.
     fn close_marks<R: Threads + Wait + Sync>(&mut self, rt: &R, words: &Words, stop: &mut Stopped)
@@ -41,5 +50,7 @@ pub trait Engine: Drop {
         requires free { IsFreeForCycle stop.old.pass }
         ensures made_for { made_for self.new ≡ made_for self.old }
         ensures op { stop.new.op ≡ stop.old.op }
-        ensures law { ClosesMarks stop.old.pass stop.new.pass };
+        ensures law { ClosesMarks stop.old.pass stop.new.pass }
+        ensures reached { sweeps ≡ false → SweepsNothing stop.old.pass stop.new.pass }
+        ensures told { IsToldOf (tells self.new) stop.new.pass };
 }

@@ -1,7 +1,9 @@
 //! The end of a cycle.
-ghost use Rattle.std.specs.Prelude.{◌≡◌, length};
+ghost use Rattle.std.specs.Prelude.{◌≡◌, length, false};
+ghost use Rattle.mk_turns.specs.Sweeping.{SweepsNothing};
 ghost use Rattle.mk_cycle.specs.EngineLaw.{IsFreeForCycle, IsAtPhase};
 ghost use Rattle.mk_cycle.specs.FinishCycle.{FinishesCycle, HasReleased};
+ghost use Rattle.mk_cycle.specs.Telling.{IsToldAtClose};
 
 use crate::bench::Bench;
 use crate::engine::Engine;
@@ -38,9 +40,11 @@ pub fn finish_cycle<E: Engine, R: Threads + Wait + Sync>(
     ensures book { length bench.new.book ≡ length bench.old.book }
     ensures law { FinishesCycle turn.pass result.0.pass }
     ensures released { HasReleased turn.pass result.0.pass result.1 }
+    ensures reached { E.sweeps ≡ false → SweepsNothing turn.pass result.0.pass }
+    ensures told { IsToldAtClose (E.tells bench.new.engine) turn.pass result.0.pass }
 {
     let (mut turn, released) = give_all_back(rt, words, turn, &mut bench.engine);
     end(&mut turn, words);
-    count_cycle(&mut turn, words, &mut bench.book, released.count);
+    count_cycle(&mut turn, words, released.count);
     (turn, released)
 }

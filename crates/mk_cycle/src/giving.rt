@@ -1,11 +1,13 @@
 //! The stop of a cycle, and what comes behind it up to the `end`.
-ghost use Rattle.std.specs.Prelude.{◌≡◌, true};
+ghost use Rattle.std.specs.Prelude.{◌≡◌, true, false};
 ghost use Rattle.mk_core.specs.Moments.{none_is_held};
 ghost use Rattle.mk_words.specs.States.{now_of};
+ghost use Rattle.mk_turns.specs.Sweeping.{SweepsNothing};
 ghost use Rattle.mk_cycle.specs.EngineLaw.{IsFreeForCycle, IsAtPhase};
 ghost use Rattle.mk_cycle.specs.FinishCycle.{HasReleased};
 ghost use Rattle.mk_cycle.specs.Freeing.{FreesNone};
 ghost use Rattle.mk_cycle.specs.GivingAll.{GivesAllBack};
+ghost use Rattle.mk_cycle.specs.Telling.{IsToldAtClose};
 
 use crate::counting::count_released;
 use crate::engine::Engine;
@@ -48,6 +50,8 @@ pub(crate) fn give_all_back<E: Engine, R: Threads + Wait + Sync>(
     ensures made_for { E.made_for engine.new ≡ E.made_for engine.old }
     ensures gives { GivesAllBack turn.pass result.0.pass }
     ensures told { HasReleased turn.pass result.0.pass result.1 }
+    ensures reached { E.sweeps ≡ false → SweepsNothing turn.pass result.0.pass }
+    ensures told_at_close { IsToldAtClose (E.tells engine.new) turn.pass result.0.pass }
 {
     hold_gates(rt, &mut turn, words);
     let mut stop = turn.stopped();

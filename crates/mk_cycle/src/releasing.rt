@@ -1,11 +1,13 @@
 //! The stop of a cycle: the marks are closed, and what is unmarked is released.
-ghost use Rattle.std.specs.Prelude.{◌≡◌, ℕ};
+ghost use Rattle.std.specs.Prelude.{◌≡◌, ℕ, false};
 ghost use Rattle.mk_words.specs.States.{now_of};
+ghost use Rattle.mk_turns.specs.Sweeping.{SweepsNothing};
 ghost use Rattle.mk_cycle.specs.ReleasedPages.{released_below};
 ghost use Rattle.mk_cycle.specs.FinishCycle.{HasReleased};
 ghost use Rattle.mk_cycle.specs.Freeing.{HasFreeCells};
 ghost use Rattle.mk_cycle.specs.EngineLaw.{IsFreeForCycle, IsAtPhase};
 ghost use Rattle.mk_cycle.specs.Releasing.{ReleasesUnmarked};
+ghost use Rattle.mk_cycle.specs.Telling.{IsToldAtClose};
 
 use crate::engine::Engine;
 use mk_words::{Stopped, Words};
@@ -28,6 +30,8 @@ pub(crate) fn release_unmarked<E: Engine, R: Threads + Wait + Sync>(
     ensures releases { ReleasesUnmarked stop.old.pass stop.new.pass }
     ensures cells { (page : ℕ) → HasFreeCells stop.new.pass page }
     ensures told { HasReleased stop.old.pass stop.new.pass (released_below (now_of stop.new.pass).words words.now.config.pages) }
+    ensures reached { E.sweeps ≡ false → SweepsNothing stop.old.pass stop.new.pass }
+    ensures told_at_close { IsToldAtClose (E.tells engine.new) stop.old.pass stop.new.pass }
 {
     stop.is_in_order();
     engine.close_marks(rt, words, stop);

@@ -2,3 +2,4 @@ pub mod TracedMarks
 pub mod Since
 pub mod MarksBeside
 pub mod BesideSteps
+pub mod Sweepless

@@ -1,6 +1,7 @@
 //! The engine that marks beside the callers, and then in the stop what is left.
-ghost use Rattle.std.specs.Prelude.{◌≡◌, true};
+ghost use Rattle.std.specs.Prelude.{◌≡◌, true, false, ⊤};
 ghost use Rattle.mk_cycle.specs.EngineLaw.{IsFreeForCycle, IsAtPhase, BeginsMarking, ClosesMarks};
+ghost use Rattle.mk_turns.specs.Sweeping.{SweepsNothing};
 ghost use Rattle.mk_tracing.specs.Grays.{TracesReached};
 ghost use Rattle.mk_tracing.specs.Tracing.{Traces, is_tracing};
 ghost use Rattle.mk_engines.specs.Roots.{MarksRoots};
@@ -26,7 +27,11 @@ pub struct MostlyEngine {
 impl Engine for MostlyEngine {
     ghost on = { true };
 
+    ghost sweeps = { false };
+
     ghost made_for = { λ engine. engine.pages };
+
+    ghost tells = { λ engine c w. ⊤ };
 
     fn make(alloc: Global, pages: u64) -> Result<MostlyEngine, NoMemory> {
         let work = Worklist::new(alloc, pages.min(MOST_PAGES))?;
@@ -44,6 +49,7 @@ impl Engine for MostlyEngine {
         ensures made_for { self.new.pages ≡ self.old.pages }
         ensures op { turn.new.op ≡ turn.old.op }
         ensures law { BeginsMarking turn.old.pass turn.new.pass }
+        ensures reached { SweepsNothing turn.old.pass turn.new.pass }
         ensures roots { MarksRoots turn.old.pass turn.new.pass }
     {
         mark_roots(rt, words, turn);
@@ -56,6 +62,7 @@ impl Engine for MostlyEngine {
         ensures made_for { self.new.pages ≡ self.old.pages }
         ensures op { stop.new.op ≡ stop.old.op }
         ensures law { ClosesMarks stop.old.pass stop.new.pass }
+        ensures reached { SweepsNothing stop.old.pass stop.new.pass }
         ensures traces { Traces is_tracing TracesReached stop.old.pass stop.new.pass }
     {
         close_by_tracing(rt, words, stop, &mut self.work);

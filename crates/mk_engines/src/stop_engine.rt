@@ -1,6 +1,7 @@
 //! The engine that makes all marks in the stop.
-ghost use Rattle.std.specs.Prelude.{◌≡◌, false};
+ghost use Rattle.std.specs.Prelude.{◌≡◌, false, ⊤};
 ghost use Rattle.mk_cycle.specs.EngineLaw.{IsFreeForCycle, IsAtPhase, BeginsMarking, ClosesMarks};
+ghost use Rattle.mk_turns.specs.Sweeping.{SweepsNothing};
 ghost use Rattle.mk_tracing.specs.Grays.{TracesReached};
 ghost use Rattle.mk_tracing.specs.Tracing.{Traces, is_tracing};
 
@@ -23,7 +24,11 @@ pub struct StopEngine {
 impl Engine for StopEngine {
     ghost on = { false };
 
+    ghost sweeps = { false };
+
     ghost made_for = { λ engine. engine.pages };
+
+    ghost tells = { λ engine c w. ⊤ };
 
     fn make(alloc: Global, pages: u64) -> Result<StopEngine, NoMemory> {
         let work = Worklist::new(alloc, pages.min(MOST_PAGES))?;
@@ -38,6 +43,7 @@ impl Engine for StopEngine {
         ensures made_for { self.new.pages ≡ self.old.pages }
         ensures op { _turn.new.op ≡ _turn.old.op }
         ensures law { BeginsMarking _turn.old.pass _turn.new.pass }
+        ensures reached { SweepsNothing _turn.old.pass _turn.new.pass }
         ensures nothing { _turn.new ≡ _turn.old }
     {}
 
@@ -48,6 +54,7 @@ impl Engine for StopEngine {
         ensures made_for { self.new.pages ≡ self.old.pages }
         ensures op { stop.new.op ≡ stop.old.op }
         ensures law { ClosesMarks stop.old.pass stop.new.pass }
+        ensures reached { SweepsNothing stop.old.pass stop.new.pass }
         ensures traces { Traces is_tracing TracesReached stop.old.pass stop.new.pass }
     {
         close_by_tracing(rt, words, stop, &mut self.work);

@@ -1,6 +1,7 @@
 //! The stop of an engine that traces.
 ghost use Rattle.std.specs.Prelude.{◌≡◌};
 ghost use Rattle.mk_cycle.specs.EngineLaw.{IsFreeForCycle, IsAtPhase, ClosesMarks};
+ghost use Rattle.mk_turns.specs.Sweeping.{SweepsNothing};
 ghost use Rattle.mk_tracing.specs.Grays.{TracesReached};
 ghost use Rattle.mk_tracing.specs.Tracing.{Traces, is_tracing};
 
@@ -24,6 +25,7 @@ pub(crate) fn close_by_tracing<R: Wait>(
     requires free { IsFreeForCycle stop.old.pass }
     ensures op { stop.new.op ≡ stop.old.op }
     ensures law { ClosesMarks stop.old.pass stop.new.pass }
+    ensures reached { SweepsNothing stop.old.pass stop.new.pass }
     ensures traces { Traces is_tracing TracesReached stop.old.pass stop.new.pass }
 {
     stop.is_in_order();

@@ -9,3 +9,5 @@ pub mod ClientSteps
 pub mod BeforeOver
 pub mod IdleTurns
 pub mod Overs
+pub mod HomeCallers
+pub mod UnsweptHosts

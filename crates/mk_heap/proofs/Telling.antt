@@ -10,6 +10,7 @@ use Rattle.mk_core.specs.declared.events.Word.{Word}
 use Rattle.mk_core.specs.Counts.{TalliesAreTidy, in_a_word, releases}
 use Rattle.mk_core.specs.Decided.{Decided, asked}
 use Rattle.mk_core.specs.Frames.{Steady, steady_of, CountsAreLeft}
+use Rattle.mk_core.specs.Words.{phase_of}
 use Rattle.mk_core.specs.History.{World, first_world, left, IsHistory, never_first, calls}
 use Rattle.mk_core.specs.Order.{host_has_turn}
 use Rattle.mk_core.proofs.Histories.{calls_more}
@@ -69,3 +70,7 @@ pub given_no_turn : (p q : PassState) → Acts p step.Give q → host_has_turn q
 given_no_turn p q a =
     ne_eqb (now_of q).words.turn (1 + q.table.config.callers)
     (λ e. let zero : (now_of q).words.turn ≡ 0 = ap (λ (w : World). w.now.words.turn) a.world in absurd (omega arith))
+
+-- and the phase is as it was.
+pub given_phase : (p q : PassState) → Acts p step.Give q → phase_of (now_of q).words ≡ phase_of (now_of p).words
+given_phase p q a = ap (λ (w : World). phase_of w.now.words) a.world ∙ ap (λ (s : Steady). s.phase) a.turn.steady

@@ -3,7 +3,9 @@ use Rattle.std.specs.Prelude.{◌≡◌, ◌⊎◌, ℕ, ◌<◌, true, None}
 use Rattle.mk_core.specs.declared.events.Seat.TheVariants.{Caller, Host}
 use Rattle.mk_core.specs.declared.events.Step.TheVariants as step
 use Rattle.mk_core.specs.declared.events.Word.TheVariants as word
+use Rattle.mk_core.specs.declared.config.Config.{Config}
 use Rattle.mk_core.specs.Counts.{TalliesAreExact, TalliesAreTidy}
+use Rattle.mk_core.specs.History.{World}
 use Rattle.mk_core.specs.Moments.{none_is_held}
 use Rattle.mk_words.specs.Seats.{Has}
 use Rattle.mk_words.specs.States.{PassState, now_of}
@@ -12,6 +14,7 @@ use Rattle.mk_waiting.specs.Taking.{TakesTurn}
 use Rattle.mk_cycle.specs.EngineLaw.{IsAtPhase, IsFreeForCycle}
 use Rattle.mk_cycle.specs.BeginCycle.{BeginsCycle}
 use Rattle.mk_cycle.specs.FinishCycle.{FinishesCycle}
+use Rattle.mk_cycle.specs.Telling.{IsToldAtClose}
 use Rattle.mk_heap.specs.Hosts.{HostState}
 
 -- All callers that were made are joined.
@@ -53,6 +56,12 @@ pub record MakesCycle (p q : PassState) : Type 0 where
   pub begins : BeginsCycle idle begun
   pub finishes : FinishesCycle begun ended
   pub gives : Makes ended step.Give q
+
+-- It made a cycle so, and this is told of the world in which it closed the cycle's marks. No `close` stands behind that
+-- one.
+pub record MakesToldCycle (tells : Config → World → Type 0) (p q : PassState) : Type 0 where
+  pub makes : MakesCycle p q
+  pub at_close : IsToldAtClose tells makes.begun makes.ended
 
 -- In the host's turn no cycle is on and nothing is under way: a cycle may begin, or the turn be given back.
 pub record IsIdleTurn (p : PassState) : Type 0 where

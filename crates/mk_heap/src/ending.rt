@@ -2,9 +2,11 @@
 ghost use Rattle.std.specs.Prelude.{◌≡◌, None, length, false};
 ghost use Rattle.mk_core.specs.declared.events.Seat.TheVariants as seat;
 ghost use Rattle.mk_core.specs.declared.events.Step.TheVariants as step;
-ghost use Rattle.mk_words.specs.Seats.{has_over};
+ghost use Rattle.mk_words.specs.Seats.{Has, HasCallers, has_over};
 ghost use Rattle.mk_words.specs.Steps.{IsEnabledTo};
-ghost use Rattle.mk_heap.specs.Ending.{CallersAreJoined, IsIdleTurn, MakesCycle, SaysOver, TakesIdleTurn};
+ghost use Rattle.mk_cycle.specs.EngineLaw.{IsAtPhase};
+ghost use Rattle.mk_turns.specs.Sweeping.{SweepsNothing};
+ghost use Rattle.mk_heap.specs.Ending.{CallersAreJoined, IsIdleTurn, MakesToldCycle, SaysOver, TakesIdleTurn};
 ghost use Rattle.mk_heap.specs.Hosts.{with_seen};
 
 use crate::heaps::Heap;
@@ -17,7 +19,8 @@ use std::sync::Wait;
 use std::thread::Threads;
 
 impl Host {
-    /// Finishes a cycle that is on, and says to the markers that all is over. No caller is made behind it.
+    /// Finishes a cycle that is on, and says to the markers that all is over. No caller is made behind it. The bench
+    /// stays as it was where no cycle is on.
     pub fn over<E: Engine, R: Threads + Wait + Sync>(
         &mut self,
         rt: &R,
@@ -31,8 +34,10 @@ impl Host {
         requires before_over { has_over self.old.pass.seen ≡ false }
         ensures made_for { E.made_for bench.new.engine ≡ E.made_for bench.old.engine }
         ensures book { length bench.new.book ≡ length bench.old.book }
+        ensures bench { IsAtPhase self.old.pass 0 → bench.new ≡ bench.old }
         ensures host { self.new ≡ with_seen self.old self.new.pass.seen }
         ensures over { SaysOver self.old.pass self.new.pass }
+        ensures reached { E.sweeps ≡ false → SweepsNothing self.old.pass self.new.pass }
     {
         let words = &heap.words;
         let Some(home) = self.pass.take() else {
@@ -47,7 +52,7 @@ impl Host {
         self.pass = Some(back);
     }
 
-    /// Makes one cycle, when a cycle that is on is finished.
+    /// Makes one cycle, when a cycle that is on is finished. No cycle is on behind it.
     pub fn cycle<E: Engine, R: Threads + Wait + Sync>(
         &mut self,
         rt: &R,
@@ -61,8 +66,11 @@ impl Host {
         ensures made_for { E.made_for bench.new.engine ≡ E.made_for bench.old.engine }
         ensures book { length bench.new.book ≡ length bench.old.book }
         ensures host { self.new ≡ with_seen self.old self.new.pass.seen }
-        ensures cycle { MakesCycle self.old.pass self.new.pass }
+        ensures own { Has self.new.pass.seats seat.Host }
+        ensures idle { IsAtPhase self.new.pass 0 }
+        ensures cycle { MakesToldCycle (E.tells bench.new.engine) self.old.pass self.new.pass }
         ensures overs { has_over self.new.pass.seen ≡ has_over self.old.pass.seen }
+        ensures reached { E.sweeps ≡ false → SweepsNothing self.old.pass self.new.pass }
     {
         let words = &heap.words;
         let Some(home) = self.pass.take() else {
@@ -94,8 +102,10 @@ fn take_idle_turn<E: Engine, R: Threads + Wait + Sync>(
     requires before_over { has_over home.seen ≡ false }
     ensures made_for { E.made_for bench.new.engine ≡ E.made_for bench.old.engine }
     ensures book { length bench.new.book ≡ length bench.old.book }
+    ensures bench { HasCallers home.table.config home.seats → IsAtPhase home 0 → bench.new ≡ bench.old }
     ensures takes { TakesIdleTurn home result.pass }
     ensures idle { IsIdleTurn result.pass }
+    ensures reached { E.sweeps ≡ false → SweepsNothing home result.pass }
 {
     home.is_in_order();
     let mut turn = take_turn(rt, words, home, None);

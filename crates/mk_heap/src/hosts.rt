@@ -6,6 +6,7 @@ ghost use Rattle.mk_words.specs.Seats.{has_over};
 ghost use Rattle.mk_core.specs.Ranges.{is_word};
 ghost use Rattle.mk_caller.specs.States.{at_home, IsIdleCaller};
 ghost use Rattle.mk_marker.specs.Markers.{IsMarkers, IsOut};
+ghost use Rattle.mk_turns.specs.Sweeping.{SweepsNothing};
 ghost use Rattle.mk_heap.specs.Hosts.{pass_for, with_caller_made, with_marker_made, with_joined, with_seen};
 ghost use Rattle.mk_heap.specs.Turns.{is_register, Tells};
 
@@ -66,6 +67,7 @@ impl Host {
         ensures host { self.new ≡ with_joined self.old pass self.new.pass.seen }
         ensures own { Grows self.old.pass.seats self.old.pass.seen self.new.pass.seen }
         ensures came { Grows pass.seats pass.seen self.new.pass.seen }
+        ensures reached { SweepsNothing self.old.pass self.new.pass }
         ensures overs { has_over self.new.pass.seen ≡ has_over self.old.pass.seen }
     {
         match &mut self.pass {
@@ -107,6 +109,7 @@ impl Host {
         ensures host { self.new ≡ with_joined self.old pass self.new.pass.seen }
         ensures own { Grows self.old.pass.seats self.old.pass.seen self.new.pass.seen }
         ensures came { Grows pass.seats pass.seen self.new.pass.seen }
+        ensures reached { SweepsNothing self.old.pass self.new.pass }
         ensures overs { has_over self.new.pass.seen ≡ has_over self.old.pass.seen }
     {
         match &mut self.pass {
@@ -127,6 +130,7 @@ impl Host {
         requires no_register { is_register x ≡ false }
         ensures host { self.new ≡ with_seen self.old self.new.pass.seen }
         ensures tells { Tells self.old.pass x result self.new.pass }
+        ensures reached { SweepsNothing self.old.pass self.new.pass }
         ensures overs { has_over self.new.pass.seen ≡ has_over self.old.pass.seen }
     {
         let words = &heap.words;

@@ -10,10 +10,12 @@ pub mod Reaching
 pub mod Looks
 pub mod JoinedLooks
 pub mod FilledBooks
+pub mod SoughtPlaces
 pub mod AdmittedNews
 pub mod Serves
 pub mod Takes
 pub mod CarvedPages
+pub mod UnsweptNews
 pub mod PlacedNews
 pub mod FreedCells
 pub mod AdmittedFrees

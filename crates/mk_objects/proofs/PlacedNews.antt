@@ -70,7 +70,17 @@ fit_found p w pages resident shape x table limit filled is found =
     ∙ ap (λ (ps : List Page). place_on_pages resident ps (object_for p)) (sym filled)
     ∙ ap (λ (o : Object). place_on_pages resident pages o) (sym is) ∙ sym found
 
--- So it is where the New goes, behind looks too,
+-- So is the place that was sought on the words for an object of the shape that was asked.
+pub fit_sought : (p : PassState) (w : WordsState) (x y : Option Op) (shape : Shape) (found : Option Place) → p.table ≡ w → IsTurn p x
+    → is_undecided_new (call_of p) ≡ true
+    → y ≡ x → ((o : Op) → y ≡ Some o → object_shaped shape ≡ object_made w.config o)
+    → found ≡ place_among w.config.resident shape.words shape.leaf (uses_of_pages (now_of p).words.pages)
+    → place_on_pages p.table.config.resident (now_of p).words.pages (object_for p) ≡ found
+fit_sought p w x y shape found table turn new same made is =
+    fit_found p w (now_of p).words.pages w.config.resident shape found table refl refl
+    (shape_asked p w x y shape table turn new same made) is
+
+-- It is where the New goes, behind looks too,
 pub goes_behind : (p q : PassState) (place : Place) → OnlyLooks p q → IsUnplaced p
     → place_on_pages p.table.config.resident (now_of p).words.pages (object_for p) ≡ Some place → GoesTo q place
 goes_behind p q place a u fit =

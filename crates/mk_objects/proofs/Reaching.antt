@@ -22,7 +22,7 @@ use Rattle.mk_protocol.proofs.OthersCounts.{answers_full}
 use Rattle.mk_words.specs.Seats.{Has}
 use Rattle.mk_words.specs.States.{PassState, event_of, world_of}
 use Rattle.mk_words.specs.Steps.{may_decide}
-use Rattle.mk_words.specs.TurnSteps.{Acts}
+use Rattle.mk_words.specs.TurnSteps.{Acts, world_at}
 use Rattle.mk_words.proofs.Made.{made}
 use Rattle.mk_words.proofs.Undecided.{decides_nothing}
 use Rattle.mk_turns.specs.Doing.{Does}
@@ -56,6 +56,18 @@ pub record MadeIn (p : PassState) (es : List Event) (s : Step) (r : PassState) :
   pub known : Known p.table.config (left p.table.config (es ++ others)).now
   pub does : (kinds : Step → Bool) → kinds s ≡ true → Does kinds (seeing p es) r
 
+-- what others had left it where it made its step
+pub kept_by : (p q : PassState) (s : Step) (a : Acts p s q) → IsAsLeft p.seat (world_of p) (world_at a.makes)
+kept_by p q s a =
+    record {
+      call = a.own.flight;
+      holding = a.holding;
+      steady = a.turn.steady;
+      marks = a.turn.marks_grow;
+      registers = a.own.registers;
+      gates = λ j. held_so _ _ (a.turn.held_gates j) (a.turn.other_gates j);
+    }
+
 pub made_in : (p : PassState) (es : List Event) (s : Step) (r : PassState) → Acts (seeing p es) s r → Has p.seats p.seat
     → IsHistory r.table.config r.seen → MadeIn p es s r
 made_in p es s r a own history =
@@ -64,14 +76,7 @@ made_in p es s r a own history =
       others = a.makes.others;
       of_others = d.others;
       same = a.makes.is;
-      kept = record {
-        call = a.own.flight;
-        holding = a.holding;
-        steady = a.turn.steady;
-        marks = a.turn.marks_grow;
-        registers = a.own.registers;
-        gates = λ j. held_so _ _ (a.turn.held_gates j) (a.turn.other_gates j);
-      };
+      kept = kept_by (seeing p es) r s a;
       stop = a.stop;
       counts = a.counts;
       behind = a.world;

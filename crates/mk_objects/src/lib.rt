@@ -7,6 +7,7 @@ mod looking;
 mod objects;
 mod placing;
 mod retiring;
+mod seeking;
 mod unmapping;
 
 pub use freeing::{Double, Freed, retire_object};

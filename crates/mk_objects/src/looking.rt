@@ -43,6 +43,20 @@ pub(crate) fn look_at_phase(words: &Words, turn: &mut Turn) -> u64
     found % 8
 }
 
+/// Looks at the words of a page.
+pub(crate) fn look_at_page(words: &Words, turn: &mut Turn, page: u64) -> Page
+    requires one_table { turn.old.pass.table ≡ words.now }
+    requires acting { is_acting (call_of turn.old.pass).stage ≡ true }
+    requires within { page < turn.old.pass.table.config.pages }
+    ensures op { turn.new.op ≡ turn.old.op }
+    ensures looks { OnlyLooks turn.old.pass turn.new.pass }
+    ensures finds { result ≡ page_of (now_of turn.old.pass).words page }
+{
+    let header = look_at(words, turn, Word::Head(page));
+    let used = look_at(words, turn, Word::Used(page));
+    Page { header, used }
+}
+
 /// Fills the book with the words of all pages.
 pub(crate) fn fill(words: &Words, turn: &mut Turn, book: &mut Book)
     requires one_table { turn.old.pass.table ≡ words.now }
@@ -55,8 +69,7 @@ pub(crate) fn fill(words: &Words, turn: &mut Turn, book: &mut Book)
     let pages = words.pages();
     turn.is_in_order();
     for page in 0..pages {
-        let header = look_at(words, turn, Word::Head(page));
-        let used = look_at(words, turn, Word::Used(page));
-        book.set(page, Page { header, used });
+        let found = look_at_page(words, turn, page);
+        book.set(page, found);
     }
 }

@@ -12,7 +12,7 @@ use mk_geom::{Header, cells, class_of, class_words, encode, run_pages};
 use mk_never::Kind;
 
 /// The largest object that takes a cell, in words.
-const SMALL_WORDS: u64 = 32;
+pub(crate) const SMALL_WORDS: u64 = 32;
 
 /// What an object is: its words, and whether none of them is a pointer.
 #[derive(Clone, Copy)]

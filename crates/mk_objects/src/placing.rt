@@ -5,12 +5,14 @@ ghost use Rattle.mk_core.specs.Calls.{has_type};
 ghost use Rattle.mk_core.specs.NewPlaces.{object_made};
 ghost use Rattle.mk_core.specs.Words.{header_at, page_of, phase_of};
 ghost use Rattle.mk_words.specs.States.{now_of};
+ghost use Rattle.mk_turns.specs.Sweeping.{SweepsNothing};
 ghost use Rattle.mk_objects.specs.Placing.{GoesTo, HasCarved, HeldIsExact, MayTake, IsUnplaced, IsPlaced, FitsNowhere, IsGranted, object_for};
 ghost use Rattle.mk_objects.specs.Shapes.{object_shaped};
 
-use crate::looking::{fill, look_at, look_at_phase};
+use crate::looking::{fill, look_at, look_at_page, look_at_phase};
 use crate::objects::{Shape, shape_of};
-use mk_books::{Book, first_fit};
+use crate::seeking::seek;
+use mk_books::Book;
 use mk_core::{Tally, Word};
 use mk_geom::{Page, Place};
 use mk_never::Op;
@@ -25,6 +27,7 @@ fn mark_first(words: &Words, turn: &mut Turn, shape: Shape, place: Place, markin
     requires marking { marking ≡ (phase_of (now_of turn.old.pass).words == 1) }
     ensures op { turn.new.op ≡ turn.old.op }
     ensures carved { HasCarved turn.old.pass place 0 turn.new.pass }
+    ensures reached { SweepsNothing turn.old.pass turn.new.pass }
 {
     turn.is_in_order();
     if marking {
@@ -42,6 +45,7 @@ fn carve(words: &Words, turn: &mut Turn, shape: Shape, place: Place, marking: bo
     requires marking { marking ≡ (phase_of (now_of turn.old.pass).words == 1) }
     ensures op { turn.new.op ≡ turn.old.op }
     ensures ready { MayTake turn.old.pass place turn.new.pass }
+    ensures reached { SweepsNothing turn.old.pass turn.new.pass }
 {
     turn.is_in_order();
     let pages = shape.pages();
@@ -62,6 +66,7 @@ fn make_ready(words: &Words, turn: &mut Turn, shape: Shape, place: Place, page: 
     requires marking { marking ≡ (phase_of (now_of turn.old.pass).words == 1) }
     ensures op { turn.new.op ≡ turn.old.op }
     ensures ready { MayTake turn.old.pass place turn.new.pass }
+    ensures reached { SweepsNothing turn.old.pass turn.new.pass }
 {
     turn.is_in_order();
     if page.header == 0 {
@@ -89,6 +94,7 @@ fn serve(
     ensures op { turn.new.op ≡ turn.old.op }
     ensures granted { IsGranted turn.old.pass place turn.new.pass }
     ensures held { HeldIsExact turn.new.pass }
+    ensures reached { SweepsNothing turn.old.pass turn.new.pass }
 {
     turn.is_in_order();
     make_ready(words, turn, shape, place, page, marking);
@@ -111,6 +117,7 @@ fn serve_now(words: &Words, turn: &mut Turn, shape: Shape, place: Place, page: P
     ensures op { turn.new.op ≡ turn.old.op }
     ensures granted { IsGranted turn.old.pass place turn.new.pass }
     ensures held { HeldIsExact turn.new.pass }
+    ensures reached { SweepsNothing turn.old.pass turn.new.pass }
 {
     let held = look_at(words, turn, Word::Held);
     let marking = look_at_phase(words, turn) == 1;
@@ -145,8 +152,7 @@ fn shape_asked(words: &Words, op: Option<Op>) -> Shape
     }
 }
 
-/// Grants the object of a New at its place, or answers false where nothing fits, and the book shows the pages then. It
-/// is filled by looks.
+/// Grants the object of a New at its place, or answers false where nothing fits. The book shows the pages then.
 pub fn place_object(words: &Words, turn: &mut Turn, book: &mut Book) -> bool
     requires one_table { turn.old.pass.table ≡ words.now }
     requires unplaced { IsUnplaced turn.old.pass }
@@ -157,14 +163,17 @@ pub fn place_object(words: &Words, turn: &mut Turn, book: &mut Book) -> bool
     ensures placed { result ≡ true → IsPlaced turn.old.pass turn.new.pass }
     ensures nowhere { result ≡ false → FitsNowhere turn.old.pass turn.new.pass }
     ensures shows { result ≡ false → book.new ≡ (now_of turn.new.pass).words.pages }
+    ensures reached { SweepsNothing turn.old.pass turn.new.pass }
 {
     turn.is_in_order();
-    fill(words, turn, book);
     let shape = shape_asked(words, turn.op());
-    match first_fit(book.pages(), words.resident(), shape.words, shape.leaf) {
-        None => false,
+    match seek(words, turn, shape) {
+        None => {
+            fill(words, turn, book);
+            false
+        }
         Some(place) => {
-            let page = book.pages()[place.page as usize];
+            let page = look_at_page(words, turn, place.page);
             serve_now(words, turn, shape, place, page);
             true
         }

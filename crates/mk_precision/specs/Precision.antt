@@ -24,10 +24,14 @@ KeepsOnlyTheTouched c es =
     → (placed_at (left c (through_release k)).allocations i).released ≡ false → IsTouched c k.marking i
 
 -- what isn't touched is released.
-abbrev pub ReleasesTheUntouched : Config → List Event → Type 0
-ReleasesTheUntouched c es =
-    (k : Releasing es) → NoneSweeps c k.marking → (i : ℕ) → IsInSnapshot c k.marking i → (IsTouched c k.marking i → ⊥)
+
+abbrev pub ReleasesUntouched : Config → {es : List Event} → Releasing es → Type 0
+ReleasesUntouched c k =
+    (i : ℕ) → IsInSnapshot c k.marking i → (IsTouched c k.marking i → ⊥)
     → (placed_at (left c (through_release k)).allocations i).released ≡ true
+
+abbrev pub ReleasesTheUntouched : Config → List Event → Type 0
+ReleasesTheUntouched c es = (k : Releasing es) → NoneSweeps c k.marking → ReleasesUntouched c k
 
 -- A storage counts as free among these.
 pub record CountsAsFree (storages : List Storage) (s : Storage) : Type 0 where
@@ -39,9 +43,17 @@ pub record CountsAsFree (storages : List Storage) (s : Storage) : Type 0 where
   pub pages : is_small s ≡ false → (page : ℕ) → stands_on page s ≡ true → use_of_storages storages page ≡ Nothing
 
 -- Behind the cycle's `end` its storage counts as free in place and fits.
-abbrev pub FreesTheUntouched : Config → List Event → Type 0
-FreesTheUntouched c es =
-    (k : Cycle es) → NoneSweeps c k.releasing.marking → (i : ℕ) → IsInSnapshot c k.releasing.marking i
-    → (IsTouched c k.releasing.marking i → ⊥)
+
+abbrev pub FreesUntouched : Config → {es : List Event} → Cycle es → Type 0
+FreesUntouched c k =
+    (i : ℕ) → IsInSnapshot c k.releasing.marking i → (IsTouched c k.releasing.marking i → ⊥)
     → CountsAsFree (unreleased_storage c (left c (through_end k)).allocations)
     (storage_of c (placed_at (left c (through_end k)).allocations i))
+
+abbrev pub FreesTheUntouched : Config → List Event → Type 0
+FreesTheUntouched c es = (k : Cycle es) → NoneSweeps c k.releasing.marking → FreesUntouched c k
+
+-- Each cycle of the history releases what it doesn't touch of its snapshot, and frees it.
+pub record CyclesArePrecise (c : Config) (es : List Event) : Type 0 where
+  pub releases : (k : Releasing es) → ReleasesUntouched c k
+  pub frees : (k : Cycle es) → FreesUntouched c k

@@ -24,6 +24,7 @@ use Rattle.mk_heap.specs.Reports as report
 use Rattle.mk_heap.specs.Reports.{IsWhole}
 use Rattle.mk_run.specs.declared.outcomes.Outcome.{Outcome}
 use Rattle.mk_run.specs.Running.{answers_in, IsRunOf}
+use Rattle.mk_run.proofs.UnsweptHistories.{unswept_is_precise}
 use Rattle.mk_run.specs.Headline.{cycles_go_on, RunsToItsEnd, RunsStandInOneHistory, RunsPrintTheirTexts}
 
 -- A caller has as many answers among the calls as operations.
@@ -69,17 +70,19 @@ runs_to_its_end on program markers outcome k runs is = record {
       ∙ as_many k (calls (config_of program markers) (report.history_of outcome.report));
 }
 
-pub runs_stand_in_one_history : RunsStandInOneHistory
-runs_stand_in_one_history program markers outcome tell bytes runs told =
+unfoldable pub runs_stand_in_one_history : RunsStandInOneHistory
+runs_stand_in_one_history program markers sweep outcome tell bytes runs unswept told =
     let c = config_of program markers in
     let es = report.history_of outcome.report in
+    let kept = histories_keep_all_promises c es runs.whole.history in
     record {
       history = es;
       whole = runs.whole;
-      promises = histories_keep_all_promises c es runs.whole.history;
+      promises = kept;
       operations = λ k is. (runs.follows k is).noted;
       ends = λ k is. runs_to_its_end (cycles_go_on markers) program markers outcome k runs is;
       cycles = λ k is. (runs.follows k is).exact;
+      precise = λ none. unswept_is_precise c es kept (unswept none);
       told = told;
     }
 

@@ -6,3 +6,8 @@ mod NotedCalls
 mod ScriptCalls
 mod WholeRuns
 pub mod Headline
+pub mod LastTurns
+pub mod LastCycles
+pub mod LastOvers
+pub mod UnsweptHistories
+pub mod UnsweptScripts

@@ -15,15 +15,15 @@ use Rattle.mk_core.specs.Moments.{marker_at, outside}
 use Rattle.mk_words.specs.Seats.{Has}
 use Rattle.mk_words.specs.States.{WordsState, PassState}
 use Rattle.mk_words.proofs.Seats.{has_first, has_left, has_right}
-use Rattle.mk_heap.specs.Ending.{SaysOver}
-use Rattle.mk_heap.specs.Hosts.{HostState, pass_for, with_marker_made, with_joined, with_seen}
+use Rattle.mk_heap.specs.Hosts.{HostState, pass_for, with_marker_made, with_joined}
 use Rattle.mk_script.specs.declared.items.Item.{Item}
 use Rattle.mk_run.specs.declared.joining.Joined.{Joined}
 use Rattle.mk_run.specs.Joining.{HasMade, HasJoined, AreTextsFrom}
+use Rattle.mk_run.specs.LastTurns.{CallersAreStill}
 use Rattle.mk_run.specs.Marking.{IsMarkersPass, IsOver}
 use Rattle.mk_run.proofs.JoinedScripts.{same_or_later}
 use Rattle.mk_run.proofs.LaterLists.{of_one}
-use Rattle.mk_run.proofs.WholeRuns.{CallersAreStill, still_behind_over, still_joined, still_texts}
+use Rattle.mk_run.proofs.WholeRuns.{still_joined, still_texts}
 
 -- A marker that has done nothing is out.
 
@@ -51,17 +51,7 @@ first_marker w j h m p made count few is same =
 pub marker_made : (w : WordsState) (h : HostState) → HasMade w 0 h → HasMade w 0 (with_marker_made h)
 marker_made w h made = record { table = made.table; seat = made.seat; seen = made.seen; count = made.count }
 
--- All is said to be over, and one marker more is joined.
-
-pub over_said : (on : Bool) (program : List Item) (w : WordsState) (h g : HostState) → HasJoined on program w 0 h
-    → g ≡ with_seen h g.pass.seen → SaysOver h.pass g.pass
-    → HasJoined on program w 0 g × CallersAreStill h.pass g.pass.seen
-over_said on program w h g joined is over =
-    let still = still_behind_over h.pass g.pass joined.seat over in (
-      subst (λ (x : HostState). HasJoined on program w 0 x) (sym is)
-          (still_joined on program w h g.pass.seen joined still h.pass.seats (λ k has. has)),
-      still,
-    )
+-- One marker more is joined.
 
 pub marker_joined : (on : Bool) (program : List Item) (w : WordsState) (j : ℕ) (p : PassState) (before after : Joined)
     → IsOver on program w (j + 1) before → after.host ≡ with_joined before.host p after.host.pass.seen

@@ -1,16 +1,14 @@
 -- A run of all scripts, when the heap is closed.
-use Rattle.std.proofs.Common.{◌≡◌, ℕ, ◌+◌, ◌≤◌, Bool, List, [], ◌∷◌, sym, ◌∙◌, ap, subst, arith}
+use Rattle.std.proofs.Common.{◌≡◌, ℕ, ◌+◌, ◌<◌, ◌≤◌, Bool, List, [], ◌∷◌, sym, ◌∙◌, ap, subst, arith}
 use Rattle.std.proofs.lemmas.Option.{slice_get_within}
 use Rattle.mk_core.specs.declared.config.Config.{Config}
 use Rattle.mk_core.specs.declared.events.Event.{Event}
-use Rattle.mk_core.specs.declared.events.Seat.TheVariants.{Caller, Host}
-use Rattle.mk_core.specs.Growing.{Grows, is_same_seat}
 use Rattle.mk_core.specs.declared.events.Seat.{Seat}
-use Rattle.mk_core.specs.declared.events.Step.TheVariants as step
-use Rattle.mk_words.specs.Seats.{Has}
+use Rattle.mk_core.specs.declared.events.Seat.TheVariants.{Caller}
+use Rattle.mk_core.specs.Growing.{Grows}
+use Rattle.mk_words.specs.Seats.{Has, HasCallers}
 use Rattle.mk_words.specs.States.{WordsState, PassState}
-use Rattle.mk_heap.specs.Ending.{CallersAreJoined, SaysOver}
-use Rattle.mk_heap.proofs.MovedHosts.{idle_moves, moves_more}
+use Rattle.mk_heap.specs.Ending.{CallersAreJoined}
 use Rattle.mk_heap.specs.Hosts.{HostState, AllAreJoined}
 use Rattle.mk_heap.specs.Reports as report
 use Rattle.mk_heap.specs.Reports.{IsWhole, HasCounts}
@@ -21,6 +19,7 @@ use Rattle.mk_check.specs.declared.text.Text.{Text}
 use Rattle.mk_run.specs.declared.outcomes.Outcome.{Outcome}
 use Rattle.mk_run.specs.declared.joining.Joined.{Joined}
 use Rattle.mk_run.specs.Joining.{HasJoined, AreTextsFrom}
+use Rattle.mk_run.specs.LastTurns.{CallersAreStill}
 use Rattle.mk_run.specs.Marking.{IsOver}
 use Rattle.mk_run.specs.Running.{FollowsScript, EndsScript, IsTextOf, IsRunOf}
 use Rattle.mk_run.proofs.LaterLists.{still_follows, still_ends, still_text}
@@ -29,21 +28,12 @@ pub all_callers_joined : (on : Bool) (program : List Item) (w : WordsState) (h :
     → HasJoined on program w 0 h → CallersAreJoined h
 all_callers_joined on program w h joined = λ k lt. let n = joined.count in joined.seats k (omega arith) (omega arith)
 
--- The host says that all is over, and the callers whose seats are home make no step.
-
-abbrev pub CallersAreStill : PassState → List Event → Type 0
-CallersAreStill p es = (k : ℕ) → Has p.seats (Caller k) → Grows (Caller k ∷ []) p.seen es
-
-pub still_behind_over : (p q : PassState) → p.seat ≡ Host → SaysOver p q → CallersAreStill p q.seen
-still_behind_over p q seat over =
-    let idle = idle_moves p over.idle (record { taken = over.taken; takes = over.takes; ends = over.ends }) in
-    let moves =
-    moves_more p over.said q step.Give (moves_more p over.idle over.said step.Over idle over.says) over.gives in
-    λ k has. record {
-      more = moves.more;
-      is = ap (λ (r : PassState). r.seen) moves.is;
-      of_others = moves.leaves (Caller k) has (ap (λ (s : Seat). is_same_seat (Caller k) s) seat);
-    }
+-- All callers that there are are home.
+pub all_callers_home : (on : Bool) (program : List Item) (w : WordsState) (h : HostState)
+    → w.config ≡ config_of program w.config.markers → HasJoined on program w 0 h → HasCallers w.config h.pass.seats
+all_callers_home on program w h made joined = λ k lt.
+    let few : k < (config_of program w.config.markers).callers = subst (λ (c : Config). k < c.callers) made lt in
+    joined.seats k (omega arith) few
 
 -- What was joined stays so where the callers are still.
 

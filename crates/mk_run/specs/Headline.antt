@@ -1,5 +1,5 @@
 -- What is promised of the scripts of a program that ran.
-use Rattle.std.specs.Prelude.{◌≡◌, ℕ, Bool, true, List, length, nat_lt}
+use Rattle.std.specs.Prelude.{◌≡◌, ℕ, Bool, true, false, List, length, nat_lt}
 use Rattle.std.specs.List.{flat_map}
 use Rattle.mk_core.specs.declared.config.Config.{Config}
 use Rattle.mk_core.specs.declared.events.Answer.{Answer}
@@ -16,9 +16,11 @@ use Rattle.mk_check.specs.declared.text.Text.{Text}
 use Rattle.mk_heap.specs.Reports.{IsWhole}
 use Rattle.mk_heap.specs.Reports as report
 use Rattle.mk_alloc.specs.TurnCycles.{TurnsOfAreExact}
+use Rattle.mk_precision.specs.Precision.{CyclesArePrecise}
 use Rattle.mk_theorems.specs.Promises.{KeepsAllPromises}
 use Rattle.mk_run.specs.declared.outcomes.Outcome.{Outcome}
 use Rattle.mk_run.specs.Running.{answers_in, IsRunOf}
+use Rattle.mk_run.specs.Unswept.{IsUnswept}
 
 -- Whether the cycle that a Free begins goes on behind its call: where there are markers to work on it.
 abbrev pub cycles_go_on : ℕ → Bool
@@ -31,8 +33,8 @@ pub record RunsToItsEnd (program : List Item) (k : ℕ) (answers : List Answer) 
 
 -- Whatever the interleaving of callers and markers, the replies of a program's scripts stand in one history of a heap
 -- that never reuses storage, each script's operations there once and in order. The bytes are what is told of it.
-pub record StandsInOneHistory (program : List Item) (markers : ℕ) (tell : Config → List Event → List ℕ)
-    (bytes : List ℕ) : Type 0 where
+pub record StandsInOneHistory (program : List Item) (markers : ℕ) (sweep : Bool)
+    (tell : Config → List Event → List ℕ) (bytes : List ℕ) : Type 0 where
   -- There is a list of events.
   pub history : List Event
   -- It is a history of one heap of the program's configuration, and tidy, and no call of it is in flight.
@@ -53,6 +55,9 @@ pub record StandsInOneHistory (program : List Item) (markers : ℕ) (tell : Conf
   pub cycles :
       (k : ℕ) → IsScript program k
       → TurnsOfAreExact (cycles_go_on markers) (config_of program markers) (Caller k) history
+  -- Unless a sweep makes the marks, each cycle releases all of its snapshot that no pointer led to from the `begin` to the
+  -- `close`, and behind its `end` that storage counts as free.
+  pub precise : sweep ≡ false → CyclesArePrecise (config_of program markers) history
   -- This is told of it, whole.
   pub told : bytes ≡ tell (config_of program markers) history
 
@@ -63,10 +68,12 @@ printed outcome = flat_map (λ (text : Text). text.bytes.items) outcome.texts.it
 -- The history of a run is such a history, whatever is told of it.
 abbrev pub RunsStandInOneHistory : Type 0
 RunsStandInOneHistory =
-    (program : List Item) (markers : ℕ) (outcome : Outcome) (tell : Config → List Event → List ℕ) (bytes : List ℕ)
+    (program : List Item) (markers : ℕ) (sweep : Bool) (outcome : Outcome) (tell : Config → List Event → List ℕ)
+    (bytes : List ℕ)
     → IsRunOf (cycles_go_on markers) program markers outcome
+    → (sweep ≡ false → IsUnswept (config_of program markers) (report.history_of outcome.report))
     → bytes ≡ tell (config_of program markers) (report.history_of outcome.report)
-    → StandsInOneHistory program markers tell bytes
+    → StandsInOneHistory program markers sweep tell bytes
 
 -- What the scripts print of it are the texts of the outcome, whole.
 abbrev pub RunsPrintTheirTexts : Type 0

@@ -3,3 +3,7 @@ pub mod Marking
 pub mod Headline
 pub mod Running
 pub mod Scripts
+pub mod LastCycle
+pub mod LastTurns
+pub mod Unswept
+pub mod UnsweptSeats

@@ -4,6 +4,7 @@ ghost use Rattle.mk_core.specs.Calls.{is_under_turn};
 ghost use Rattle.mk_caller.specs.Causes.{FindsGateHeld, IsRefused};
 ghost use Rattle.mk_caller.specs.Moves.{is_access};
 ghost use Rattle.mk_caller.specs.States.{number_of, Admits};
+ghost use Rattle.mk_turns.specs.Sweeping.{SweepsNothing};
 ghost use Rattle.mk_run.specs.Scripts.{IsCalled, StaysAdmitted, Answers};
 
 use crossbeam_utils::Backoff;
@@ -93,6 +94,7 @@ fn call_until_open<R: Wait>(rt: &R, caller: &mut Caller, op: Op) -> Answer
     requires admitted { StaysAdmitted caller.old.pass op }
     ensures home { caller.new.home ≡ true }
     ensures answers { (on : Bool) → Answers on caller.old.pass op result caller.new.pass }
+    ensures reached { SweepsNothing caller.old.pass caller.new.pass }
 {
     let backoff = Backoff::new();
     'held: for _ in rt.forever() {
@@ -122,6 +124,7 @@ pub(crate) fn answer_to<E: Engine, R: Threads + Wait + Sync>(
     ensures made_for { E.made_for bench.new.engine ≡ E.made_for bench.old.engine }
     ensures book { length bench.new.book ≡ length bench.old.book }
     ensures answers { Answers E.on caller.old.pass op result caller.new.pass }
+    ensures reached { E.sweeps ≡ false → SweepsNothing caller.old.pass caller.new.pass }
 {
     caller.is_idle();
     match op {

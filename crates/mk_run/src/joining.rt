@@ -1,10 +1,12 @@
 //! Scripts on threads of their own, and the host that joins them.
-ghost use Rattle.std.specs.Prelude.{◌≡◌, ◌+◌, ◌∷◌, length, All, IfOk, IsOk, OnOk};
+ghost use Rattle.std.specs.Prelude.{◌≡◌, ◌+◌, ◌∷◌, length, All, IfOk, IsOk, OnOk, false};
 ghost use Rattle.std.specs.Thread.{IsSync};
+ghost use Rattle.mk_core.specs.declared.events.Seat.TheVariants as seat;
 ghost use denote.Param.Send.{IsSend};
 ghost use Rattle.mk_script.specs.Scopes.{script_names};
 ghost use Rattle.mk_check.specs.Laws.{IsScript};
 ghost use Rattle.mk_run.specs.Joining.{IsHeapOf, IsFirstPass, HasMade, HasRun, AreJoined};
+ghost use Rattle.mk_run.specs.UnsweptSeats.{ScriptsSweepNothing, SeatSweepsNothing};
 
 use crate::paces::Pace;
 use crate::scripts::run_script;
@@ -49,7 +51,8 @@ fn run_alone<E: Engine, P: Pace, R: Threads + Wait + Sync>(
     requires pass { IsFirstPass heap.now k pass }
     requires made_for { E.made_for bench.engine ≡ heap.now.config.pages }
     requires book { length bench.book ≡ heap.now.config.pages }
-    ensures { HasRun E.on program.now heap.now k result }
+    ensures ran { HasRun E.on program.now heap.now k result }
+    ensures reached { E.sweeps ≡ false → SeatSweepsNothing heap.now.config (seat.Caller k) result.pass.seen }
 {
     let mut caller = Caller::new(heap.words(), pass);
     let mut bench = bench;
@@ -95,7 +98,8 @@ pub(crate) fn run_from<E: Engine + Send, P: Pace + Sync, R: Threads + Wait + Syn
     requires benches { k + length benches.items ≡ length (script_names program.now) }
     requires made_for { All (λ bench. E.made_for bench.engine ≡ heap.now.config.pages) benches.items }
     requires books { All (λ bench. length bench.book ≡ heap.now.config.pages) benches.items }
-    ensures { AreJoined E.on program.now heap.now k host.markers result }
+    ensures joined { AreJoined E.on program.now heap.now k host.markers result }
+    ensures reached { E.sweeps ≡ false → ScriptsSweepNothing program.now k heap.now.config result.host.pass.seen }
 {
     let Some(bench) = benches.pop() else {
         return Joined {
@@ -113,7 +117,8 @@ pub(crate) fn run_from<E: Engine + Send, P: Pace + Sync, R: Threads + Wait + Syn
             requires pass { IsFirstPass heap.now k pass }
             requires made_for { E.made_for bench.engine ≡ heap.now.config.pages }
             requires book { length bench.book ≡ heap.now.config.pages }
-            ensures { HasRun E.on program.entry.now heap.entry.now k result }
+            ensures ran { HasRun E.on program.entry.now heap.entry.now k result }
+            ensures reached { E.sweeps ≡ false → SeatSweepsNothing heap.entry.now.config (seat.Caller k) result.pass.seen }
         { run_alone(rt, alloc, heap, pass, bench, program, k, pace) },
         move || -> Joined
             requires shared { IsSync R.row × IsSync P.row × IsSend E.row }
@@ -122,7 +127,8 @@ pub(crate) fn run_from<E: Engine + Send, P: Pace + Sync, R: Threads + Wait + Syn
             requires benches { k + 1 + length benches.items ≡ length (script_names program.now) }
             requires made_for { All (λ bench. E.made_for bench.engine ≡ heap.now.config.pages) benches.items }
             requires books { All (λ bench. length bench.book ≡ heap.now.config.pages) benches.items }
-            ensures { AreJoined E.on program.entry.now heap.entry.now (k + 1) host.markers result }
+            ensures joined { AreJoined E.on program.entry.now heap.entry.now (k + 1) host.markers result }
+            ensures reached { E.sweeps ≡ false → ScriptsSweepNothing program.entry.now (k + 1) heap.entry.now.config result.host.pass.seen }
         { run_from(rt, alloc, heap, program, pace, k + 1, host, benches) },
     );
     let Ran { pass, text } = ran;

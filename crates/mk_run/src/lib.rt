@@ -3,14 +3,17 @@
 
 mod answers;
 mod joining;
+mod last_turns;
 pub mod laws;
 mod marking;
 mod outcomes;
 mod paces;
 mod running;
 mod scripts;
+mod why;
 
 pub use outcomes::Outcome;
 pub use paces::{NoPace, Pace};
-pub use running::run_all;
+pub use running::{run_all, run_with_cycle};
 pub use scripts::run_script;
+pub use why::run_why;

@@ -5,9 +5,12 @@ ghost use denote.Param.Send.{IsSend};
 ghost use Rattle.mk_marker.specs.Markers.{attends};
 ghost use Rattle.mk_script.specs.Scopes.{script_names};
 ghost use Rattle.mk_run.specs.Joining.{IsHeapOf, HasMade};
+ghost use Rattle.mk_run.specs.LastTurns.{TakesLastTurns};
 ghost use Rattle.mk_run.specs.Marking.{IsMarkersPass, IsOver};
+ghost use Rattle.mk_run.specs.UnsweptSeats.{ScriptsSweepNothing};
 
 use crate::joining::{Joined, run_from};
+use crate::last_turns::take_last_turns;
 use crate::paces::Pace;
 use crossbeam_utils::Backoff;
 use mk_check::Checked;
@@ -54,7 +57,14 @@ fn mark_until_over<P: Pace, R: Wait>(rt: &R, heap: &Heap, pass: Pass, number: u6
     unreachable!()
 }
 
-/// Runs all scripts and joins them, and says to the markers that all is over.
+/// The scripts that are joined, and the bench of the host's own cycles.
+#[derive(Drop)]
+pub(crate) struct Ended<E: Engine> {
+    pub(crate) joined: Joined,
+    pub(crate) bench: Bench<E>,
+}
+
+/// Runs all scripts and joins them, and says to the markers that all is over, where asked behind a last cycle.
 fn run_scripts<E: Engine + Send, P: Pace + Sync, R: Threads + Wait + Sync>(
     rt: &R,
     alloc: Global,
@@ -64,7 +74,8 @@ fn run_scripts<E: Engine + Send, P: Pace + Sync, R: Threads + Wait + Sync>(
     host: Host,
     benches: Vec<Bench<E>>,
     bench: Bench<E>,
-) -> Joined
+    with_cycle: bool,
+) -> Ended<E>
     requires heap { IsHeapOf program.now heap.now }
     requires host { HasMade heap.now 0 host }
     requires benches { length benches.items ≡ length (script_names program.now) }
@@ -72,12 +83,19 @@ fn run_scripts<E: Engine + Send, P: Pace + Sync, R: Threads + Wait + Sync>(
     requires books { All (λ bench. length bench.book ≡ heap.now.config.pages) benches.items }
     requires own_made_for { E.made_for bench.engine ≡ heap.now.config.pages }
     requires own_book { length bench.book ≡ heap.now.config.pages }
-    ensures { IsOver E.on program.now heap.now host.markers result }
+    ensures over { IsOver E.on program.now heap.now host.markers result.joined }
+    ensures turns { with_cycle ≡ true
+        → TakesLastTurns (E.tells result.bench.engine) heap.now result.joined.host.pass }
+    ensures reached { E.sweeps ≡ false
+        → ScriptsSweepNothing program.now 0 heap.now.config result.joined.host.pass.seen }
 {
     let Joined { mut host, texts } = run_from(rt, alloc, heap, program, pace, 0, host, benches);
     let mut bench = bench;
-    host.over(rt, heap, &mut bench);
-    Joined { host, texts }
+    take_last_turns(rt, heap, &mut host, &mut bench, with_cycle);
+    Ended {
+        joined: Joined { host, texts },
+        bench,
+    }
 }
 
 /// Runs the markers from `number` on, each on a thread of its own, beside the scripts, and joins all. A marker whose
@@ -93,7 +111,8 @@ pub(crate) fn run_beside<E: Engine + Send, P: Pace + Sync, R: Threads + Wait + S
     mut host: Host,
     benches: Vec<Bench<E>>,
     bench: Bench<E>,
-) -> Joined
+    with_cycle: bool,
+) -> Ended<E>
     requires shared { IsSync R.row × IsSync P.row × IsSend E.row }
     requires heap { IsHeapOf program.now heap.now }
     requires few { markers ≤ 8 }
@@ -105,20 +124,26 @@ pub(crate) fn run_beside<E: Engine + Send, P: Pace + Sync, R: Threads + Wait + S
     requires books { All (λ bench. length bench.book ≡ heap.now.config.pages) benches.items }
     requires own_made_for { E.made_for bench.engine ≡ heap.now.config.pages }
     requires own_book { length bench.book ≡ heap.now.config.pages }
-    ensures { IsOver E.on program.now heap.now number result }
+    ensures over { IsOver E.on program.now heap.now number result.joined }
+    ensures turns { with_cycle ≡ true
+        → TakesLastTurns (E.tells result.bench.engine) heap.now result.joined.host.pass }
+    ensures reached { E.sweeps ≡ false
+        → ScriptsSweepNothing program.now 0 heap.now.config result.joined.host.pass.seen }
 {
     if number >= markers {
-        return run_scripts(rt, alloc, heap, program, pace, host, benches, bench);
+        return run_scripts(
+            rt, alloc, heap, program, pace, host, benches, bench, with_cycle,
+        );
     }
     let pass = host.marker(heap).finish();
-    let (pass, joined) = thread::join(
+    let (pass, ended) = thread::join(
         rt,
         move || -> Pass
             requires shared { IsSync R.row × IsSync P.row }
             requires pass { IsMarkersPass heap.now number pass }
             ensures { IsMarkersPass heap.entry.now number result }
         { mark_until_over(rt, heap, pass, number, pace) },
-        move || -> Joined
+        move || -> Ended<E>
             requires shared { IsSync R.row × IsSync P.row × IsSend E.row }
             requires heap { IsHeapOf program.now heap.now }
             requires few { markers ≤ 8 }
@@ -130,7 +155,11 @@ pub(crate) fn run_beside<E: Engine + Send, P: Pace + Sync, R: Threads + Wait + S
             requires books { All (λ bench. length bench.book ≡ heap.now.config.pages) benches.items }
             requires own_made_for { E.made_for bench.engine ≡ heap.now.config.pages }
             requires own_book { length bench.book ≡ heap.now.config.pages }
-            ensures { IsOver E.on program.entry.now heap.entry.now (number + 1) result }
+            ensures over { IsOver E.on program.entry.now heap.entry.now (number + 1) result.joined }
+            ensures turns { with_cycle ≡ true
+                → TakesLastTurns (E.tells result.bench.engine) heap.entry.now result.joined.host.pass }
+            ensures reached { E.sweeps ≡ false
+                → ScriptsSweepNothing program.entry.now 0 heap.entry.now.config result.joined.host.pass.seen }
         {
             run_beside(
                 rt,
@@ -143,10 +172,15 @@ pub(crate) fn run_beside<E: Engine + Send, P: Pace + Sync, R: Threads + Wait + S
                 host,
                 benches,
                 bench,
+                with_cycle,
             )
         },
     );
+    let Ended { joined, bench } = ended;
     let Joined { mut host, texts } = joined;
     host.join_marker(heap, pass);
-    Joined { host, texts }
+    Ended {
+        joined: Joined { host, texts },
+        bench,
+    }
 }

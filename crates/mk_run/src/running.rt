@@ -1,9 +1,13 @@
 //! The run of a program.
-ghost use Rattle.std.specs.Prelude.{◌≡◌, ◌≤◌, length, All, IfOk};
+ghost use Rattle.std.specs.Prelude.{◌≡◌, ◌≤◌, length, All, IfOk, true, false};
+ghost use Rattle.mk_check.specs.Declarations.{config_of};
+ghost use Rattle.mk_heap.specs.Reports.{history_of};
+ghost use Rattle.mk_run.specs.LastCycle.{EndsWithCycle};
 ghost use Rattle.mk_run.specs.Running.{IsRunOf};
+ghost use Rattle.mk_run.specs.Unswept.{IsUnswept};
 
 use crate::joining::Joined;
-use crate::marking::run_beside;
+use crate::marking::{Ended, run_beside};
 use crate::outcomes::Outcome;
 use crate::paces::Pace;
 use mk_check::Checked;
@@ -30,6 +34,41 @@ fn benches<E: Engine>(alloc: Global, count: u64, pages: u64) -> Result<Vec<Bench
     Ok(benches)
 }
 
+/// Runs all and closes the heap. Where asked, the host makes a last cycle when the scripts are joined, of which its bench
+/// tells.
+fn run<E: Engine + Send, P: Pace + Sync, R: Threads + Wait + Sync>(
+    rt: &R,
+    alloc: Global,
+    program: &Checked,
+    markers: u64,
+    pace: &P,
+    with_cycle: bool,
+) -> Result<(Outcome, Bench<E>), NoMemory>
+    requires markers { markers ≤ 8 }
+    ensures runs { IfOk result (λ ran. IsRunOf E.on program.now markers ran.0) }
+    ensures cycle { with_cycle ≡ true
+        → IfOk result (λ ran. EndsWithCycle (E.tells ran.1.engine) (config_of program.now markers)
+        (history_of ran.0.report)) }
+    ensures reached { IfOk result (λ ran. E.sweeps ≡ false
+        → IsUnswept (config_of program.now markers) (history_of ran.0.report)) }
+{
+    // No thread is started before all benches are made.
+    let config = program.config(alloc, markers)?;
+    let bench: Bench<E> = Bench::new(alloc, config.pages)?;
+    let benches: Vec<Bench<E>> = benches(alloc, config.callers, config.pages)?;
+    let (heap, host) = Heap::new(alloc, &config)?;
+    let Ended { joined, bench } = run_beside(
+        rt, alloc, &heap, program, pace, 0, markers, host, benches, bench, with_cycle,
+    );
+    let Joined { host, texts } = joined;
+    let report = heap.close(host);
+    let outcome = Outcome {
+        texts: texts?,
+        report,
+    };
+    Ok((outcome, bench))
+}
+
 /// Runs each script and each marker on a thread of its own, joins them, and closes the heap. A script whose thread
 /// can't be started runs here, and a marker whose thread can't be started does nothing. Where memory is refused to a
 /// script, the others run on, and all are joined.
@@ -42,18 +81,28 @@ pub fn run_all<E: Engine + Send, P: Pace + Sync, R: Threads + Wait + Sync>(
 ) -> Result<Outcome, NoMemory>
     requires markers { markers ≤ 8 }
     ensures runs { IfOk result (IsRunOf E.on program.now markers) }
+    ensures reached { IfOk result (λ outcome. E.sweeps ≡ false
+        → IsUnswept (config_of program.now markers) (history_of outcome.report)) }
 {
-    // No thread is started before all benches are made.
-    let config = program.config(alloc, markers)?;
-    let bench: Bench<E> = Bench::new(alloc, config.pages)?;
-    let benches: Vec<Bench<E>> = benches(alloc, config.callers, config.pages)?;
-    let (heap, host) = Heap::new(alloc, &config)?;
-    let Joined { host, texts } = run_beside(
-        rt, alloc, &heap, program, pace, 0, markers, host, benches, bench,
-    );
-    let report = heap.close(host);
-    Ok(Outcome {
-        texts: texts?,
-        report,
-    })
+    let ran: (Outcome, Bench<E>) = run(rt, alloc, program, markers, pace, false)?;
+    Ok(ran.0)
+}
+
+/// The same, with a last cycle: the host makes it when the scripts are joined, before it says that all is over. The
+/// engine of the bench has closed the marks of that cycle last.
+pub fn run_with_cycle<E: Engine + Send, P: Pace + Sync, R: Threads + Wait + Sync>(
+    rt: &R,
+    alloc: Global,
+    program: &Checked,
+    markers: u64,
+    pace: &P,
+) -> Result<(Outcome, Bench<E>), NoMemory>
+    requires markers { markers ≤ 8 }
+    ensures runs { IfOk result (λ ran. IsRunOf E.on program.now markers ran.0) }
+    ensures cycle { IfOk result (λ ran. EndsWithCycle (E.tells ran.1.engine) (config_of program.now markers)
+        (history_of ran.0.report)) }
+    ensures reached { IfOk result (λ ran. E.sweeps ≡ false
+        → IsUnswept (config_of program.now markers) (history_of ran.0.report)) }
+{
+    run(rt, alloc, program, markers, pace, true)
 }

@@ -1,5 +1,5 @@
 //! The engine that sweeps.
-ghost use Rattle.std.specs.Prelude.{◌≡◌, false, IfOk};
+ghost use Rattle.std.specs.Prelude.{◌≡◌, true, false, IfOk, ⊤};
 ghost use Rattle.mk_cycle.specs.EngineLaw.{IsFreeForCycle, IsAtPhase, BeginsMarking, ClosesMarks};
 ghost use Rattle.mk_sweep.specs.Sweeps.{Sweeps};
 
@@ -32,7 +32,11 @@ impl SweepEngine {
 impl Engine for SweepEngine {
     ghost on = { false };
 
+    ghost sweeps = { true };
+
     ghost made_for = { λ engine. engine.pages };
+
+    ghost tells = { λ engine c w. ⊤ };
 
     fn make(_alloc: Global, pages: u64) -> Result<SweepEngine, NoMemory>
         ensures made_for { IfOk result (λ engine. engine.pages ≡ pages) }

@@ -2,13 +2,13 @@
 use Rattle.std.proofs.Common.{◌⊎◌, ◌≡◌, ◌≢◌, ℕ, ◌+◌, ◌<◌, List, length, refl, sym, ◌∙◌, ap, subst, inl, inr, arith}
 use Rattle.std.specs.Prelude.{slice_index, slice_set}
 use Rattle.std.proofs.lemmas.Bool.{cases_eq, cases_lt}
-use Rattle.std.proofs.lemmas.List.{get_or-set_same, get_or-set_other, set_past, get_or_past}
+use Rattle.std.proofs.lemmas.List.{get_or-set_same, get_or-set_other, set-get_or, set_past, get_or_past}
 use Rattle.mk_core.specs.Words.{Words}
 use Rattle.mk_core.specs.Cells.{head_page}
 use Rattle.mk_words.specs.States.{PassState}
 use Rattle.mk_tracing.specs.Stops.{still_words}
 use Rattle.mk_tracing.proofs.DirtyWords.{dirty_is_one}
-use Rattle.mk_tracing.specs.Grays.{BlacksFewer, DirtyFewer, HasDirtyPart, IsUnscanned}
+use Rattle.mk_tracing.specs.Grays.{BlacksFewer, DirtyFewer, HasDirtyPart, IsCleaner, IsUnscanned}
 
 -- a word that is cleared, and the others
 
@@ -29,6 +29,11 @@ blacked_as w bs = record w { blacks = bs }
 
 abbrev dirtied_as : Words → List ℕ → Words
 dirtied_as w ds = record w { dirty = ds }
+
+-- a black word that is 0 is as if it were cleared
+pub black_clear : (w : Words) (page : ℕ) → slice_index w.blacks page ≡ 0 → w ≡ blacked_as w (slice_set w.blacks page 0)
+black_clear w page z =
+    ap (blacked_as w) (sym (ap (λ v. slice_set w.blacks page v) (sym z) ∙ set-get_or w.blacks page 0))
 
 pub blacks_same : (w v : Words) → v ≡ w → BlacksFewer w v
 blacks_same w v e = subst (λ (x : Words). BlacksFewer w x) (sym e) (record { is = refl; fewer = λ p z. z })
@@ -66,26 +71,13 @@ black_cleared w v page e = ap (λ (x : Words). slice_index x.blacks page) e ∙ 
 pub dirt_cleared : (w v : Words) (page : ℕ) → v ≡ dirtied_as w (slice_set w.dirty page 0) → slice_index v.dirty page ≡ 0
 dirt_cleared w v page e = ap (λ (x : Words). slice_index x.dirty page) e ∙ cleared_here w.dirty page
 
--- What is unscanned stays so.
+-- No page is dirty that wasn't, where a dirty word is cleared, and where black ones are.
 
-pub unscanned_still : (w v : Words) (page : ℕ) → BlacksFewer w v → IsUnscanned w page → IsUnscanned v page
-unscanned_still w v page fewer u =
-    let dirty : slice_index v.dirty page ≡ slice_index w.dirty page = ap
-    (λ (x : Words). slice_index x.dirty page) fewer.is in
-    let head : head_page v page ≡ head_page w page = ap (λ (x : Words). head_page x page) fewer.is in
-    record {
-      own = λ some. fewer.fewer page (u.own (λ z. some (dirty ∙ z)));
-      head = λ some. ap (λ q. slice_index v.blacks q) head ∙ fewer.fewer (head_page w page)
-          (u.head (λ z. some (dirty ∙ z)));
-    }
+pub dirt_stays : (w v : Words) (page : ℕ) → v ≡ dirtied_as w (slice_set w.dirty page 0) → IsCleaner w v
+dirt_stays w v page e p z = ap (λ (x : Words). slice_index x.dirty p) e ∙ cleared_stays w.dirty page p z
 
-pub unscanned_clean : (w v : Words) (page : ℕ) → DirtyFewer w v → IsUnscanned w page → IsUnscanned v page
-unscanned_clean w v page fewer u =
-    record {
-      own = λ some. ap (λ (x : Words). slice_index x.blacks page) fewer.is ∙ u.own (λ z. some (fewer.fewer page z));
-      head = λ some. ap (λ (x : Words). slice_index x.blacks (head_page x page)) fewer.is ∙ u.head
-          (λ z. some (fewer.fewer page z));
-    }
+pub same_dirt : (w v : Words) (p : ℕ) → BlacksFewer w v → slice_index v.dirty p ≡ slice_index w.dirty p
+same_dirt w v p fewer = ap (λ (x : Words). slice_index x.dirty p) fewer.is
 
 pub not_dirty : (w v : Words) (page : ℕ) → v ≡ w → slice_index w.dirty page ≡ 0 → IsUnscanned v page
 not_dirty w v page e z =

@@ -8,6 +8,7 @@ pub mod StopSteps
 pub mod MoreMarks
 pub mod RootMarks
 pub mod NoGrays
+pub mod FirstBits
 pub mod Blackened
 pub mod Clearing
 pub mod Closes

@@ -141,6 +141,10 @@ pub record DirtyFewer (w v : Words) : Type 0 where
   pub is : v ≡ record w { dirty = v.dirty }
   pub fewer : (p : ℕ) → slice_index w.dirty p ≡ 0 → slice_index v.dirty p ≡ 0
 
+-- No page is dirty that wasn't.
+abbrev pub IsCleaner : Words → Words → Type 0
+IsCleaner w v = (p : ℕ) → slice_index w.dirty p ≡ 0 → slice_index v.dirty p ≡ 0
+
 -- Such steps make no sweeping mark.
 abbrev pub ReachedMarksSweepNothing : Type 0
 ReachedMarksSweepNothing =

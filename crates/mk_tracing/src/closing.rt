@@ -9,7 +9,7 @@ ghost use Rattle.mk_tracing.specs.Grays.{HasNoGray, MarksOn, RootsPointWell, Tra
 ghost use Rattle.mk_tracing.specs.Stops.{IsReady, IsWanted, still_words};
 ghost use Rattle.mk_tracing.specs.Tracing.{Counted, is_tracing, is_want};
 
-use crate::dirty::{unblack_dirty, undirty_all};
+use crate::dirty::clean_dirty;
 use crate::roots::mark_roots;
 use crate::tracing::trace;
 use crate::waiting::want_and_wait;
@@ -26,8 +26,7 @@ fn mark_in_stop(words: &Words, stop: &mut Stopped, work: &mut Worklist)
     ensures clean { (p : ℕ) → p < words.now.config.pages → slice_index (still_words stop.new.pass).dirty p ≡ 0 }
     ensures roots { RootsPointWell words.now.config.pages (still_words stop.new.pass) }
 {
-    unblack_dirty(words, stop);
-    undirty_all(words, stop);
+    clean_dirty(words, stop);
     mark_roots(words, stop, work);
     trace(words, stop, work);
 }

@@ -1,74 +1,74 @@
-//! Dirty pages: their cells are made unscanned again, and then their dirty words are cleared.
-ghost use Rattle.std.specs.Prelude.{◌≡◌, ℕ, ◌<◌, slice_index};
-ghost use Rattle.mk_tracing.specs.Grays.{BlacksFewer, DirtyFewer, IsUnscanned, MarksOn};
+//! Dirty pages: their cells are made unscanned again, and then their dirty words are cleared. A word that is 0 isn't stored
+//! to.
+ghost use Rattle.std.specs.Prelude.{◌≡◌, ◌≢◌, ℕ, ◌<◌, true, false, slice_index};
+ghost use Rattle.mk_tracing.specs.Grays.{BlacksFewer, HasDirtyPart, IsCleaner, IsUnscanned, MarksOn, without_blacks};
 ghost use Rattle.mk_tracing.specs.Stops.{IsWanted, still_words};
 
 use crate::cells::head_page;
-use crate::stepping::{look_at, unblack_page, undirty_page};
+use crate::stepping::{clear_black, look_at, undirty_page};
 use mk_core::Word;
 use mk_words::{Stopped, Words};
 
-/// Clears the black word of a page that is dirty, and that of the head of its run.
-fn unblack_if_dirty(words: &Words, stop: &mut Stopped, page: u64)
+/// Makes the cells of a page unscanned again, of which a part is dirty.
+fn unblack_page(words: &Words, stop: &mut Stopped, page: u64)
+    requires one_table { stop.old.pass.table ≡ words.now }
+    requires wanted { IsWanted stop.old.pass }
+    requires page { page < words.now.config.pages }
+    requires part { HasDirtyPart (still_words stop.old.pass) page }
+    ensures on { MarksOn stop.old stop.new }
+    ensures words { still_words stop.new.pass ≡ without_blacks page (still_words stop.old.pass) }
+{
+    if look_at(words, stop, Word::Black(page)) != 0 {
+        clear_black(words, stop, page);
+    }
+}
+
+/// Clears the black word of a page that is dirty, and that of the head of its run. Says whether it is dirty.
+fn unblack_if_dirty(words: &Words, stop: &mut Stopped, page: u64) -> bool
     requires one_table { stop.old.pass.table ≡ words.now }
     requires wanted { IsWanted stop.old.pass }
     requires page { page < words.now.config.pages }
     ensures on { MarksOn stop.old stop.new }
     ensures fewer { BlacksFewer (still_words stop.old.pass) (still_words stop.new.pass) }
     ensures unscanned { IsUnscanned (still_words stop.new.pass) page }
+    ensures dirty { result ≡ true → slice_index (still_words stop.old.pass).dirty page ≢ 0 }
+    ensures clean { result ≡ false → slice_index (still_words stop.old.pass).dirty page ≡ 0 }
 {
     if look_at(words, stop, Word::Dirty(page)) == 0 {
-        return;
+        return false;
     }
     let header = look_at(words, stop, Word::Head(page));
     unblack_page(words, stop, page);
     let head = head_page(header, page);
     if head == page {
-        return;
+        return true;
     }
     unblack_page(words, stop, head);
+    true
 }
 
-/// Clears the black words of the pages that are dirty, and of the heads of runs with a dirty page. Cells there are
-/// scanned again.
-pub fn unblack_dirty(words: &Words, stop: &mut Stopped)
-    requires one_table { stop.old.pass.table ≡ words.now }
-    requires wanted { IsWanted stop.old.pass }
-    ensures on { MarksOn stop.old stop.new }
-    ensures fewer { BlacksFewer (still_words stop.old.pass) (still_words stop.new.pass) }
-    ensures unscanned { (p : ℕ) → p < words.now.config.pages → IsUnscanned (still_words stop.new.pass) p }
-{
-    for page in 0..words.pages() {
-        unblack_if_dirty(words, stop, page);
-    }
-}
-
-/// Clears a page's dirty word, if it is dirty.
-fn undirty_if_dirty(words: &Words, stop: &mut Stopped, page: u64)
+/// Clears a page's dirty word, if it is dirty. Its cells, and the run of which it is a part, are scanned again.
+fn clean_if_dirty(words: &Words, stop: &mut Stopped, page: u64)
     requires one_table { stop.old.pass.table ≡ words.now }
     requires wanted { IsWanted stop.old.pass }
     requires page { page < words.now.config.pages }
-    requires unscanned { IsUnscanned (still_words stop.old.pass) page }
     ensures on { MarksOn stop.old stop.new }
-    ensures fewer { DirtyFewer (still_words stop.old.pass) (still_words stop.new.pass) }
+    ensures fewer { IsCleaner (still_words stop.old.pass) (still_words stop.new.pass) }
     ensures clean { slice_index (still_words stop.new.pass).dirty page ≡ 0 }
 {
-    if look_at(words, stop, Word::Dirty(page)) == 0 {
-        return;
+    if unblack_if_dirty(words, stop, page) {
+        undirty_page(words, stop, page);
     }
-    undirty_page(words, stop, page);
 }
 
-/// Clears all dirty words, where nothing of a dirty page is black.
-pub fn undirty_all(words: &Words, stop: &mut Stopped)
+/// Clears all dirty words. The cells of dirty pages, and the runs with such a page, are scanned again.
+pub(crate) fn clean_dirty(words: &Words, stop: &mut Stopped)
     requires one_table { stop.old.pass.table ≡ words.now }
     requires wanted { IsWanted stop.old.pass }
-    requires unscanned { (p : ℕ) → p < words.now.config.pages → IsUnscanned (still_words stop.old.pass) p }
     ensures on { MarksOn stop.old stop.new }
-    ensures fewer { DirtyFewer (still_words stop.old.pass) (still_words stop.new.pass) }
     ensures clean { (p : ℕ) → p < words.now.config.pages → slice_index (still_words stop.new.pass).dirty p ≡ 0 }
 {
     for page in 0..words.pages() {
-        undirty_if_dirty(words, stop, page);
+        clean_if_dirty(words, stop, page);
     }
 }

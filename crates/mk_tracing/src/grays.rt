@@ -1,9 +1,9 @@
 //! The search for gray cells: marked, and not black.
-ghost use Rattle.std.specs.Prelude.{◌≡◌, ℕ, ◌<◌, ◌≤◌, true, false, IfSome, IfNone};
+ghost use Rattle.std.specs.Prelude.{◌≡◌, ℕ, ◌<◌, ◌≤◌, true, false, IfSome, IfNone, slice_index};
 ghost use Rattle.mk_geom.specs.Headers.{header_of};
 ghost use Rattle.mk_core.specs.Bits.{has_bit};
 ghost use Rattle.mk_core.specs.Cells.{cells_under};
-ghost use Rattle.mk_tracing.specs.Grays.{AllAreBlack, HasNoGray, IsGray, MarksOn};
+ghost use Rattle.mk_tracing.specs.Grays.{HasNoGray, IsGray, MarksOn};
 ghost use Rattle.mk_tracing.specs.Stops.{IsWanted, still_words};
 
 use crate::cells::{cells_under, has_bit};
@@ -13,19 +13,39 @@ use mk_core::Word;
 use mk_geom::Cell;
 use mk_words::{Stopped, Words};
 
-/// The first gray cell of a page of these words.
-fn gray_index(header: u64, marks: u64, blacks: u64) -> Option<u64>
+/// The first of these cells that is under the header word.
+fn first_of(cells: u64, header: u64) -> Option<u64>
+    requires some { 0 < cells }
     ensures known { IfSome result (λ k. k < cells_under (header_of header)) }
-    ensures marked { IfSome result (λ k. has_bit marks k ≡ true) }
-    ensures not_black { IfSome result (λ k. has_bit blacks k ≡ false) }
-    ensures none { IfNone result (AllAreBlack (cells_under (header_of header)) marks blacks) }
+    ensures one { IfSome result (λ k. has_bit cells k ≡ true) }
+    ensures none { IfNone result ((k : ℕ) → k < cells_under (header_of header) → has_bit cells k ≡ false) }
 {
-    for index in 0..cells_under(header) {
-        if has_bit(marks, index) && !has_bit(blacks, index) {
-            return Some(index);
-        }
+    let index = u64::from(cells.trailing_zeros());
+    (index < cells_under(header)).then_some(index)
+}
+
+/// The first gray cell of a page on which these cells are marked. The black word is looked at, and the header only where a
+/// marked cell isn't black.
+fn gray_among(words: &Words, stop: &mut Stopped, page: u64, marks: u64) -> Option<Cell>
+    requires one_table { stop.old.pass.table ≡ words.now }
+    requires wanted { IsWanted stop.old.pass }
+    requires page { page < words.now.config.pages }
+    requires marks { marks ≡ slice_index (still_words stop.old.pass).marks page }
+    ensures on { MarksOn stop.old stop.new }
+    ensures words { still_words stop.new.pass ≡ still_words stop.old.pass }
+    ensures gray { IfSome result (λ cell. IsGray words.now.config.pages (still_words stop.old.pass) cell) }
+    ensures none { IfNone result (HasNoGray (still_words stop.old.pass) page) }
+{
+    let blacks = look_at(words, stop, Word::Black(page));
+    let grays = marks - (marks & blacks);
+    if grays == 0 {
+        return None;
     }
-    None
+    let header = look_at(words, stop, Word::Head(page));
+    let Some(index) = first_of(grays, header) else {
+        return None;
+    };
+    Some(Cell { page, index })
 }
 
 /// The first gray cell of a page.
@@ -39,12 +59,10 @@ fn gray_on_page(words: &Words, stop: &mut Stopped, page: u64) -> Option<Cell>
     ensures none { IfNone result (HasNoGray (still_words stop.old.pass) page) }
 {
     let marks = look_at(words, stop, Word::Mark(page));
-    let blacks = look_at(words, stop, Word::Black(page));
-    let header = look_at(words, stop, Word::Head(page));
-    let Some(index) = gray_index(header, marks, blacks) else {
+    if marks == 0 {
         return None;
-    };
-    Some(Cell { page, index })
+    }
+    gray_among(words, stop, page, marks)
 }
 
 /// The first gray cell from a page on, up to another.
@@ -113,7 +131,7 @@ fn gray_somewhere(words: &Words, stop: &mut Stopped, from: u64) -> Option<Cell>
     if let Some(cell) = found {
         return Some(cell);
     }
-    gray_between(words, stop, 0, pages)
+    gray_between(words, stop, 0, from.min(pages))
 }
 
 /// A gray cell: one that was noted, or else one that is found page by page. None where no page has any.

@@ -16,7 +16,6 @@ mod worklist;
 
 pub use cells::{bit, cells_under, has_bit, has_no_pointers, words_under};
 pub use closing::close_marks;
-pub use dirty::{unblack_dirty, undirty_all};
 pub use laws::reached_marks_sweep_nothing;
 pub use roots::mark_roots;
 pub use tracing::trace;

@@ -86,8 +86,8 @@ pub(crate) fn blacken_cell(words: &Words, stop: &mut Stopped, cell: Cell)
     stop.black(words, cell.page, bit(cell.index));
 }
 
-/// Makes the cells of a page unscanned again, of which a part is dirty.
-pub(crate) fn unblack_page(words: &Words, stop: &mut Stopped, page: u64)
+/// Clears the black word of a page of which a part is dirty.
+pub(crate) fn clear_black(words: &Words, stop: &mut Stopped, page: u64)
     requires one_table { stop.old.pass.table ≡ words.now }
     requires wanted { IsWanted stop.old.pass }
     requires page { page < words.now.config.pages }

@@ -1,7 +1,6 @@
 -- What is done in parts, and by one step.
 use Rattle.std.proofs.Common.{◌≡◌, Bool, true, false, List, [], ◌∷◌, ◌++◌, refl, sym, ap, subst, ◌∙◌, append-nil, append_assoc}
 use Rattle.std.specs.Prelude.{◌&&◌, if◌then◌else◌}
-use Rattle.std.specs.List.{list_all}
 use Rattle.std.proofs.lemmas.Bool.{false_from_ne_true}
 use Rattle.std.proofs.lemmas.List.Folds.{list_all-append}
 use Rattle.mk_core.specs.declared.config.Config.{Config}
@@ -9,12 +8,11 @@ use Rattle.mk_core.specs.declared.events.Seat.{Seat}
 use Rattle.mk_core.specs.declared.events.Step.{Step}
 use Rattle.mk_core.specs.declared.events.Event.{Event}
 use Rattle.mk_core.specs.Accesses.{found}
-use Rattle.mk_core.specs.Growing.{is_same_seat, is_one_of, AreOfOthers, Finding, own_from, in_this_call}
+use Rattle.mk_core.specs.Growing.{is_same_seat, is_one_of, AreOfOthers, Finding, own_from}
 use Rattle.mk_core.specs.History.{World, left, left_from, world_behind}
 use Rattle.mk_core.proofs.HistoryParts.{left_in_parts}
 use Rattle.mk_words.specs.Seats.{Has}
 use Rattle.mk_words.specs.States.{PassState, event_of}
-use Rattle.mk_words.specs.Steps.{Makes}
 use Rattle.mk_words.proofs.Seats.{same_seat, same_self, not_both}
 use Rattle.mk_turns.specs.Doing.{AreOwnOrOfOthers, Does, DoneInTurn, NothingIsDone, StepsAreDone, are_of, done_in}
 
@@ -75,7 +73,7 @@ pub does_then : DoneInTurn
 does_then kinds p q r d e =
     then_at kinds p d.more d.own_or_others d.of_kinds r (subst (λ (x : PassState). Does kinds x r) d.is e)
 
-not_own : (seats : List Seat) (s t : Seat) → Has seats s → is_one_of seats t ≡ false → is_same_seat s t ≡ false
+pub not_own : (seats : List Seat) (s t : Seat) → Has seats s → is_one_of seats t ≡ false → is_same_seat s t ≡ false
 not_own seats s t has out =
     false_from_ne_true (is_same_seat s t) (λ (same : is_same_seat s t ≡ true).
     not_both seats t out (subst (λ (x : Seat). Has seats x) (same_seat s t same) has))

@@ -2,10 +2,20 @@
 #![tactic(auto)]
 
 ghost use Rattle.mk_turns.specs.Doing.{NothingIsDone, DoneInTurn, StepsAreDone};
+ghost use Rattle.mk_turns.specs.Sweeping.{NothingSweepsNothing, NothingIsSweptInTurn, OtherKindsSweepNothing, StepsMaySweepNothing};
 
 /// Nothing done is allowed, what is done one after the other adds up, and a step of an allowed kind is done.
 pub fn what_is_done_adds_up()
     ensures nothing { NothingIsDone }
     ensures in_turn { DoneInTurn }
     ensures step { StepsAreDone }
+{}
+
+/// Where nothing is done nothing is swept, nor where nothing is swept by one part and then by the other, by steps that
+/// aren't marks, or by a step that makes no sweeping mark.
+pub fn what_sweeps_nothing_adds_up()
+    ensures nothing { NothingSweepsNothing }
+    ensures in_turn { NothingIsSweptInTurn }
+    ensures kinds { OtherKindsSweepNothing }
+    ensures step { StepsMaySweepNothing }
 {}

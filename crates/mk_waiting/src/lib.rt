@@ -7,6 +7,7 @@ ghost use Rattle.mk_core.specs.Counts.{TalliesAreExact, TalliesAreTidy};
 ghost use Rattle.mk_words.specs.Steps.{IsEnabledTo};
 ghost use Rattle.mk_words.specs.TurnSteps.{IsFresh};
 ghost use Rattle.mk_waiting.specs.Taking.{TakesTurn};
+ghost use Rattle.mk_waiting.specs.Unswept.{TakingSweepsNothing};
 
 use crossbeam_utils::Backoff;
 use mk_never::Op;
@@ -36,3 +37,8 @@ pub fn take_turn<R: Wait>(rt: &R, words: &Words, home: Pass, op: Option<Op>) -> 
     }
     unreachable!()
 }
+
+/// Who waits for the turn and takes it makes no sweeping mark: facts alone, with no code.
+pub fn taking_sweeps_nothing()
+    ensures { TakingSweepsNothing }
+{}

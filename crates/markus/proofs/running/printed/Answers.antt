@@ -9,7 +9,8 @@ use Rattle.markus.proofs.running.printed.Goals as goal
 
 pub returns : goal.returns
 returns g c =
-    let runs = c.in_ok-outcome.ensures in
+    let ran = c.in_ok-outcome.ensures in
     let texts = ap (λ texts. flat_map (λ (text : Text). text.bytes.items) texts) c.deref.ensures.value in
-    IfOk-weaker c.joined.result _ (λ bytes. StandsInOneHistory c.args.program.now c.args.markers (output c.args.program.now) bytes.items)
-    (λ bytes are. run_is_printed c.args.program.now c.args.markers c.in_ok-outcome.outcome bytes.items runs (are ∙ texts)) c.joined.ensures
+    IfOk-weaker c.joined.result _ (λ bytes. StandsInOneHistory c.args.program.now c.args.markers c.args.sweep (output c.args.program.now) bytes.items)
+    (λ bytes are. run_is_printed c.args.program.now c.args.markers c.args.sweep c.in_ok-outcome.outcome bytes.items ran.runs
+    ran.reached (are ∙ texts)) c.joined.ensures

@@ -11,6 +11,9 @@ use Rattle.mk_alloc.specs.Underway.{GoesOn}
 use Rattle.mk_alloc.proofs.CalledTurns.{taken_same}
 use Rattle.mk_alloc.proofs.FreedTurns.{freed_on, frees_object, is_answered_double, unloaded}
 use Rattle.mk_alloc.proofs.TakenTurns.{callers}
+use Rattle.mk_turns.specs.Sweeping.{SweepsNothing}
+use Rattle.mk_turns.proofs.Sweeping.{only_seen}
+use Rattle.mk_alloc.proofs.UnsweptTurns.{freeing_then_sweeps, loading_sweeps, turn_sweeps}
 use Rattle.mk_alloc.proofs.freeing.free_object.Goals as goal
 
 pub retire_object-requires-clause-unloaded : goal.retire_object-requires-clause-unloaded
@@ -139,3 +142,42 @@ returns-in-Err-clause-double g c =
     c.take-turn.ensures.begins (in_turn taken _ i.own i.turn i.history) c.in-Err.ensures.double
     (in_turn decided _ j.own j.turn j.history) c.give-in-Err.ensures.gives c.give-in-Err.ensures.rests
     c.give-in-Err.ensures.history)
+
+pub returns-in-Ok-clause-reached : goal.returns-in-Ok-clause-reached
+returns-in-Ok-clause-reached g c =
+    let p : PassState = c.args.caller.now.pass in
+    let r = c.args.p in
+    let taken : PassState = c.take-turn.result.pass in
+    let decided : PassState = c.retire_object.new.turn.pass in
+    let done : PassState = c.run_if_due-turn.result.pass in
+    let takes = subst (λ (x : PassState). TakesTurn x (Some (op.Free r)) taken) c.lend-home.ensures.pass
+    c.take-turn.ensures.takes in
+    let i = c.is_in_order.ensures in
+    let j = c.is_in_order-in-Ok.ensures in
+    let k = c.is_in_order-in-Ok-2.ensures in
+    let on : GoesOn (Some answer.Done) taken done =
+    freed_on g.E.Engine.on c.in-Ok.freed.due p taken decided done done r
+    (callers p c.is_idle.ensures.idle) c.is_idle.ensures.own takes
+    c.take-turn.ensures.begins (in_turn taken _ i.own i.turn i.history) c.in-Ok.ensures.freed
+    (in_turn decided _ j.own j.turn j.history) c.run_if_due-turn.ensures.runs (in_turn done _ k.own k.turn k.history) in
+    λ none.
+    subst (λ (x : CallerState). SweepsNothing p x.pass) (sym c.back.ensures)
+    (turn_sweeps p taken done c.give.result (op.Free r) (callers p c.is_idle.ensures.idle) c.is_idle.ensures.own takes
+    (freeing_then_sweeps answer.Done taken decided done c.in-Ok.ensures.freed.decides
+    (c.run_if_due-turn.ensures.reached none))
+    (only_seen taken done on.does.more on.does.is) k.own c.give.ensures.gives)
+
+pub returns-in-Err-clause-reached : goal.returns-in-Err-clause-reached
+returns-in-Err-clause-reached g c =
+    let p : PassState = c.args.caller.now.pass in
+    let r = c.args.p in
+    let taken : PassState = c.take-turn.result.pass in
+    let decided : PassState = c.retire_object.new.turn.pass in
+    let takes = subst (λ (x : PassState). TakesTurn x (Some (op.Free r)) taken) c.lend-home.ensures.pass
+    c.take-turn.ensures.takes in
+    let d = c.in-Err.ensures.double.decides in
+    λ none.
+    subst (λ (x : CallerState). SweepsNothing p x.pass) (sym c.back-in-Err.ensures)
+    (turn_sweeps p taken decided c.give-in-Err.result (op.Free r) (callers p c.is_idle.ensures.idle)
+    c.is_idle.ensures.own takes (loading_sweeps answer.Double taken decided d) d.pass c.is_in_order-in-Err.ensures.own
+    c.give-in-Err.ensures.gives)

@@ -2,6 +2,8 @@ use Rattle.mk_words.specs.States.{PassState}
 use Rattle.mk_cycle.proofs.Allowed.{in_turn}
 use Rattle.mk_alloc.proofs.CountedFulls.{answers_full, tallied_ended, tallied_idle, tallied_nowhere, tallied_unplaced}
 use Rattle.mk_alloc.proofs.FullTurns.{full_admitted, full_allowed}
+use Rattle.std.proofs.Common.{refl}
+use Rattle.mk_alloc.proofs.UnsweptTurns.{full_sweeps}
 use Rattle.mk_alloc.proofs.fulls.answer_full.Goals as goal
 
 pub full-requires-clause-enabled : goal.full-requires-clause-enabled
@@ -57,3 +59,9 @@ returns-clause-full c =
     (in_turn p1 _ j.own j.turn j.history) c.tally.ensures.acts
     (in_turn p2 _ k.own k.turn k.history) c.full.new.self.pass c.full.ensures.acts c.is_in_order-4.ensures.history
     c.saturating_add.ensures
+
+pub returns-clause-reached : goal.returns-clause-reached
+returns-clause-reached c =
+    full_sweeps c.args.turn.now.pass c.look-count.new.self.pass c.tally.new.self.pass c.full.new.self.pass _ _ _
+    c.look-count.ensures.acts c.tally.ensures.acts c.full.ensures.acts c.is_in_order.ensures.own
+    c.is_in_order-2.ensures.own c.is_in_order-3.ensures.own refl refl refl

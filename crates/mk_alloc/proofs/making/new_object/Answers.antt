@@ -9,6 +9,11 @@ use Rattle.mk_waiting.specs.Taking.{TakesTurn}
 use Rattle.mk_alloc.specs.TurnCalls.{CalledInTurn, IsAnsweredFull}
 use Rattle.mk_alloc.proofs.NewTurns.{census_told, is_answered_full, new_called}
 use Rattle.mk_alloc.proofs.TakenTurns.{callers}
+use Rattle.mk_words.specs.TurnSteps.{turn_stays}
+use Rattle.mk_turns.specs.Sweeping.{SweepsNothing}
+use Rattle.mk_turns.proofs.Doing.{does_then}
+use Rattle.mk_turns.proofs.Sweeping.{only_seen}
+use Rattle.mk_alloc.proofs.UnsweptTurns.{part_then_sweeps, turn_sweeps}
 use Rattle.mk_alloc.proofs.making.new_object.Goals as goal
 
 pub returns-then-placed-clause-made : goal.returns-then-placed-clause-made
@@ -51,3 +56,37 @@ returns-clause-full g c =
     c.is_idle.ensures.own takes c.take-turn.ensures.begins m.misfits c.answer_full.ensures.full
     (in_turn done _ k.own k.turn k.history)
     c.give-2.ensures.gives c.give-2.ensures.rests c.give-2.ensures.history told)
+
+pub returns-then-placed-clause-reached : goal.returns-then-placed-clause-reached
+returns-then-placed-clause-reached g c =
+    let p : PassState = c.args.caller.now.pass in
+    let o = op.New c.args.d c.args.ty false in
+    let taken : PassState = c.take-turn.result.pass in
+    let done : PassState = c.place-turn.result.0.pass in
+    let takes = subst (λ (x : PassState). TakesTurn x (Some o) taken) c.lend-home.ensures.pass
+    c.take-turn.ensures.takes in
+    let d = (c.place-turn.ensures.placed c.if-placed.true).on.does in
+    λ none.
+    subst (λ (x : CallerState). SweepsNothing p x.pass) (sym c.back.ensures)
+    (turn_sweeps p taken done c.give.result o (callers p c.is_idle.ensures.idle) c.is_idle.ensures.own takes
+    (c.place-turn.ensures.reached none) (only_seen taken done d.more d.is) c.is_in_order-2.ensures.own
+    c.give.ensures.gives)
+
+pub returns-clause-reached : goal.returns-clause-reached
+returns-clause-reached g c =
+    let p : PassState = c.args.caller.now.pass in
+    let o = op.New c.args.d c.args.ty false in
+    let taken : PassState = c.take-turn.result.pass in
+    let last : PassState = c.place-turn.result.0.pass in
+    let done : PassState = c.answer_full.new.turn.pass in
+    let takes = subst (λ (x : PassState). TakesTurn x (Some o) taken) c.lend-home.ensures.pass
+    c.take-turn.ensures.takes in
+    let m = c.place-turn.ensures.misfits c.if-placed.false in
+    let first = m.misfits.seeks.on.does in
+    let d = does_then turn_stays taken last done first c.answer_full.ensures.full.seeks.on.does in
+    λ none.
+    subst (λ (x : CallerState). SweepsNothing p x.pass) (sym c.back-2.ensures)
+    (turn_sweeps p taken done c.give-2.result o (callers p c.is_idle.ensures.idle) c.is_idle.ensures.own takes
+    (part_then_sweeps turn_stays taken last done first (c.place-turn.ensures.reached none)
+    c.answer_full.ensures.reached)
+    (only_seen taken done d.more d.is) c.is_in_order-3.ensures.own c.give-2.ensures.gives)

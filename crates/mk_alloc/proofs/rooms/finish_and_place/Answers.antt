@@ -3,6 +3,7 @@ use Rattle.mk_core.specs.declared.events.Answer.TheVariants as answer
 use Rattle.mk_words.specs.States.{PassState}
 use Rattle.mk_cycle.proofs.Allowed.{in_turn}
 use Rattle.mk_alloc.proofs.SeekingTurns.{misfits_finished, seeks_finished, seeks_then}
+use Rattle.mk_turns.proofs.Sweeping.{sweeps_then}
 use Rattle.mk_alloc.proofs.rooms.finish_and_place.Goals as goal
 
 pub returns-clause-placed : goal.returns-clause-placed
@@ -27,3 +28,9 @@ returns-clause-misfits g c =
     (in_turn t.pass t.op i.own i.turn i.history) c.requires.unplaced
     c.requires.quiet c.requires.nowhere c.finish_cycle-turn.ensures.law c.is_in_order-2.ensures.history
     (c.try_place-placed.ensures.misfits misfits) (c.try_place-placed.ensures.looks misfits)
+
+pub returns-clause-reached : goal.returns-clause-reached
+returns-clause-reached g c =
+    λ none.
+    sweeps_then c.args.turn.pass c.finish_cycle-turn.result.0.pass c.try_place-placed.new.turn.pass
+    c.finish_cycle-turn.ensures.law.pass (c.finish_cycle-turn.ensures.reached none) c.try_place-placed.ensures.reached

@@ -1,6 +1,8 @@
 use Rattle.std.specs.Prelude.{Some}
 use Rattle.mk_core.specs.declared.events.Answer.TheVariants as answer
 use Rattle.mk_alloc.proofs.SeekingTurns.{misfits_then, seeks_then}
+use Rattle.mk_words.specs.TurnSteps.{turn_stays}
+use Rattle.mk_alloc.proofs.UnsweptTurns.{part_then_sweeps}
 use Rattle.mk_alloc.proofs.rooms.place.Goals as goal
 
 pub returns-clause-placed : goal.returns-clause-placed
@@ -23,3 +25,11 @@ returns-clause-misfits g c =
       idle = n.idle;
       ended = n.ended;
     }
+
+pub returns-clause-reached : goal.returns-clause-reached
+returns-clause-reached g c =
+    let m = c.place_behind_older-turn.ensures.misfits c.if-placed.false in
+    λ none.
+    part_then_sweeps turn_stays c.args.turn.pass c.place_behind_older-turn.result.0.pass
+    c.place_behind_cycle-turn.result.0.pass m.misfits.seeks.on.does (c.place_behind_older-turn.ensures.reached none)
+    (c.place_behind_cycle-turn.ensures.reached none)

@@ -6,6 +6,7 @@ use Rattle.mk_cycle.specs.TurnKeeps.{Done}
 use Rattle.mk_cycle.proofs.Allowed.{in_turn}
 use Rattle.mk_alloc.proofs.QuietTurns.{quiet_begun}
 use Rattle.mk_alloc.proofs.SeekingTurns.{misfits_then, nowhere_begun, seeks_begun, seeks_then}
+use Rattle.mk_turns.proofs.Sweeping.{sweeps_then}
 use Rattle.mk_alloc.proofs.rooms.place_behind_cycle.Goals as goal
 use Rattle.mk_core.specs.Effects.{cycle_ended}
 
@@ -50,3 +51,9 @@ returns-clause-misfits g c =
       ended = c.finish_and_place-turn.ensures.cycle misfits
           ∙ ap (λ (x : Done). cycle_ended x.cycle) c.begin_cycle.ensures.law.done;
     }
+
+pub returns-clause-reached : goal.returns-clause-reached
+returns-clause-reached g c =
+    λ none.
+    sweeps_then c.args.turn.pass c.begin_cycle.new.turn.pass c.finish_and_place-turn.result.0.pass
+    c.begin_cycle.ensures.law.pass (c.begin_cycle.ensures.reached none) (c.finish_and_place-turn.ensures.reached none)

@@ -5,6 +5,8 @@ use Rattle.mk_words.specs.States.{PassState}
 use Rattle.mk_cycle.proofs.Allowed.{in_turn}
 use Rattle.mk_alloc.proofs.QuietTurns.{quiet_looked}
 use Rattle.mk_alloc.proofs.SeekingTurns.{misfits_seen, misfits_then, phase_seen, seen_at, seeks_then}
+use Rattle.mk_words.specs.TurnSteps.{turn_stays}
+use Rattle.mk_alloc.proofs.UnsweptTurns.{looking_sweeps, looking_then_sweeps, part_then_sweeps}
 use Rattle.mk_alloc.proofs.rooms.place_behind_older.Goals as goal
 
 pub returns-then-not-is_cycle_on-clause-misfits : goal.returns-then-not-is_cycle_on-clause-misfits
@@ -61,3 +63,22 @@ returns-clause-misfits g c =
           n.misfits;
       idle = n.idle;
     }
+
+pub returns-then-not-is_cycle_on-clause-reached : goal.returns-then-not-is_cycle_on-clause-reached
+returns-then-not-is_cycle_on-clause-reached g c =
+    let t = c.try_place.new.turn in
+    let m = c.try_place.ensures.misfits c.if-try_place.false in
+    let r : PassState = c.is_cycle_on.new.turn.pass in
+    λ none.
+    part_then_sweeps turn_stays c.args.turn.pass t.pass r m.seeks.on.does c.try_place.ensures.reached
+    (looking_sweeps t.pass r c.is_cycle_on.ensures.looks)
+
+pub returns-clause-reached : goal.returns-clause-reached
+returns-clause-reached g c =
+    let t = c.try_place.new.turn in
+    let m = c.try_place.ensures.misfits c.if-try_place.false in
+    let r : PassState = c.is_cycle_on.new.turn.pass in
+    let s : PassState = c.finish_and_place-turn.result.0.pass in
+    λ none.
+    part_then_sweeps turn_stays c.args.turn.pass t.pass s m.seeks.on.does c.try_place.ensures.reached
+    (looking_then_sweeps t.pass r s c.is_cycle_on.ensures.looks (c.finish_and_place-turn.ensures.reached none))

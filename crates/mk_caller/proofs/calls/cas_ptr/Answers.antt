@@ -1,5 +1,6 @@
 use Rattle.std.proofs.Common.{refl}
 use Rattle.mk_caller.proofs.Chains.{called, go, go_on, faults, reached, sees_more, sees_further}
+use Rattle.mk_caller.proofs.Comparing.{compares_values}
 use Rattle.mk_caller.specs.Moves.{passes, exchanges, ends, loads}
 use Rattle.mk_caller.proofs.calls.cas_ptr.Goals as goal
 
@@ -24,3 +25,8 @@ returns-clause-reached c =
     let loaded_1 = go loaded_0 (loads c.load-new.result) refl c.load-new.ensures.moves in
     reached c.requires.ready refl loaded_1 refl c.in-Some.ensures.reached
     (sees_further (sees_more c.cas-exchanged.ensures.moves) c.mark_and_leave.ensures)
+
+pub returns-clause-compares : goal.returns-clause-compares
+returns-clause-compares c =
+    compares_values c.args.q c.args.i c.args.p c.args.r c.cas-exchanged.result c.requires.ready.admits
+    (returns-clause-called c)

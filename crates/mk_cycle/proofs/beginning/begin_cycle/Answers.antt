@@ -1,8 +1,12 @@
-use Rattle.std.proofs.Common.{◌<◌, ap, subst}
+use Rattle.std.proofs.Common.{◌<◌, refl, ap, subst}
+use Rattle.mk_core.specs.declared.events.Step.TheVariants as step
 use Rattle.mk_core.specs.History.{World}
 use Rattle.mk_words.specs.States.{WordsState}
+use Rattle.mk_cycle.specs.Kinds.{clears}
 use Rattle.mk_cycle.proofs.BeginSteps.{begins_cycle, begun_free}
 use Rattle.mk_cycle.proofs.CleaningSteps.{clean_stays, cleaned_free, cleaned_phase, cleaned_table, cleans_then, tallied}
+use Rattle.mk_turns.proofs.Sweeping.{does_sweep, only_seen_by, other_step_sweeps, sweeps_then}
+use Rattle.mk_cycle.proofs.Sweepless.{clearing_marks_nothing}
 use Rattle.mk_cycle.proofs.beginning.begin_cycle.Goals as goal
 
 pub begin-requires-clause-free : goal.begin-requires-clause-free
@@ -33,3 +37,18 @@ returns-clause-law g c =
     (λ page lt. clean_stays _ _ page next
     (c.clean_pages.ensures.clean page (subst (λ (w : WordsState). page < w.config.pages) (cleaned_table p b c.args.words.now all c.requires.one_table) lt)))
     (ap (λ (w : World). w.now.words.fresh) c.tally.ensures.acts.world) c.begin.ensures.acts c.begin.ensures.is c.begin-2.ensures.law
+
+pub returns-clause-reached : goal.returns-clause-reached
+returns-clause-reached g c none =
+    let p = c.args.turn.now.pass in
+    let b = c.tally.new.turn.pass in
+    let d = c.begin.new.turn.pass in
+    let q = c.begin-2.new.turn.pass in
+    let first = c.clean_pages.ensures.cleans in
+    let free = cleaned_free _ _ first c.requires.free in
+    let zero = cleaned_phase _ _ first c.requires.phase in
+    let all = cleans_then _ _ _ first (tallied _ _ c.tally.ensures.was free zero c.tally.ensures.is 0 c.tally.ensures.acts) in
+    let begin = c.begin.ensures.acts.makes in
+    sweeps_then p b q all.keeps.call.pass (does_sweep clears p b clearing_marks_nothing all.does)
+    (sweeps_then b d q (only_seen_by b d step.Begin begin) (other_step_sweeps b d step.Begin begin c.begin.ensures.was.own refl)
+    (c.begin-2.ensures.reached none))

@@ -1,19 +1,26 @@
-use Rattle.mk_cycle.proofs.CountedPages.{counted_on}
-use Rattle.mk_cycle.proofs.GivingSteps.{none_then}
+use Rattle.std.proofs.Common.{sym, ◌∙◌}
+use Rattle.mk_words.specs.States.{now_of}
+use Rattle.mk_cycle.proofs.CountedPages.{nothing_on, snapshot_told, told_alike}
+use Rattle.mk_cycle.proofs.GivingSteps.{none_at_once, none_then}
 use Rattle.mk_cycle.proofs.counting.released_on.Goals as goal
+
+pub returns-then-snapshot-eq0-clause-exact : goal.returns-then-snapshot-eq0-clause-exact
+returns-then-snapshot-eq0-clause-exact c =
+    let x = c.look-snapshot.ensures in
+    nothing_on (now_of c.args.turn.now.pass).words c.args.page
+    (sym (snapshot_told c.args.turn.now.pass c.look-snapshot.new.turn.pass c.args.page c.look-snapshot.result x.is x.frees x.reads)
+    ∙ c.if-snapshot-eq0.true)
+
+pub released_of-requires-clause-snapshot : goal.released_of-requires-clause-snapshot
+released_of-requires-clause-snapshot c =
+    let x = c.look-snapshot.ensures in
+    snapshot_told c.look-snapshot.new.turn.pass c.look-snapshot.new.turn.pass c.args.page c.look-snapshot.result x.is
+    (none_at_once c.look-snapshot.new.turn.pass) x.reads
 
 pub returns-clause-exact : goal.returns-clause-exact
 returns-clause-exact c =
-    let x = c.look-quarantine.ensures in
-    let y = c.look-marks.ensures in
-    let z = c.look-header.ensures in
-    let r = c.released_cells.ensures in
-    counted_on c.args.turn.now.pass c.look-quarantine.new.turn.pass c.look-marks.new.turn.pass
-    c.look-header.new.turn.pass
-    c.args.page c.look-quarantine.result c.look-marks.result c.look-header.result c.released_cells.result
-    x.is x.frees y.frees z.frees x.reads y.reads z.reads r.count r.words r.kept
+    c.released_of.ensures.exact
+    ∙ told_alike c.args.turn.now.pass c.look-snapshot.new.turn.pass c.args.page c.look-snapshot.ensures.frees
 
 pub returns-clause-frees : goal.returns-clause-frees
-returns-clause-frees c =
-    none_then _ _ _ c.look-quarantine.ensures.frees
-    (none_then _ _ _ c.look-marks.ensures.frees c.look-header.ensures.frees)
+returns-clause-frees c = none_then _ _ _ c.look-snapshot.ensures.frees c.released_of.ensures.frees

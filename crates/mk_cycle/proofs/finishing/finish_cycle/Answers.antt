@@ -1,4 +1,11 @@
-use Rattle.mk_cycle.proofs.FinishedCycles.{ended_free, finishes_cycle, gives_free, has_released}
+use Rattle.std.proofs.Common.{refl, ap, ◌∙◌, append_assoc}
+use Rattle.mk_core.specs.declared.events.Step.TheVariants as step
+use Rattle.mk_words.specs.States.{PassState}
+use Rattle.mk_cycle.specs.Kinds.{sets_tallies}
+use Rattle.mk_cycle.proofs.FinishedCycles.{ended_free, finishes_cycle, gives_call, gives_free, has_released}
+use Rattle.mk_turns.proofs.Sweeping.{does_sweep, only_seen_by, other_step_sweeps, sweeps_then}
+use Rattle.mk_cycle.proofs.Sweepless.{setting_marks_nothing}
+use Rattle.mk_cycle.proofs.Told.{told_later}
 use Rattle.mk_cycle.proofs.finishing.finish_cycle.Goals as goal
 
 pub count_cycle-requires-clause-free : goal.count_cycle-requires-clause-free
@@ -21,3 +28,26 @@ returns-clause-released g c =
     has_released c.args.turn.pass _ c.end.new.turn.pass c.count_cycle.new.turn.pass _
     c.give_all_back-turn.ensures.gives c.requires.free
     x.was x.acts x.is c.count_cycle.ensures.sets c.give_all_back-turn.ensures.told
+
+pub returns-clause-reached : goal.returns-clause-reached
+returns-clause-reached g c none =
+    let p = c.args.turn.pass in
+    let b = c.give_all_back-turn.result.0.pass in
+    let e = c.end.new.turn.pass in
+    let q = c.count_cycle.new.turn.pass in
+    let end = c.end.ensures.acts.makes in
+    sweeps_then p b q (gives_call p b c.give_all_back-turn.ensures.gives).pass
+    (c.give_all_back-turn.ensures.reached none)
+    (sweeps_then b e q (only_seen_by b e step.End end) (other_step_sweeps b e step.End end c.end.ensures.was.own refl)
+    (does_sweep sets_tallies e q setting_marks_nothing c.count_cycle.ensures.sets.does))
+
+pub returns-clause-told : goal.returns-clause-told
+returns-clause-told g c =
+    let p = c.args.turn.pass in
+    let b = c.give_all_back-turn.result.0.pass in
+    let e = c.end.new.turn.pass in
+    let q = c.count_cycle.new.turn.pass in
+    let sets = c.count_cycle.ensures.sets.does in
+    told_later _ p e q sets.more (ap (λ (x : PassState). x.seen) sets.is)
+    (told_later _ p b e _ (ap (λ (x : PassState). x.seen) c.end.ensures.acts.makes.is ∙ append_assoc b.seen _ _)
+    c.give_all_back-turn.ensures.told_at_close)

@@ -1,9 +1,13 @@
-use Rattle.std.proofs.Common.{◌<◌, sym, subst}
-use Rattle.mk_words.specs.States.{WordsState, TurnState}
+use Rattle.std.proofs.Common.{◌<◌, sym, ap, subst}
+use Rattle.mk_words.specs.States.{PassState, WordsState, TurnState}
 use Rattle.mk_cycle.specs.Holding.{HoldsGates}
+use Rattle.mk_cycle.specs.Kinds.{gives_back, holds_gates}
 use Rattle.mk_cycle.proofs.FreeingSteps.{frees_then}
 use Rattle.mk_cycle.proofs.GivingAll.{all_told, gives_all_back}
 use Rattle.mk_cycle.proofs.SettledPages.{free_cells_stay}
+use Rattle.mk_turns.proofs.Sweeping.{does_sweep, sweeps_then}
+use Rattle.mk_cycle.proofs.Sweepless.{giving_marks_nothing, holding_marks_nothing}
+use Rattle.mk_cycle.proofs.Told.{told_earlier, told_later}
 use Rattle.mk_cycle.proofs.giving.give_all_back.Goals as goal
 
 pub settle_pages-requires-clause-cells : goal.settle_pages-requires-clause-cells
@@ -31,3 +35,29 @@ returns-clause-told g c =
     c.count_released-released.new.turn.pass c.settle_pages.new.turn.pass _ _ holds c.open_gates-turn.ensures.opens
     c.count_released-released.ensures.frees.frees c.settle_pages.ensures.frees
     c.release_unmarked.ensures.told c.count_released-released.ensures.exact
+
+pub returns-clause-reached : goal.returns-clause-reached
+returns-clause-reached g c none =
+    let p = c.args.turn.pass in
+    let h = c.stopped-stop.result.pass in
+    let r = c.release_unmarked.new.stop.pass in
+    let q = c.settle_pages.new.turn.pass in
+    let holds = subst (λ (t : TurnState). HoldsGates p t.pass) (sym c.stopped-stop.ensures) c.hold_gates.ensures.holds in
+    let frees = frees_then r _ q c.open_gates-turn.ensures.opens.frees
+    (frees_then _ _ q c.count_released-released.ensures.frees.frees c.settle_pages.ensures.frees) in
+    sweeps_then p h q holds.keeps.call.pass (does_sweep holds_gates p h holding_marks_nothing holds.does)
+    (sweeps_then h r q c.release_unmarked.ensures.releases.call.pass (c.release_unmarked.ensures.reached none)
+    (does_sweep gives_back r q giving_marks_nothing frees.does))
+
+pub returns-clause-told_at_close : goal.returns-clause-told_at_close
+returns-clause-told_at_close g c =
+    let p = c.args.turn.pass in
+    let h = c.stopped-stop.result.pass in
+    let r = c.release_unmarked.new.stop.pass in
+    let q = c.settle_pages.new.turn.pass in
+    let holds = subst (λ (t : TurnState). HoldsGates p t.pass) (sym c.stopped-stop.ensures) c.hold_gates.ensures.holds in
+    let frees = frees_then r _ q c.open_gates-turn.ensures.opens.frees
+    (frees_then _ _ q c.count_released-released.ensures.frees.frees c.settle_pages.ensures.frees) in
+    told_earlier _ p h holds.does.more q holds.does.is
+    (told_later _ h r q frees.does.more (ap (λ (x : PassState). x.seen) frees.does.is)
+    c.release_unmarked.ensures.told_at_close)

@@ -1,7 +1,8 @@
-use Rattle.std.proofs.Common.{ℕ, ap, subst, ◌∙◌}
+use Rattle.std.proofs.Common.{ℕ, refl, ap, subst, ◌∙◌, append_assoc}
 use Rattle.mk_core.specs.declared.config.Config.{Config}
+use Rattle.mk_core.specs.declared.events.Step.TheVariants as step
 use Rattle.mk_core.specs.Frames.{Steady}
-use Rattle.mk_words.specs.States.{WordsState, now_of}
+use Rattle.mk_words.specs.States.{PassState, WordsState, now_of}
 use Rattle.mk_cycle.specs.ReleasedPages.{released_below}
 use Rattle.mk_cycle.specs.FinishCycle.{HasReleased}
 use Rattle.mk_cycle.proofs.Allowed.{in_turn}
@@ -9,6 +10,8 @@ use Rattle.mk_cycle.proofs.KeptInParts.{free_then, same_config}
 use Rattle.mk_cycle.proofs.ReleasedCounts.{release_tells, told_from}
 use Rattle.mk_cycle.proofs.ReleasedCells.{cells_are_free}
 use Rattle.mk_cycle.proofs.ReleaseSteps.{close_leaves, releases_unmarked}
+use Rattle.mk_turns.proofs.Sweeping.{only_seen_by, other_step_sweeps, sweeps_then}
+use Rattle.mk_cycle.proofs.Told.{told_closing, told_earlier, told_later}
 use Rattle.mk_cycle.proofs.releasing.release_unmarked.Goals as goal
 
 pub returns-clause-releases : goal.returns-clause-releases
@@ -48,3 +51,27 @@ returns-clause-told g c =
     (ap (λ (s : Steady). s.allocations) close.0.steady ∙ ap (λ (s : Steady). s.allocations) marks.steady)
     (release_tells d c.release.new.self.pass u
     (in_turn _ _ c.is_in_order-4.ensures.own c.is_in_order-4.ensures.turn c.is_in_order-4.ensures.history) close.1 c.release.ensures.acts))
+
+pub returns-clause-reached : goal.returns-clause-reached
+returns-clause-reached g c none =
+    let p = c.args.stop.now.pass in
+    let b = c.close_marks.new.stop.pass in
+    let d = c.close_phase.new.self.pass in
+    let q = c.release.new.self.pass in
+    let close = c.close_phase.ensures.acts.makes in
+    sweeps_then p b q c.close_marks.ensures.law.keeps.call.pass (c.close_marks.ensures.reached none)
+    (sweeps_then b d q (only_seen_by b d step.Close close)
+    (other_step_sweeps b d step.Close close c.is_in_order-2.ensures.own refl)
+    (other_step_sweeps d q step.Release c.release.ensures.acts.makes c.is_in_order-3.ensures.own refl))
+
+pub returns-clause-told_at_close : goal.returns-clause-told_at_close
+returns-clause-told_at_close g c =
+    let p = c.args.stop.now.pass in
+    let b = c.close_marks.new.stop.pass in
+    let d = c.close_phase.new.self.pass in
+    let q = c.release.new.self.pass in
+    let does = c.close_marks.ensures.law.does in
+    told_earlier _ p b does.more q does.is
+    (told_later _ b d q _ (ap (λ (x : PassState). x.seen) c.release.ensures.acts.makes.is ∙ append_assoc d.seen _ _)
+    (told_closing _ b d c.is_in_order-2.ensures.own c.close_phase.ensures.acts.makes c.is_in_order-3.ensures.history
+    c.close_marks.ensures.told))

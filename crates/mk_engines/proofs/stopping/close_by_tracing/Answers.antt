@@ -1,3 +1,4 @@
+use Rattle.mk_engines.proofs.Sweepless.{sweepless_rule}
 use Rattle.mk_engines.proofs.TracedMarks.{closes_by_tracing, ready_of}
 use Rattle.mk_engines.proofs.stopping.close_by_tracing.Goals as goal
 
@@ -10,3 +11,8 @@ returns-clause-law g c =
     closes_by_tracing c.args.stop.now.pass c.close_marks.new.stop.pass c.close_marks.ensures.traces
     c.close_marks.ensures.wanted
     c.close_marks.ensures.closes c.close_marks.ensures.closed
+
+pub returns-clause-reached : goal.returns-clause-reached
+returns-clause-reached g c =
+    let traces = c.close_marks.ensures.traces.traces in
+    sweepless_rule c.args.stop.now.pass c.close_marks.new.stop.pass traces.does.more traces.does.is traces.keeps

@@ -1,4 +1,4 @@
-use Rattle.std.proofs.Common.{◌≡◌, sym, ◌∙◌, ap, subst}
+use Rattle.std.proofs.Common.{◌≡◌, ◌%◌, refl, sym, ◌∙◌, ap, subst, arith}
 use Rattle.mk_core.specs.declared.events.Seat.{Seat}
 use Rattle.mk_core.specs.declared.events.Seat.TheVariants.{Host}
 use Rattle.mk_words.specs.Seats.{Has}
@@ -7,6 +7,7 @@ use Rattle.mk_cycle.specs.TurnKeeps.{but_phase, whole}
 use Rattle.mk_cycle.proofs.Allowed.{in_turn}
 use Rattle.mk_cycle.proofs.KeptInParts.{free_then, keeps_less}
 use Rattle.mk_heap.proofs.BeforeOver.{taken_overs}
+use Rattle.mk_heap.proofs.HomeCallers.{taken_phase}
 use Rattle.mk_heap.proofs.IdleTurns.{
   ends_none,
   ends_one,
@@ -20,6 +21,8 @@ use Rattle.mk_heap.proofs.IdleTurns.{
   tidy_kept,
 }
 use Rattle.mk_heap.proofs.MovedHosts.{turn_moves}
+use Rattle.mk_turns.proofs.Sweeping.{other_step_sweeps, step_then_sweeps}
+use Rattle.mk_heap.proofs.UnsweptHosts.{taken_then_sweeps}
 use Rattle.mk_heap.proofs.ending.take_idle_turn.Goals as goal
 
 pub returns-then-found-eq1-clause-takes : goal.returns-then-found-eq1-clause-takes
@@ -36,6 +39,20 @@ returns-then-found-eq1-clause-takes g c =
       takes = t.ensures.takes;
       ends = ends_one p q c.finish_cycle.result.0.pass c.look-found.result f on c.finish_cycle.ensures.law;
     }
+
+pub returns-then-found-eq1-clause-bench : goal.returns-then-found-eq1-clause-bench
+returns-then-found-eq1-clause-bench g c callers none =
+    let t = c.take_turn-turn in
+    let o = c.is_in_order-2.ensures in
+    let p : PassState = t.result.pass in
+    let turn = in_turn p t.result.op o.own o.turn o.history in
+    let host = subst (λ (s : Seat). Has c.args.home.seats s) c.requires.seat c.is_in_order.ensures.own in
+    let found =
+    phase_found p c.look-found.new.self.pass c.look-found.result turn c.is_in_order-3.ensures.history
+    c.look-found.ensures.finds in
+    let zero : c.look-found.result % 8 ≡ 0 =
+    found ∙ taken_phase c.args.home p t.ensures.takes host callers o.history ∙ none in
+    absurd (omega (arith, c.if-found-eq1.true))
 
 pub returns-then-found-eq1-clause-idle : goal.returns-then-found-eq1-clause-idle
 returns-then-found-eq1-clause-idle g c =
@@ -84,3 +101,21 @@ returns-else-found-eq1-clause-idle g c =
     let seat : p.seat ≡ Host =
     ap (λ (r : PassState). r.seat) (turn_moves c.args.home p t.ensures.takes).is ∙ c.requires.seat in
     looked_idle p q seat turn t.ensures.fresh history c.look-found.ensures.acts none t.ensures.exact t.ensures.tidy
+
+pub returns-then-found-eq1-clause-reached : goal.returns-then-found-eq1-clause-reached
+returns-then-found-eq1-clause-reached g c =
+    let p : PassState = c.take_turn-turn.result.pass in
+    let q : PassState = c.look-found.new.self.pass in
+    let r : PassState = c.finish_cycle.result.0.pass in
+    λ none.
+    taken_then_sweeps c.args.home p r c.is_in_order.ensures.own c.take_turn-turn.ensures.takes
+    (step_then_sweeps p q r _ c.look-found.ensures.acts.makes c.is_in_order-2.ensures.own refl
+    (c.finish_cycle.ensures.reached none))
+
+pub returns-else-found-eq1-clause-reached : goal.returns-else-found-eq1-clause-reached
+returns-else-found-eq1-clause-reached g c =
+    let p : PassState = c.take_turn-turn.result.pass in
+    let q : PassState = c.look-found.new.self.pass in
+    λ none.
+    taken_then_sweeps c.args.home p q c.is_in_order.ensures.own c.take_turn-turn.ensures.takes
+    (other_step_sweeps p q _ c.look-found.ensures.acts.makes c.is_in_order-2.ensures.own refl)

@@ -6,8 +6,8 @@ use Rattle.std.proofs.lemmas.List.{length-set}
 use Rattle.mk_geom.specs.declared.pages.Page.{Page}
 use Rattle.mk_core.proofs.Lengths.{histories_keep_lengths}
 use Rattle.mk_words.specs.States.{PassState, WordsState, now_of}
-use Rattle.mk_objects.proofs.FilledBooks.{all_filled, filled_more, page_found}
-use Rattle.mk_objects.proofs.JoinedLooks.{looks_joined, looks_nothing}
+use Rattle.mk_objects.proofs.FilledBooks.{all_filled, filled_more}
+use Rattle.mk_objects.proofs.JoinedLooks.{looks_joined, looks_nothing, looks_pages}
 use Rattle.mk_objects.proofs.looking.fill.Goals as goal
 
 pub loop-page-init : goal.loop-page-init
@@ -17,9 +17,7 @@ pub loop-page-preserved : goal.loop-page-preserved
 loop-page-preserved c =
     let p : PassState = c.args.turn.now.pass in
     let i = c.loop-page.invariant in
-    let a = looks_joined p c.loop-page.turn.pass c.look_at-header.new.turn.pass i.looks c.look_at-header.ensures.looks in
-    let b = looks_joined p c.look_at-header.new.turn.pass c.look_at-used.new.turn.pass a c.look_at-used.ensures.looks in
-    let x : Page = record { header = c.look_at-header.result; used = c.look_at-used.result } in
+    let x : Page = c.look_at_page-found.result in
     let within : c.loop-page.page < length c.loop-page.book = omega (
       arith,
       i.length,
@@ -29,14 +27,14 @@ loop-page-preserved c =
           (λ (w : WordsState). w.config.pages) c.requires.one_table,
     ) in
     record {
-      op = c.look_at-used.ensures.op ∙ c.look_at-header.ensures.op ∙ i.op;
-      looks = b;
+      op = c.look_at_page-found.ensures.op ∙ i.op;
+      looks = looks_joined p c.loop-page.turn.pass c.look_at_page-found.new.turn.pass i.looks c.look_at_page-found.ensures.looks;
       length = ap (λ (ps : List Page). length ps) c.set.ensures ∙ length-set c.loop-page.book c.loop-page.page x ∙ i.length;
       filled = λ k lt.
           ap (λ (ps : List Page). slice_index_or ps k free_page) c.set.ensures
           ∙ filled_more (now_of p).words.pages c.loop-page.book c.loop-page.page x within
-          (page_found p c.loop-page.turn.pass c.look_at-header.new.turn.pass c.loop-page.page x.header x.used i.looks
-          a c.look_at-header.ensures.finds c.look_at-used.ensures.finds)
+          (c.look_at_page-found.ensures.finds
+          ∙ ap (λ (ps : List Page). slice_index_or ps c.loop-page.page free_page) (looks_pages p c.loop-page.turn.pass i.looks))
           i.filled k lt;
     }
 

@@ -8,6 +8,7 @@ use Rattle.mk_words.specs.Steps.{IsEnabledTo}
 use Rattle.mk_words.specs.TurnSteps.{Acts}
 use Rattle.mk_objects.specs.Placing.{HasCarved, object_for}
 use Rattle.mk_objects.proofs.Serves.{carved_all, free_pages_of, head_may, heads_on, knows_place}
+use Rattle.mk_objects.proofs.UnsweptNews.{head_sweeps}
 use Rattle.mk_objects.proofs.placing.carve.Goals as goal
 
 pub overflow_add-place : goal.overflow_add-place
@@ -53,6 +54,8 @@ loop-distance-preserved c =
       op = c.head.ensures.op ∙ c.loop-distance.invariant.op;
       carved = heads_on p c.args.place c.requires.goes k c.requires.free q r d c.loop-distance.invariant.carved near a
           c.is_in_order-in-loop-distance.ensures.own c.is_in_order-in-loop-distance-2.ensures.history;
+      reached = head_sweeps p q r c.args.place d _ _ c.loop-distance.invariant.carved c.loop-distance.invariant.reached a
+          c.is_in_order-in-loop-distance.ensures.own;
     }
 
 pub returns-clause-ready : goal.returns-clause-ready

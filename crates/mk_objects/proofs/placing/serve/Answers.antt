@@ -1,4 +1,4 @@
-use Rattle.std.proofs.Common.{◌≡◌, ◌+◌, sym, ◌∙◌, ap, subst, arith}
+use Rattle.std.proofs.Common.{◌≡◌, ◌+◌, refl, sym, ◌∙◌, ap, subst, arith}
 use Rattle.mk_geom.specs.declared.pages.Page.{Page}
 use Rattle.mk_core.specs.declared.events.Step.TheVariants as step
 use Rattle.mk_core.specs.declared.seats.Object.{Object}
@@ -11,6 +11,7 @@ use Rattle.mk_objects.specs.Placing.{object_for}
 use Rattle.mk_core.specs.Bits.{has_bit}
 use Rattle.mk_objects.proofs.Serves.{knows_place, place_unused}
 use Rattle.mk_objects.proofs.Takes.{counted, counted_held, few_held, grant_admits, grant_may, grant_on, one_bit_more, small_index, tally_may, tally_on, used_may, used_on}
+use Rattle.mk_objects.proofs.UnsweptNews.{serving_sweeps}
 use Rattle.mk_objects.proofs.placing.serve.Goals as goal
 
 pub overflow_shl-place : goal.overflow_shl-place
@@ -113,3 +114,10 @@ returns-clause-held c =
     (tally_on p c.args.place c.requires.goes k c.grant.new.self.pass c.tally.new.self.pass
     (c.args.held + c.storage.result) granted c.tally.ensures.acts
     c.is_in_order-4.ensures.own c.is_in_order-5.ensures.history h)
+
+pub returns-clause-reached : goal.returns-clause-reached
+returns-clause-reached c =
+    serving_sweeps c.args.turn.now.pass c.make_ready.new.turn.pass c.used.new.self.pass c.grant.new.self.pass
+    c.tally.new.self.pass c.args.place _ _ _ c.make_ready.ensures.ready c.make_ready.ensures.reached c.used.ensures.acts
+    c.grant.ensures.acts c.tally.ensures.acts c.is_in_order-2.ensures.own c.is_in_order-3.ensures.own
+    c.is_in_order-4.ensures.own refl refl refl

@@ -1,5 +1,7 @@
-use Rattle.std.proofs.Common.{true}
+use Rattle.std.proofs.Common.{true, refl}
 use Rattle.mk_run.proofs.ScriptCalls.{answered_by_call, makes_none, none_then_none, none_then_answers, still_admitted}
+use Rattle.mk_turns.proofs.Sweeping.{nothing_sweeps, sweeps_then}
+use Rattle.mk_alloc.proofs.UnsweptTurns.{calls_sweep_nothing, sweep_nothing_where_held}
 use Rattle.mk_run.proofs.answers.call_until_open.Goals as goal
 
 pub call-requires-clause-admitted : goal.call-requires-clause-admitted
@@ -21,4 +23,24 @@ held-preserved g c = record {
   none = λ on.
       none_then_none on c.args.caller.now.pass c.held.caller.pass c.call.new.caller.pass (c.held.invariant.none on)
       (makes_none on c.held.caller.pass c.args.op c.call.new.caller.pass c.is_idle.ensures.own c.in-Err.ensures.held);
+  reached =
+      sweeps_then c.args.caller.now.pass c.held.caller.pass c.call.new.caller.pass (c.held.invariant.none true).is
+      c.held.invariant.reached
+      (sweep_nothing_where_held c.held.caller.pass c.args.op c.call.new.caller.pass c.is_idle.ensures.own
+      c.in-Err.ensures.held);
 }
+
+pub returns-in-Ok-clause-reached : goal.returns-in-Ok-clause-reached
+returns-in-Ok-clause-reached g c =
+    let called = c.in-Ok.ensures.called in
+    sweeps_then c.args.caller.now.pass c.held.caller.pass c.call.new.caller.pass (c.held.invariant.none true).is
+    c.held.invariant.reached
+    (calls_sweep_nothing c.held.caller.pass c.args.op called.answer c.call.new.caller.pass called.called)
+
+pub held-init : goal.held-init
+held-init g c =
+    record {
+      home = c.requires.home;
+      none = λ on. record { is = refl; entries = refl; exact = λ e. e };
+      reached = nothing_sweeps c.args.caller.now.pass;
+    }

@@ -1,4 +1,5 @@
 use Rattle.std.proofs.Common.{◌≡◌, Bool, true}
+use Rattle.mk_turns.specs.Sweeping.{SweepsNothing}
 use Rattle.mk_run.specs.Scripts.{MakesNoCall}
 use Rattle.mk_run.proofs.answers.call_until_open.Given as goal
 
@@ -6,4 +7,5 @@ abbrev pub invariant-held : goal.invariant-held
 invariant-held g l = record {
   home : l.caller.home ≡ true;
   none : (on : Bool) → MakesNoCall on l.fn.caller.pass l.caller.pass;
+  reached : SweepsNothing l.fn.caller.pass l.caller.pass;
 }

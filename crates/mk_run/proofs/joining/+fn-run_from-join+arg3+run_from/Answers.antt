@@ -2,11 +2,14 @@ use Rattle.std.proofs.Common.{◌≡◌, ◌∙◌, ◌+◌, ◌<◌, length, sy
 use Rattle.std.specs.Prelude.{Some}
 use Rattle.std.proofs.lemmas.List.Elements.{All-pop}
 use Rattle.mk_script.specs.Scopes.{script_names}
+use Rattle.mk_core.specs.declared.events.Seat.TheVariants.{Caller}
 use Rattle.mk_core.specs.Growing.{Grows}
 use Rattle.mk_heap.specs.Hosts.{HostState, with_joined}
 use Rattle.mk_check.specs.Laws.{IsScript}
 use Rattle.mk_run.specs.Joining.{IsFirstPass, HasMade, HasRun, HasJoined, AreJoined}
+use Rattle.mk_run.proofs.LaterLists.{of_one}
 use Rattle.mk_run.proofs.JoinedScripts.{next_made, first_pass, one_joined, texts_joined}
+use Rattle.mk_run.proofs.UnsweptScripts.{none_joined, script_joined, scripts_on}
 use Rattle.mk_run.proofs.joining.+fn-run_from-join+arg3+run_from.Goals as goal
 
 pub join-ran-requires-after_bounds : goal.join-ran-requires-after_bounds
@@ -32,15 +35,15 @@ join-ran-requires-after_bounds g t c κs within =
     c.in-Some.ensures.items c.requires.books in
     search rules
 
-pub returns : goal.returns
-returns g t c =
+pub returns-clause-joined : goal.returns-clause-joined
+returns-clause-joined g t c =
     let on = g.E.Engine.on in
     let program = c.args.program.now in
     let w = c.args.heap.now in
     let k = c.args.k in
-    let ran : HasRun on program w k c.join-ran.result.0 = c.join-ran.ensures.first in
+    let ran : HasRun on program w k c.join-ran.result.0 = c.join-ran.ensures.first.0 in
     let joined : AreJoined on program w (k + 1) c.caller.new.self.markers c.join-ran.result.1 =
-    c.join-ran.ensures.second in
+    c.join-ran.ensures.second.0 in
     let pass = c.join-ran.result.0.pass in
     let old = c.join-ran.result.1.host in
     let new = c.join_caller.new.self in
@@ -62,3 +65,29 @@ returns g t c =
           c.with_first.ensures.first c.with_first.ensures.others c.with_first.ensures.items
           ran.ends ran.is_text joined.texts few;
     }
+
+pub returns-in_default-clause-reached : goal.returns-in_default-clause-reached
+returns-in_default-clause-reached g t c =
+    let all : c.args.k ≡ length (script_names c.args.program.now) = search rules in
+    λ none.
+    none_joined c.args.program.now c.args.k c.args.heap.now.config c.args.host.pass.seen c.requires.host.seen all
+
+pub returns-clause-reached : goal.returns-clause-reached
+returns-clause-reached g t c =
+    let program = c.args.program.now in
+    let w = c.args.heap.now in
+    let k = c.args.k in
+    let ran : HasRun g.E.Engine.on program w k c.join-ran.result.0 = c.join-ran.ensures.first.0 in
+    let joined : AreJoined g.E.Engine.on program w (k + 1) c.caller.new.self.markers c.join-ran.result.1 =
+    c.join-ran.ensures.second.0 in
+    let pass = c.join-ran.result.0.pass in
+    let old = c.join-ran.result.1.host in
+    let new = c.join_caller.new.self in
+    let own : Grows old.pass.seats old.pass.seen new.pass.seen = c.join_caller.ensures.own in
+    λ none.
+    script_joined program k w.config pass.seats pass.seen new.pass.seen ran.alone c.join_caller.ensures.came
+    (c.join-ran.ensures.first.1 none)
+    (scripts_on program (k + 1) w old.pass new.pass joined.is_host.table joined.is_host.seat
+    c.join_caller.ensures.reached
+    (λ j le is. of_one old.pass.seats (Caller j) old.pass.seen new.pass.seen (joined.is_host.seats j le is) own)
+    (c.join-ran.ensures.second.1 none))

@@ -3,6 +3,7 @@ use Rattle.mk_core.specs.declared.events.Seat.{Seat}
 use Rattle.mk_words.specs.States.{PassState}
 use Rattle.mk_caller.specs.States.{CallerState}
 use Rattle.mk_run.proofs.JoinedScripts.{no_answers, follows_at_first}
+use Rattle.mk_run.proofs.UnsweptScripts.{script_sweeps}
 use Rattle.mk_run.proofs.joining.run_alone.Goals as goal
 
 pub new-caller-requires-clause-idle : goal.new-caller-requires-clause-idle
@@ -25,3 +26,9 @@ run_script-text-requires-clause-alone g c κs within =
     let is = ap (λ (s : CallerState). s.pass) c.new-caller.ensures in
     subst (λ (p : PassState). p.seats ≡ p.seat ∷ []) (sym is)
     (c.requires.pass.alone ∙ ap (λ (s : Seat). s ∷ []) (sym c.requires.pass.seat))
+
+pub returns-clause-reached : goal.returns-clause-reached
+returns-clause-reached g c =
+    λ none.
+    script_sweeps c.args.heap.now c.args.k c.args.pass c.new-caller.result c.run_script-text.new.caller.pass
+    c.finish.result c.requires.pass c.new-caller.ensures (c.run_script-text.ensures.reached none) c.finish.ensures.pass

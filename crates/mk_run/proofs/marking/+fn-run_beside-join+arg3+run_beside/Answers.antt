@@ -1,8 +1,12 @@
 use Rattle.std.proofs.Common.{◌≡◌, ◌∙◌, ◌+◌, ◌-◌, ◌<◌, sym, ap, subst, arith, refl, rules}
+use Rattle.mk_core.specs.declared.events.Seat.TheVariants.{Caller}
 use Rattle.mk_heap.specs.Hosts.{HostState}
 use Rattle.mk_run.specs.Joining.{HasMade}
 use Rattle.mk_run.specs.Marking.{IsMarkersPass, IsOver}
+use Rattle.mk_run.proofs.LastTurns.{last_turns_joined}
 use Rattle.mk_run.proofs.MarkersBeside.{first_marker, marker_made, marker_joined}
+use Rattle.mk_run.proofs.LaterLists.{of_one}
+use Rattle.mk_run.proofs.UnsweptScripts.{scripts_on}
 use Rattle.mk_run.proofs.marking.+fn-run_beside-join+arg3+run_beside.Goals as goal
 
 pub join-pass-requires-after_bounds : goal.join-pass-requires-after_bounds
@@ -23,13 +27,33 @@ join-pass-requires-after_bounds g t c κs within =
     let fewer : c.args.markers - (number + 1) < t = omega (arith, c.decreases) in
     search rules
 
-pub returns : goal.returns
-returns g t c =
+pub returns-clause-over : goal.returns-clause-over
+returns-clause-over g t c =
     let w = c.args.heap.now in
     let number = c.args.number in
     let pass : IsMarkersPass w number c.join-pass.result.0 = c.join-pass.ensures.first in
     let before : IsOver g.E.Engine.on c.args.program.now w (number + 1)
-    c.join-pass.result.1 = c.join-pass.ensures.second in
-    marker_joined g.E.Engine.on c.args.program.now w number c.join-pass.result.0 c.join-pass.result.1
-    (record { host = c.join_marker.new.self; texts = c.join-pass.result.1.texts }) before c.join_marker.ensures.host
+    c.join-pass.result.1.joined = c.join-pass.ensures.second.0 in
+    marker_joined g.E.Engine.on c.args.program.now w number c.join-pass.result.0 c.join-pass.result.1.joined
+    (record { host = c.join_marker.new.self; texts = c.join-pass.result.1.joined.texts }) before c.join_marker.ensures.host
     c.join_marker.ensures.own pass.alone refl
+
+pub returns-clause-turns : goal.returns-clause-turns
+returns-clause-turns g t c asked =
+    last_turns_joined (g.E.Engine.tells c.join-pass.result.1.bench.engine) c.args.heap.now
+    c.join-pass.result.1.joined.host c.join_marker.new.self c.join-pass.result.0 c.join_marker.ensures.host
+    c.join_marker.ensures.own (c.join-pass.ensures.second.1.0 asked)
+
+pub returns-clause-reached : goal.returns-clause-reached
+returns-clause-reached g t c =
+    let w = c.args.heap.now in
+    let before : IsOver g.E.Engine.on c.args.program.now w (c.args.number + 1)
+    c.join-pass.result.1.joined = c.join-pass.ensures.second.0 in
+    let old = c.join-pass.result.1.joined.host in
+    let new = c.join_marker.new.self in
+    λ none.
+    scripts_on c.args.program.now 0 w old.pass new.pass before.is_host.table before.is_host.seat
+    c.join_marker.ensures.reached
+    (λ j le is.
+    of_one old.pass.seats (Caller j) old.pass.seen new.pass.seen (before.is_host.seats j le is) c.join_marker.ensures.own)
+    (c.join-pass.ensures.second.1.1 none)

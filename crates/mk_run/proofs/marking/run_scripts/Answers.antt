@@ -1,27 +1,52 @@
-use Rattle.std.proofs.Common.{◌≡◌, ◌∙◌, ap, arith}
+use Rattle.std.proofs.Common.{◌≡◌, ◌∙◌, ap, arith, sym, subst}
 use Rattle.std.proofs.lemmas.Result.{IfOk-weaker}
+use Rattle.mk_words.specs.States.{WordsState}
 use Rattle.mk_heap.specs.Hosts.{HostState}
-use Rattle.mk_run.specs.Joining.{AreTextsFrom}
-use Rattle.mk_run.proofs.MarkersBeside.{over_said}
-use Rattle.mk_run.proofs.WholeRuns.{still_texts}
+use Rattle.mk_run.specs.Joining.{AreTextsFrom, HasJoined}
+use Rattle.mk_run.proofs.WholeRuns.{all_callers_home, all_callers_joined, still_joined, still_texts}
+use Rattle.mk_run.proofs.UnsweptScripts.{scripts_on}
 use Rattle.mk_run.proofs.marking.run_scripts.Goals as goal
 
-pub returns : goal.returns
-returns g c =
+pub take_last_turns-requires-clause-joined : goal.take_last_turns-requires-clause-joined
+take_last_turns-requires-clause-joined g c κs within =
+    all_callers_joined g.E.Engine.on c.args.program.now c.args.heap.now c.run_from-host.result.host
+    c.run_from-host.ensures.joined.is_host
+
+pub take_last_turns-requires-clause-callers : goal.take_last_turns-requires-clause-callers
+take_last_turns-requires-clause-callers g c κs within =
+    all_callers_home g.E.Engine.on c.args.program.now c.args.heap.now c.run_from-host.result.host c.requires.heap
+    c.run_from-host.ensures.joined.is_host
+
+pub returns-clause-over : goal.returns-clause-over
+returns-clause-over g c =
     let on = g.E.Engine.on in
     let program = c.args.program.now in
     let w = c.args.heap.now in
-    let joined = c.run_from-host.ensures in
+    let joined = c.run_from-host.ensures.joined in
     let h = c.run_from-host.result.host in
-    let new = c.over.new.self in
-    let said = over_said on program w h new joined.is_host c.over.ensures.host c.over.ensures.over in
-    let count : new.markers ≡ c.args.host.markers =
-    ap (λ (x : HostState). x.markers) c.over.ensures.host ∙ joined.same_markers in
+    let new = c.take_last_turns.new.host in
+    let is = c.take_last_turns.ensures.host in
+    let still = c.take_last_turns.ensures.still in
+    let count : new.markers ≡ c.args.host.markers = ap (λ (x : HostState). x.markers) is ∙ joined.same_markers in
     record {
-      is_host = said.0;
+      is_host =
+          subst (λ (x : HostState). HasJoined on program w 0 x) (sym is)
+          (still_joined on program w h new.pass.seen joined.is_host still h.pass.seats (λ k has. has));
       markers = λ i le lt. absurd (omega arith);
       texts =
           IfOk-weaker c.run_from-host.result.texts (λ texts. AreTextsFrom program 0 w.config h.pass.seen texts.items)
           (λ texts. AreTextsFrom program 0 w.config new.pass.seen texts.items)
-          (λ texts t. still_texts on program w h new.pass.seen joined.is_host said.1 texts.items t) joined.texts;
+          (λ texts t. still_texts on program w h new.pass.seen joined.is_host still texts.items t) joined.texts;
     }
+
+pub returns-clause-reached : goal.returns-clause-reached
+returns-clause-reached g c =
+    let program = c.args.program.now in
+    let w = c.args.heap.now in
+    let joined = c.run_from-host.ensures.joined in
+    let h = c.run_from-host.result.host in
+    let new = c.take_last_turns.new.host in
+    λ none.
+    scripts_on program 0 w h.pass new.pass joined.is_host.table joined.is_host.seat
+    (c.take_last_turns.ensures.reached none)
+    (λ j le is. c.take_last_turns.ensures.still j (joined.is_host.seats j le is)) (c.run_from-host.ensures.reached none)

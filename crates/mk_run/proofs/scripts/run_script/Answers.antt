@@ -1,8 +1,11 @@
-use Rattle.std.proofs.Common.{◌≡◌, ◌+◌, ◌<◌, ◌∙◌, [], ◌∷◌, sym, subst, arith}
+use Rattle.std.proofs.Common.{◌≡◌, ◌+◌, ◌<◌, ◌∙◌, List, [], ◌∷◌, refl, sym, subst, arith, rules}
+use Rattle.mk_core.specs.declared.events.Answer.{Answer}
 use Rattle.mk_check.specs.Laws.{IsChecked}
 use Rattle.mk_run.specs.Running.{answers_in}
+use Rattle.mk_run.specs.Scripts.{IsFedWith}
 use Rattle.mk_words.specs.States.{PassState}
 use Rattle.mk_run.proofs.ScriptCalls.{exists_on, seat_is, asked_stays_admitted, follows_now, runs_on, one_more_op, refused_within}
+use Rattle.mk_turns.proofs.Sweeping.{nothing_sweeps, sweeps_then}
 use Rattle.mk_run.proofs.scripts.run_script.Goals as goal
 
 pub answer_to-answer-requires-clause-admitted : goal.answer_to-answer-requires-clause-admitted
@@ -56,6 +59,9 @@ instructions-preserved g c =
       refused =
           refused_within program k (answers_in p.table.config k c.answer_to-answer.new.caller.pass.seen)
           c.answer.new.self on.fed;
+      reached = λ none.
+          sweeps_then p q c.answer_to-answer.new.caller.pass run.is (c.instructions.invariant.reached none)
+          (c.answer_to-answer.ensures.reached none);
     }
 
 pub returns-in_err-answer-clause-follows : goal.returns-in_err-answer-clause-follows
@@ -69,3 +75,34 @@ returns-in_err-answer-clause-follows g c =
     (seat_is p q k run.is c.is_idle.ensures.idle c.requires.number) c.in-Some-op.op
     (sym (c.in-Some-op.ensures.next program k (answers_in p.table.config k q.seen) run.fed.feed))
     c.answer_to-answer.result c.answer_to-answer.new.caller.pass c.answer_to-answer.ensures.answers
+
+pub returns-in_err-answer-clause-reached : goal.returns-in_err-answer-clause-reached
+returns-in_err-answer-clause-reached g c =
+    λ none.
+    sweeps_then c.args.caller.now.pass c.instructions.caller.pass c.answer_to-answer.new.caller.pass
+    c.instructions.invariant.running.is (c.instructions.invariant.reached none) (c.answer_to-answer.ensures.reached none)
+
+pub returns-in_err-script-clause-reached : goal.returns-in_err-script-clause-reached
+returns-in_err-script-clause-reached g c = λ none. nothing_sweeps c.args.caller.now.pass
+
+pub instructions-init : goal.instructions-init
+instructions-init g c =
+    let p : PassState = c.args.caller.now.pass in
+    let program = c.args.program.now in
+    let k = c.args.k in
+    let script = c.in_ok-script.script in
+    let fed : IsFedWith program k [] script = c.in_ok-script.ensures in
+    let none : script.ops ≡ 0 = fed.ops in
+    record {
+      home = c.requires.home;
+      running = record {
+        is = refl;
+        follows = c.requires.follows;
+        fed = subst (λ (answers : List Answer). IsFedWith program k answers script) (sym c.requires.no_call) fed;
+      };
+      made_for = refl;
+      book = refl;
+      counted = search rules;
+      refused = refused_within program k [] script fed;
+      reached = λ none. nothing_sweeps p;
+    }

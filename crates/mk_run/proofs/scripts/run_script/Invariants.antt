@@ -1,4 +1,5 @@
-use Rattle.std.proofs.Common.{◌≡◌, ◌+◌, ◌≤◌, true, length}
+use Rattle.std.proofs.Common.{◌≡◌, ◌+◌, ◌≤◌, true, false, length}
+use Rattle.mk_turns.specs.Sweeping.{SweepsNothing}
 use Rattle.mk_run.specs.Scripts.{IsRunning}
 use Rattle.mk_run.proofs.scripts.run_script.Given as goal
 
@@ -10,4 +11,5 @@ invariant-instructions g l = record {
   book : length l.bench.book ≡ length l.fn.bench.book;
   counted : l.script.ops + l.iterator'.left ≤ 18446744073709551615;
   refused : l.script.refused ≤ l.script.ops;
+  reached : g.E.Engine.sweeps ≡ false → SweepsNothing l.fn.caller.pass l.caller.pass;
 }

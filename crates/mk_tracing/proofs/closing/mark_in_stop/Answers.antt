@@ -9,16 +9,15 @@ use Rattle.mk_tracing.proofs.closing.mark_in_stop.Goals as goal
 pub returns-clause-on : goal.returns-clause-on
 returns-clause-on c =
     on_then c.args.stop.now c.mark_roots.new.stop c.trace.new.stop
-    (on_then c.args.stop.now c.undirty_all.new.stop c.mark_roots.new.stop
-    (on_then c.args.stop.now c.unblack_dirty.new.stop c.undirty_all.new.stop c.unblack_dirty.ensures.on
-    c.undirty_all.ensures.on) c.mark_roots.ensures.on)
+    (on_then c.args.stop.now c.clean_dirty.new.stop c.mark_roots.new.stop c.clean_dirty.ensures.on
+    c.mark_roots.ensures.on)
     c.trace.ensures.on
 
 pub returns-clause-clean : goal.returns-clause-clean
 returns-clause-clean c p lt =
     ap (λ (w : Words). slice_index w.dirty p) c.trace.ensures.more.is
     ∙ ap (λ (w : Words). slice_index w.dirty p) c.mark_roots.ensures.more.is
-    ∙ c.undirty_all.ensures.clean p lt
+    ∙ c.clean_dirty.ensures.clean p lt
 
 pub returns-clause-roots : goal.returns-clause-roots
 returns-clause-roots c =

@@ -1,5 +1,9 @@
+use Rattle.mk_turns.proofs.Sweeping.{nothing_sweeps}
 use Rattle.mk_engines.proofs.TracedMarks.{begins_with_nothing}
 use Rattle.mk_engines.proofs.stop_engine.StopEngineEngine.begin.Goals as goal
 
 pub returns-clause-law : goal.returns-clause-law
 returns-clause-law g c = begins_with_nothing c.args._turn.now.pass
+
+pub returns-clause-reached : goal.returns-clause-reached
+returns-clause-reached g c = nothing_sweeps c.args._turn.now.pass

@@ -1,16 +1,21 @@
-use Rattle.std.proofs.Common.{refl, sym, ◌∙◌, arith}
+use Rattle.std.proofs.Common.{refl, sym, subst, ◌∙◌, arith}
+use Rattle.std.specs.Prelude.{None}
 use Rattle.mk_core.specs.declared.events.Step.TheVariants as step
 use Rattle.mk_words.specs.States.{PassState}
+use Rattle.mk_waiting.specs.Taking.{TakesTurn}
 use Rattle.mk_cycle.specs.EngineLaw.{IsAtPhase}
 use Rattle.mk_cycle.proofs.Allowed.{in_turn}
 use Rattle.mk_heap.specs.Ending.{IsIdleTurn}
 use Rattle.mk_heap.specs.Hosts.{HostState}
 use Rattle.mk_heap.proofs.BeforeOver.{hosts_seat, none_by_phase, step_overs}
-use Rattle.mk_heap.proofs.HostsKept.{home_host, home_is}
+use Rattle.mk_heap.proofs.HostsKept.{home_host, home_is, home_view}
 use Rattle.mk_heap.proofs.IdleTurns.{cycle_idle}
 use Rattle.mk_heap.proofs.MovedHosts.{begin_moves, finish_moves, idle_moves, moved_is_host, moves_more}
 use Rattle.mk_heap.proofs.Overs.{give_allowed, idle_may_give}
-use Rattle.mk_heap.proofs.Telling.{given_no_turn}
+use Rattle.mk_heap.proofs.Telling.{given_no_turn, given_phase}
+use Rattle.mk_heap.proofs.UnsweptHosts.{idle_then_sweeps}
+use Rattle.mk_turns.specs.Sweeping.{SweepsNothing}
+use Rattle.mk_turns.proofs.Sweeping.{other_step_sweeps, sweeps_then}
 use Rattle.mk_heap.proofs.hosts.Host.cycle.Goals as goal
 
 pub give-back-requires-clause-enabled : goal.give-back-requires-clause-enabled
@@ -39,6 +44,48 @@ invariant_of-self g c =
     moved_is_host h q is (moves_more h.pass r q step.Give ended c.give-back.ensures.acts.makes)
     c.is_in_order-3.ensures.history (given_no_turn r q c.give-back.ensures.acts)
 
+pub returns-clause-own : goal.returns-clause-own
+returns-clause-own g c =
+    let s = c.self.inside in
+    let h : HostState = home_host c.in-Some.home s.callers s.markers in
+    let is =
+    home_is s.pass c.in-Some.home s.callers s.markers (sym c.take.ensures.value ∙ c.in-Some.is) c.self.invariant in
+    let p : PassState = c.take_idle_turn-turn.result.pass in
+    let b : PassState = c.begin_cycle.new.turn.pass in
+    let r : PassState = c.finish_cycle-turn.result.0.pass in
+    let q : PassState = c.give-back.result in
+    let idle = idle_moves h.pass p c.take_idle_turn-turn.ensures.takes in
+    let begun = begin_moves h.pass p b idle c.begin_cycle.ensures.law in
+    let ended = finish_moves h.pass b r begun c.finish_cycle-turn.ensures.law in
+    hosts_seat h q is c.is_in_order.ensures.own
+    (moves_more h.pass r q step.Give ended c.give-back.ensures.acts.makes)
+
+pub returns-clause-idle : goal.returns-clause-idle
+returns-clause-idle g c =
+    given_phase c.finish_cycle-turn.result.0.pass c.give-back.result c.give-back.ensures.acts
+    ∙ c.finish_cycle-turn.ensures.law.phase
+
+pub returns-clause-cycle : goal.returns-clause-cycle
+returns-clause-cycle g c =
+    let s = c.self.inside in
+    let t = c.take_idle_turn-turn.ensures.takes in
+    let view = home_view s.pass c.in-Some.home s.callers s.markers c.args.self.now (sym c.take.ensures.value ∙ c.in-Some.is)
+    c.self.view_is in
+    record {
+      makes = record {
+        taken = t.taken;
+        idle = c.take_idle_turn-turn.result.pass;
+        begun = c.begin_cycle.new.turn.pass;
+        ended = c.finish_cycle-turn.result.0.pass;
+        takes = subst (λ (h : HostState). TakesTurn h.pass None t.taken) view t.takes;
+        ends = t.ends;
+        begins = c.begin_cycle.ensures.law;
+        finishes = c.finish_cycle-turn.ensures.law;
+        gives = c.give-back.ensures.acts.makes;
+      };
+      at_close = c.finish_cycle-turn.ensures.told;
+    }
+
 pub returns-clause-overs : goal.returns-clause-overs
 returns-clause-overs g c =
     let s = c.self.inside in
@@ -57,3 +104,21 @@ returns-clause-overs g c =
     ∙ none_by_phase r.table.config r.seen c.is_in_order-2.ensures.history
     (λ (five : IsAtPhase r 5). absurd (omega arith))
     ∙ sym c.requires.before_over
+
+pub returns-clause-reached : goal.returns-clause-reached
+returns-clause-reached g c =
+    let s = c.self.inside in
+    let view =
+    home_view s.pass c.in-Some.home s.callers s.markers c.args.self.now (sym c.take.ensures.value ∙ c.in-Some.is)
+    c.self.view_is in
+    let p : PassState = c.take_idle_turn-turn.result.pass in
+    let b : PassState = c.begin_cycle.new.turn.pass in
+    let r : PassState = c.finish_cycle-turn.result.0.pass in
+    let q : PassState = c.give-back.result in
+    λ none.
+    subst (λ (h : HostState). SweepsNothing h.pass q) view
+    (idle_then_sweeps c.in-Some.home p q c.take_idle_turn-turn.ensures.takes
+    (c.take_idle_turn-turn.ensures.reached none)
+    (sweeps_then p b q c.begin_cycle.ensures.law.pass (c.begin_cycle.ensures.reached none)
+    (sweeps_then b r q c.finish_cycle-turn.ensures.law.pass (c.finish_cycle-turn.ensures.reached none)
+    (other_step_sweeps r q _ c.give-back.ensures.acts.makes c.is_in_order-2.ensures.own refl))))

@@ -5,6 +5,8 @@ use Rattle.mk_words.specs.States.{PassState, WordsState}
 use Rattle.mk_heap.specs.Hosts.{HostState, IsHost}
 use Rattle.mk_heap.proofs.BeforeOver.{joined_overs}
 use Rattle.mk_heap.proofs.HostsKept.{home_host, home_is, home_view, idle_is_done, joined_is_host}
+use Rattle.mk_heap.proofs.UnsweptHosts.{grown_sweeps}
+use Rattle.mk_turns.specs.Sweeping.{SweepsNothing}
 use Rattle.mk_heap.proofs.hosts.Host.join_caller.Goals as goal
 
 pub invariant_of-self : goal.invariant_of-self
@@ -30,3 +32,10 @@ returns-clause-overs c =
     let q : PassState = c.join.new.into in
     joined_overs h q is c.is_in_order.ensures.own (ap (λ (r : PassState). r.table) c.join.ensures.pass) c.is_in_order-in-Some.ensures.history c.join.ensures.own
     ∙ ap (λ (g : HostState). has_over g.pass.seen) view
+
+pub returns-clause-reached : goal.returns-clause-reached
+returns-clause-reached c =
+    let s = c.self.inside in
+    let view = home_view s.pass c.in-Some.home s.callers s.markers c.args.self.now c.in-Some.is c.self.view_is in
+    let q : PassState = c.join.new.into in
+    subst (λ (h : HostState). SweepsNothing h.pass q) view (grown_sweeps c.in-Some.home q c.is_in_order.ensures.own c.join.ensures.own)

@@ -1,13 +1,18 @@
-use Rattle.std.proofs.Common.{sym, ◌∙◌}
+use Rattle.std.proofs.Common.{◌≡◌, refl, sym, ◌∙◌, subst}
 use Rattle.mk_core.specs.declared.events.Step.TheVariants as step
 use Rattle.mk_words.specs.States.{PassState}
+use Rattle.mk_cycle.specs.EngineLaw.{IsAtPhase}
 use Rattle.mk_cycle.proofs.Allowed.{in_turn}
+use Rattle.mk_heap.specs.Ending.{CallersAreJoined}
 use Rattle.mk_heap.specs.Hosts.{HostState}
-use Rattle.mk_heap.proofs.HostsKept.{home_host, home_is}
+use Rattle.mk_heap.proofs.HomeCallers.{callers_home}
+use Rattle.mk_heap.proofs.HostsKept.{home_host, home_is, home_view}
 use Rattle.mk_heap.proofs.IdleTurns.{tidy_kept}
 use Rattle.mk_heap.proofs.MovedHosts.{idle_moves, moved_is_host, moves_more}
 use Rattle.mk_heap.proofs.Overs.{give_allowed, over_keeps, over_may_give}
 use Rattle.mk_heap.proofs.Telling.{given_no_turn}
+use Rattle.mk_heap.proofs.UnsweptHosts.{given_sweeps, idle_then_sweeps}
+use Rattle.mk_turns.specs.Sweeping.{SweepsNothing}
 use Rattle.mk_heap.proofs.hosts.Host.over.Goals as goal
 
 pub give-back-requires-clause-enabled : goal.give-back-requires-clause-enabled
@@ -44,3 +49,30 @@ invariant_of-self g c =
     let said = moves_more h.pass p q step.Over idle c.over.ensures.acts.makes in
     moved_is_host h r is (moves_more h.pass q r step.Give said c.give-back.ensures.acts.makes)
     c.is_in_order-3.ensures.history (given_no_turn q r c.give-back.ensures.acts)
+
+pub returns-clause-bench : goal.returns-clause-bench
+returns-clause-bench g c none =
+    let s = c.self.inside in
+    let home = c.in-Some.home in
+    let some = sym c.take.ensures.value ∙ c.in-Some.is in
+    let view = home_view s.pass home s.callers s.markers c.args.self.now some c.self.view_is in
+    c.take_idle_turn-turn.ensures.bench
+    (callers_home (home_host home s.callers s.markers) (home_is s.pass home s.callers s.markers some c.self.invariant)
+    (subst (λ (h : HostState). CallersAreJoined h) (sym view) c.requires.joined))
+    (subst (λ (h : HostState). IsAtPhase h.pass 0) (sym view) none)
+
+pub returns-clause-reached : goal.returns-clause-reached
+returns-clause-reached g c =
+    let s = c.self.inside in
+    let view =
+    home_view s.pass c.in-Some.home s.callers s.markers c.args.self.now (sym c.take.ensures.value ∙ c.in-Some.is)
+    c.self.view_is in
+    let p : PassState = c.take_idle_turn-turn.result.pass in
+    let q : PassState = c.over.new.self.pass in
+    let r : PassState = c.give-back.result in
+    λ none.
+    subst (λ (h : HostState). SweepsNothing h.pass r) view
+    (idle_then_sweeps c.in-Some.home p r c.take_idle_turn-turn.ensures.takes
+    (c.take_idle_turn-turn.ensures.reached none)
+    (given_sweeps p q r _ c.over.ensures.acts.makes c.give-back.ensures.acts.makes
+    c.is_in_order.ensures.own c.is_in_order-2.ensures.own refl))

@@ -9,6 +9,8 @@ use Rattle.mk_heap.proofs.BeforeOver.{hosts_seat, step_overs, taken_overs}
 use Rattle.mk_heap.proofs.HostsKept.{home_host, home_is, home_view}
 use Rattle.mk_heap.proofs.MovedHosts.{moved_is_host, moves_more, turn_moves}
 use Rattle.mk_heap.proofs.Telling.{look_admitted, look_tidy, given_no_turn}
+use Rattle.mk_heap.proofs.UnsweptHosts.{given_sweeps, taken_then_sweeps}
+use Rattle.mk_turns.specs.Sweeping.{SweepsNothing}
 use Rattle.mk_heap.proofs.hosts.Host.tell.Goals as goal
 
 pub look-found-requires-clause-admitted : goal.look-found-requires-clause-admitted
@@ -61,3 +63,17 @@ returns-clause-overs g c =
     ∙ taken_overs h.pass p c.take_turn-turn.ensures.takes (subst (λ (x : Seat). Has h.pass.seats x) is.seat own)
     c.is_in_order-in-Some.ensures.history
     ∙ ap (λ (g : HostState). has_over g.pass.seen) view
+
+pub returns-clause-reached : goal.returns-clause-reached
+returns-clause-reached g c =
+    let s = c.self.inside in
+    let view =
+    home_view s.pass c.in-Some.home s.callers s.markers c.args.self.now (sym c.take.ensures.value ∙ c.in-Some.is)
+    c.self.view_is in
+    let p : PassState = c.take_turn-turn.result.pass in
+    let q : PassState = c.look-found.new.self.pass in
+    let r : PassState = c.give-back.result in
+    subst (λ (h : HostState). SweepsNothing h.pass r) view
+    (taken_then_sweeps c.in-Some.home p r c.is_in_order.ensures.own c.take_turn-turn.ensures.takes
+    (given_sweeps p q r _ c.look-found.ensures.acts.makes c.give-back.ensures.acts.makes
+    c.is_in_order-in-Some.ensures.own c.is_in_order-in-Some-2.ensures.own refl))

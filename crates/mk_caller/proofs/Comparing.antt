@@ -1,0 +1,59 @@
+-- A compare and exchange compares values: its answer is that of the heap that never reuses storage.
+use Rattle.std.proofs.Common.{◌≡◌, ◌↔◌, ℕ, Bool, true, false, List, refl, sym, ◌∙◌, ap}
+use Rattle.mk_never.specs.declared.operations.Op.TheVariants as op
+use Rattle.mk_never.specs.declared.operations.Reply.TheVariants as reply
+use Rattle.mk_never.specs.declared.values.Target.{Target}
+use Rattle.mk_never.specs.declared.values.Target.TheVariants.{Nothing, Unmapped, WordOf}
+use Rattle.mk_never.specs.declared.values.Value.{Value}
+use Rattle.mk_never.specs.NeverHeap.{NeverState, register_at, word_at, target_of, reply_at, is_same, bit}
+use Rattle.mk_never.proofs.Sameness.{equal_from_same, same_from_equal}
+use Rattle.mk_core.specs.declared.events.Answer.TheVariants as answer
+use Rattle.mk_core.specs.Calls.{one_if}
+use Rattle.mk_core.specs.Image.{answer_of}
+use Rattle.mk_words.specs.States.{PassState}
+use Rattle.mk_caller.specs.States.{number_of, never_then, value_of, Admits}
+use Rattle.mk_caller.specs.Called.{Says}
+use Rattle.mk_caller.specs.Comparing.{ComparesValues}
+
+-- the word that an access gets to which is answered by a number, and what that tells
+record Reached (n : NeverState) (v w : Value) (i : ℕ) (said : Bool) : Type 0 where
+  pub number : ℕ
+  pub place : ℕ
+  pub gets_to : target_of n v i ≡ WordOf number place
+  pub said_so : said ≡ is_same (word_at n number place) w
+
+same_bits : (a b : Bool) → one_if a ≡ bit b → a ≡ b
+same_bits true true e = refl
+same_bits false false e = refl
+same_bits true false e = cc
+same_bits false true e = cc
+
+reached : (bases : List ℕ) (n : NeverState) (v w : Value) (i : ℕ) (said : Bool) (t : Target) → target_of n v i ≡ t
+    → answer.Num (one_if said) ≡ answer_of bases (reply_at t (λ a k. reply.Num (bit (is_same (word_at n a k) w))))
+    → Reached n v w i said
+reached bases n v w i said (WordOf a k) is e =
+    record { number = a; place = k; gets_to = is; said_so = same_bits said (is_same (word_at n a k) w) (numbers e) }
+  where
+    numbers : {x y : ℕ} → answer.Num x ≡ answer.Num y → x ≡ y
+    numbers e = cc
+reached bases n v w i said Nothing is e = cc
+reached bases n v w i said Unmapped is e = cc
+
+equal_where_said : (said : Bool) (v w : Value) → said ≡ is_same v w → (said ≡ true) ↔ (v ≡ w)
+equal_where_said said v w is = (λ yes. equal_from_same v w (sym is ∙ yes), λ e. is ∙ same_from_equal v w e)
+
+pub compares_values : {p q : PassState} (x i e r : ℕ) (said : Bool) → Admits p (op.CasPtr x i e r)
+    → Says p (op.CasPtr x i e r) said q → ComparesValues p x i e r said q
+compares_values {p} x i e r said ad c =
+    let n : NeverState = never_then p c.decided.before in
+    let there = reached _ n (register_at n (number_of p) x) (register_at n (number_of p) e) i said
+    (target_of n (register_at n (number_of p) x) i) refl c.decided.reply in
+    record {
+      called = c;
+      number = there.number;
+      place = there.place;
+      gets_to = ap (λ (v : Value). target_of n v i) (sym (c.decided.known x ad.in_range.0)) ∙ there.gets_to;
+      compares = equal_where_said said (word_at n there.number there.place) (value_of p e)
+          (there.said_so ∙ ap (λ (v : Value). is_same (word_at n there.number there.place) v)
+          (c.decided.known e ad.in_range.1));
+    }

@@ -1,0 +1,15 @@
+use Rattle.mk_caller.proofs.After.{still_caller}
+use Rattle.mk_caller_clients.proofs.Sameness.{may_compare, told_of_other}
+use Rattle.mk_caller_clients.proofs.takes_out_of_global.Goals as goal
+
+pub same-requires-clause-admitted : goal.same-requires-clause-admitted
+same-requires-clause-admitted c =
+    let ad = c.requires.admitted in
+    may_compare c.args.d c.args.x ad.of_a_caller ad.in_range.0 c.requires.register
+    c.in_ok-get_global.ensures.called.called
+
+pub returns : goal.returns
+returns c =
+    told_of_other c.args.caller.now.pass c.get_global.new.self.pass c.same.new.self.pass c.same.result c.args.d c.args.g
+    c.args.x c.requires.admitted c.requires.register c.requires.another c.in_ok-get_global.ensures.called
+    c.same.ensures.called c.same.ensures.tells

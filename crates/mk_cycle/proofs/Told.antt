@@ -1,0 +1,52 @@
+-- What is told of the world in which marks are closed, from wider parts of a turn.
+use Rattle.std.proofs.Common.{◌≡◌, List, [], ◌∷◌, ◌++◌, ap, subst, ◌∙◌, append_assoc}
+use Rattle.mk_core.specs.declared.config.Config.{Config}
+use Rattle.mk_core.specs.declared.events.Event.{Event}
+use Rattle.mk_core.specs.declared.events.Step.TheVariants as step
+use Rattle.mk_core.specs.History.{IsHistory, World, left}
+use Rattle.mk_words.specs.Seats.{Has}
+use Rattle.mk_words.specs.States.{PassState, event_of}
+use Rattle.mk_words.specs.Steps.{Makes}
+use Rattle.mk_words.proofs.Made.{made}
+use Rattle.mk_cycle.specs.Telling.{IsToldAtClose, IsToldOf}
+
+-- at the step that closes them
+pub told_closing : (tells : Config → World → Type 0) (p q : PassState) → Has p.seats p.seat → Makes p step.Close q
+    → IsHistory q.table.config q.seen → IsToldOf tells p → IsToldAtClose tells p q
+told_closing tells p q has makes history told =
+    record {
+      before = makes.others;
+      behind = [];
+      is = ap (λ (x : PassState). x.seen) makes.is;
+      told = told makes.others makes.of_others (made p step.Close q makes has history).history;
+    }
+
+-- when more was seen behind it
+pub told_later : (tells : Config → World → Type 0) (p q r : PassState) (more : List Event) → r.seen ≡ q.seen ++ more
+    → IsToldAtClose tells p q → IsToldAtClose tells p r
+told_later tells p q r more is t =
+    record {
+      before = t.before;
+      behind = t.behind ++ more;
+      is = is
+          ∙ ap (λ (es : List Event). es ++ more) t.is
+          ∙ append_assoc (p.seen ++ t.before) (event_of p step.Close ∷ t.behind) more;
+      told = t.told;
+    }
+
+-- when more had been seen before it
+told_at : (tells : Config → World → Type 0) (p : PassState) (more : List Event) (q : PassState)
+    → IsToldAtClose tells (record p { seen = p.seen ++ more }) q → IsToldAtClose tells p q
+told_at tells p more q t =
+    let same = append_assoc p.seen more t.before in
+    record {
+      before = more ++ t.before;
+      behind = t.behind;
+      is = t.is ∙ ap (λ (es : List Event). es ++ event_of p step.Close ∷ t.behind) same;
+      told = subst (λ (es : List Event). tells p.table.config (left p.table.config es)) same t.told;
+    }
+
+pub told_earlier : (tells : Config → World → Type 0) (o p : PassState) (more : List Event) (q : PassState)
+    → p ≡ record o { seen = o.seen ++ more } → IsToldAtClose tells p q → IsToldAtClose tells o q
+told_earlier tells o p more q is t =
+    told_at tells o more q (subst (λ (x : PassState). IsToldAtClose tells x q) is t)

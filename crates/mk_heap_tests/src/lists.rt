@@ -1,0 +1,82 @@
+//! Markers on threads of their own, beside scripts that store into their lists.
+
+use crate::runs::{lines, printed, run_of};
+use mk_engines::MostlyEngine;
+use mk_run::Pace;
+use std::sync::atomic::{AtomicBool, Ordering};
+use std::test::Fail;
+use std::thread::yield_now;
+
+/// Two scripts, each with a list of 1,000 objects. `a` frees others until a cycle is on. Then each walks along its list and
+/// stores each pointer again, and at last adds up the numbers from 0 to 999.
+const LISTS: &str = "\
+heap 200 200/type N n p:N/type G n*32/\
+    script a/ptr h N/ptr x N/ptr y N/ptr g G/num n/num one/num sum/const one 1/\
+    repeat 1000/new x N/setn x 0 n/add n n one/setp x 1 h/move h x/end/\
+    repeat 100/new g G/free g/end/\
+    move x h/repeat 1000/getp y x 1/setp x 1 y/move x y/end/\
+    move x h/repeat 1000/getn n x 0/add sum sum n/getp x x 1/end/print sum/\
+    script b/ptr h N/ptr x N/ptr y N/num n/num one/num sum/const one 1/\
+    repeat 1000/new x N/setn x 0 n/add n n one/setp x 1 h/move h x/end/\
+    move x h/repeat 1000/getp y x 1/setp x 1 y/move x y/end/\
+    move x h/repeat 1000/getn n x 0/add sum sum n/getp x x 1/end/print sum/";
+
+/// The last instruction of each script's walk, counted from 0: behind 4 for each object, 2 for each that is freed, one,
+/// and 3 for each step.
+const LAST_STEPS: [u64; 2] = [7200, 7000];
+
+/// How often a script waits for a marker.
+const MOST_YIELDS: u64 = 10_000_000;
+
+/// Holds the end of each walk back until a marker scanned a cell.
+#[derive(Drop)]
+struct UntilMarked {
+    worked: AtomicBool,
+    in_vain: AtomicBool,
+}
+
+impl Pace for UntilMarked {
+    fn before(&self, script: u64, instruction: u64) {
+        let last_steps = LAST_STEPS;
+        if !last_steps.iter().enumerate().any(|(number, last)| number as u64 == script
+            && *last == instruction)
+        {
+            return;
+        }
+        for _yield in 0..MOST_YIELDS {
+            if self.worked.load(Ordering::SeqCst) {
+                return;
+            }
+            yield_now();
+        }
+        self.in_vain.store(true, Ordering::SeqCst);
+    }
+
+    fn answered(&self, _script: u64, _instruction: u64) {}
+
+    fn marked(&self, _marker: u64) {
+        self.worked.store(true, Ordering::SeqCst);
+    }
+}
+
+#[test]
+fn markers_work_beside_stores_to_lists(rt: HostRuntime) -> Result<(), Fail> {
+    let pace = UntilMarked {
+        worked: AtomicBool::new(false),
+        in_vain: AtomicBool::new(false),
+    };
+    let text = lines(rt.alloc(), LISTS)?;
+    let outcome = run_of::<MostlyEngine, UntilMarked, HostRuntime>(
+        &rt,
+        rt.alloc(),
+        text.as_str(),
+        2,
+        &pace,
+    );
+    let outcome = outcome.expect(&rt, "a program, and memory");
+    assert!(rt; !pace.in_vain.load(Ordering::SeqCst));
+    let expected = b"script a\n499500\nscript b\n499500\n".as_slice();
+    assert_eq!(rt; printed(rt.alloc(), &outcome)?.as_slice(), expected);
+    assert!(rt; outcome.report.cycles > 0);
+    Ok(())
+}

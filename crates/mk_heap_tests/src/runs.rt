@@ -1,0 +1,36 @@
+//! Runs of texts, with an engine and a pace of one's own.
+
+use mk_check::check;
+use mk_cycle::Engine;
+use mk_run::{Outcome, Pace, run_all};
+use mk_script::parse;
+use std::alloc::{AllocError, Global};
+use std::sync::Wait;
+use std::thread::Threads;
+
+/// The text with a newline for each `/`.
+pub fn lines(alloc: Global, text: &str) -> Result<String, AllocError> {
+    text.replace(alloc, "/", "\n")
+}
+
+/// The run of a text with at most 8 markers, if it is that of a program and memory suffices.
+pub fn run_of<E: Engine + Send, P: Pace + Sync, R: Threads + Wait + Sync>(
+    rt: &R,
+    alloc: Global,
+    text: &str,
+    markers: u64,
+    pace: &P,
+) -> Option<Outcome> {
+    let program = parse(alloc, text.as_bytes()).ok()?;
+    let program = check(alloc, program).ok()?;
+    run_all::<E, P, R>(rt, alloc, &program, markers.min(8), pace).ok()
+}
+
+/// What all scripts printed.
+pub fn printed(alloc: Global, outcome: &Outcome) -> Result<Vec<u8>, AllocError> {
+    let mut bytes = Vec::new(alloc);
+    for text in &outcome.texts {
+        bytes.extend_from_slice(&text.bytes)?;
+    }
+    Ok(bytes)
+}

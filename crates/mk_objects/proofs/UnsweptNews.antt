@@ -1,0 +1,61 @@
+-- Serving a New sweeps nothing: it marks no cells but those of its place.
+use Rattle.std.proofs.Common.{◌≡◌, ℕ, true, false, refl, ◌∙◌, ap}
+use Rattle.std.specs.Prelude.{not, slice_index_or}
+use Rattle.std.proofs.lemmas.Bool.{and_right}
+use Rattle.mk_geom.specs.declared.pages.Place.{Place}
+use Rattle.mk_geom.specs.Storages.{free_page}
+use Rattle.mk_core.specs.declared.events.Step.{Step}
+use Rattle.mk_core.specs.declared.events.Step.TheVariants as step
+use Rattle.mk_core.specs.Frames.{Steady}
+use Rattle.mk_core.specs.History.{World}
+use Rattle.mk_core.specs.NewPlaces.{bits_made}
+use Rattle.mk_core.specs.Words.{header_at, phase_of}
+use Rattle.mk_words.specs.Seats.{Has}
+use Rattle.mk_words.specs.States.{PassState, now_of, world_of}
+use Rattle.mk_words.specs.TurnSteps.{Acts, world_at}
+use Rattle.mk_turns.specs.Sweeping.{SweepsNothing, is_mark}
+use Rattle.mk_turns.proofs.Sweeping.{does_sweep, other_step_sweeps, step_sweeps, step_then_sweeps, sweeps_then}
+use Rattle.mk_objects.specs.Placing.{HasCarved, MayTake, OnlyLooks, is_look, object_for}
+use Rattle.mk_objects.proofs.Granting.{serving_marks}
+use Rattle.mk_objects.proofs.Reaching.{kept_by}
+use Rattle.mk_objects.proofs.Serves.{KnowsPlace}
+use Rattle.mk_objects.proofs.Serving.{serving_left}
+
+pub look_is_no_mark : (x : Step) → is_look x ≡ true → is_mark x ≡ false
+look_is_no_mark (step.Look w) h = refl
+look_is_no_mark _ h = cc
+
+pub looks_sweep : (p q : PassState) → OnlyLooks p q → SweepsNothing p q
+looks_sweep p q looks = does_sweep is_look p q look_is_no_mark looks.does
+
+pub looks_then_sweep : (p q r : PassState) → OnlyLooks p q → SweepsNothing q r → SweepsNothing p r
+looks_then_sweep p q r looks rest = sweeps_then p q r looks.same (looks_sweep p q looks) rest
+
+-- the mark of the place's first page
+pub first_mark_sweeps : (p : PassState) (place : Place) (k : KnowsPlace p place) (q : PassState)
+    → header_at (now_of p).words place.page ≡ 0
+    → phase_of (now_of p).words ≡ 1 → Acts p (step.Mark place.page (bits_made (object_for p))) q → Has p.seats p.seat
+    → SweepsNothing p q
+first_mark_sweeps p place k q free one a own =
+    let v : World = world_at a.makes in
+    let kept = kept_by p q (step.Mark place.page (bits_made (object_for p))) a in
+    let serving = serving_left p.table.config p.seat (object_for p) place (world_of p) (world_of p) v k.serving kept in
+    let marks = serving_marks p.table.config p.seat (object_for p) place (world_of p) v serving
+    (ap (λ (x : Steady). x.phase) kept.steady ∙ one)
+    (ap (λ (x : Steady). (slice_index_or x.pages place.page free_page).header) kept.steady ∙ free) in
+    step_sweeps p q (step.Mark place.page (bits_made (object_for p))) a.makes own (and_right _ _ (ap not marks))
+
+-- a header more
+pub head_sweeps : (p q r : PassState) (place : Place) (n page value : ℕ) → HasCarved p place n q → SweepsNothing p q
+    → Acts q (step.Head page value) r → Has q.seats q.seat → SweepsNothing p r
+head_sweeps p q r place n page value reached before a own =
+    sweeps_then p q r reached.same before (other_step_sweeps q r (step.Head page value) a.makes own refl)
+
+-- the cell taken, the object granted, and the tally of held words set
+pub serving_sweeps : (p q r s t : PassState) (place : Place) (x y z : Step) → MayTake p place q → SweepsNothing p q
+    → Acts q x r → Acts r y s → Acts s z t → Has q.seats q.seat → Has r.seats r.seat → Has s.seats s.seat
+    → is_mark x ≡ false → is_mark y ≡ false → is_mark z ≡ false → SweepsNothing p t
+serving_sweeps p q r s t place x y z ready before a b d own_q own_r own_s first second third =
+    sweeps_then p q t ready.same before
+    (step_then_sweeps q r t x a.makes own_q first
+    (step_then_sweeps r s t y b.makes own_r second (other_step_sweeps s t z d.makes own_s third)))

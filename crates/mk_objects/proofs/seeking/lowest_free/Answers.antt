@@ -1,0 +1,15 @@
+use Rattle.std.proofs.Common.{nat_lt, w64, ap, sym, ◌∙◌}
+use Rattle.std.specs.Bool.{then_some}
+use Rattle.std.specs.Int.{trailing_ones}
+use Rattle.std.proofs.Math.Nat.{div-le_self}
+use Rattle.mk_books.proofs.UsedBitLemmas.{first_where-bits_of}
+use Rattle.mk_geom.specs.Classes.{cells_of, class_words_of}
+use Rattle.mk_objects.proofs.seeking.lowest_free.Goals as goal
+
+pub returns : goal.returns
+returns c =
+    c.then_some.ensures
+    ∙ ap (λ place. then_some (nat_lt place c.cells.result) place) (c.from-index.ensures ∙ c.trailing_ones.ensures)
+    ∙ ap (λ n. then_some (nat_lt (trailing_ones w64 c.args.used) n) (trailing_ones w64 c.args.used)) c.cells.ensures
+    ∙ sym (first_where-bits_of (cells_of c.args.class) c.args.used (div-le_self 64 (class_words_of c.args.class))
+    c.ranges.used.fits)

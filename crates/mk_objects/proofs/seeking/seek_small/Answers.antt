@@ -1,0 +1,102 @@
+use Rattle.std.proofs.Common.{◌≡◌, ◌+◌, ◌<◌, ◌≤◌, true, false, not, List, length, sym, ap, ◌∙◌, arith}
+use Rattle.std.specs.Prelude.{None, slice_index_or}
+use Rattle.std.specs.Option.{option_or}
+use Rattle.mk_geom.specs.declared.pages.Page.{Page}
+use Rattle.mk_geom.specs.PageUses.{cells_taken, first_where, small_place}
+use Rattle.mk_geom.specs.PageWords.{use_of_page, uses_of_pages}
+use Rattle.mk_geom.specs.Storages.{free_page}
+use Rattle.mk_core.proofs.Lengths.{histories_keep_lengths}
+use Rattle.mk_words.specs.States.{PassState, WordsState, now_of}
+use Rattle.mk_books.proofs.PlaceLemmas.{cell_from-next, resident_from-next, free_page_from, free_page_from-next, free_page_from-here, or_known}
+use Rattle.mk_objects.proofs.JoinedLooks.{looks_joined, looks_pages}
+use Rattle.mk_objects.proofs.SoughtPlaces.{free_told, place_of_free, resident_told, sought_none, taken_told}
+use Rattle.mk_objects.proofs.seeking.seek_small.Goals as goal
+use Rattle.mk_objects.proofs.seeking.seek_small.Goals.{then-is_resident, else-is_resident, then-header-eq0, else-header-eq0}
+
+pub loop-number-init : goal.loop-number-init
+loop-number-init c = sought_none c.args.turn.now c.args.class c.args.leaf
+
+pub loop-number-preserved : goal.loop-number-preserved
+loop-number-preserved c =
+    let p : PassState = c.args.turn.now.pass in
+    let pages : List Page = (now_of p).words.pages in
+    let n = c.loop-number.number in
+    let i = c.loop-number.invariant in
+    let a = looks_joined p c.loop-number.turn.pass c.look_at-header.new.turn.pass i.looks c.look_at-header.ensures.looks in
+    let b = looks_joined p c.look_at-header.new.turn.pass c.free_cell-found.new.turn.pass a c.free_cell-found.ensures.looks in
+    let within : n < length pages = omega (
+      arith,
+      (histories_keep_lengths p.table.config p.seen).pages,
+      c.loop-number-test.true,
+      c.pages-pages.ensures,
+      ap (λ (w : WordsState). w.config.pages) c.requires.one_table,
+    ) in
+    let head : c.look_at-header.result ≡ (slice_index_or pages n free_page).header =
+    c.look_at-header.ensures.finds ∙ ap (λ (ps : List Page). (slice_index_or ps n free_page).header) (looks_pages p c.loop-number.turn.pass i.looks) in
+    let none : first_where not (cells_taken c.args.class c.args.leaf (use_of_page (slice_index_or pages n free_page))) ≡ None =
+    ap (λ (ps : List Page). first_where not (cells_taken c.args.class c.args.leaf (use_of_page (slice_index_or ps n free_page))))
+    (sym (looks_pages p c.look_at-header.new.turn.pass a)) ∙ sym c.in_default.ensures.cell in
+    record {
+      op = c.free_cell-found.ensures.op ∙ c.look_at-header.ensures.op ∙ i.op;
+      looks = b;
+      few = elim c.if-is_resident.branch [
+        | then-is_resident w ↦ omega (arith, w.resident-is, i.few)
+        | else-is_resident w ↦ omega (arith, w.resident-is, i.few)
+      ];
+      cells = sym (cell_from-next n c.args.class c.args.leaf pages free_page within none) ∙ i.cells;
+      counted = elim c.if-is_resident.branch [
+        | then-is_resident w ↦
+            omega (
+              arith,
+              w.resident-is,
+              i.counted,
+              resident_from-next n pages free_page true within
+                  (resident_told pages n c.look_at-header.result c.is_resident.result head c.is_resident.ensures ∙ w.if-is_resident.true),
+            )
+        | else-is_resident w ↦
+            omega (
+              arith,
+              w.resident-is,
+              i.counted,
+              resident_from-next n pages free_page false within
+                  (resident_told pages n c.look_at-header.result c.is_resident.result head c.is_resident.ensures ∙ w.if-is_resident.false),
+            )
+      ];
+      free_pages = elim c.if-header-eq0.branch [
+        | then-header-eq0 w ↦
+            rw (w.first_free-is, w.or-first_free.ensures)
+            (sym (or_known c.loop-number.first_free n (free_page_from (n + 1) pages))
+            ∙ ap (option_or c.loop-number.first_free) (sym (free_page_from-here n pages free_page within
+            (free_told pages n c.look_at-header.result head w.if-header-eq0.true)))
+            ∙ i.free_pages)
+        | else-header-eq0 w ↦
+            rw w.first_free-is
+            (ap (option_or c.loop-number.first_free) (sym (free_page_from-next n pages free_page within
+            (taken_told pages n c.look_at-header.result head w.if-header-eq0.false)))
+            ∙ i.free_pages)
+      ];
+    }
+
+pub returns-in-Some-clause-looks : goal.returns-in-Some-clause-looks
+returns-in-Some-clause-looks c =
+    let p : PassState = c.args.turn.now.pass in
+    looks_joined p c.look_at-header.new.turn.pass c.free_cell-found.new.turn.pass
+    (looks_joined p c.loop-number.turn.pass c.look_at-header.new.turn.pass c.loop-number.invariant.looks c.look_at-header.ensures.looks)
+    c.free_cell-found.ensures.looks
+
+pub returns-clause-place : goal.returns-clause-place
+returns-clause-place c =
+    let p : PassState = c.args.turn.now.pass in
+    let pages : List Page = (now_of p).words.pages in
+    let i = c.loop-number.invariant in
+    let past : length pages ≤ c.loop-number.number = omega (
+      arith,
+      (histories_keep_lengths p.table.config p.seen).pages,
+      c.loop-number-test.false,
+      c.pages-pages.ensures,
+      ap (λ (w : WordsState). w.config.pages) c.requires.one_table,
+    ) in
+    c.free_place.ensures
+    ∙ place_of_free c.resident.result c.args.class c.loop-number.resident c.loop-number.number c.args.leaf c.loop-number.first_free pages
+    past i.cells i.counted i.free_pages
+    ∙ ap (λ n. small_place n c.args.class c.args.leaf (uses_of_pages pages)) c.resident.ensures

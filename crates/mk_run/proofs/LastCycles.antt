@@ -1,0 +1,465 @@
+-- The host's last cycle, by the events of the whole list: where its turn and its cycle stand, and that no other `close`
+-- stands behind.
+use Rattle.std.proofs.Common.{◌≡◌, ℕ, ◌<◌, ◌≤◌, Bool, true, false, List, [], ◌∷◌, ◌++◌, refl, sym, ◌∙◌, ap, subst, inl, inr, arith, append-nil, append_assoc}
+use Rattle.std.specs.Prelude.{Option, None}
+use Rattle.std.proofs.lemmas.Bool.{or_from, or_parts}
+use Rattle.std.proofs.lemmas.List.{append_cancel_left}
+use Rattle.mk_core.specs.declared.config.Config.{Config}
+use Rattle.mk_core.specs.declared.events.Event.{Event}
+use Rattle.mk_core.specs.declared.events.Seat.{Seat}
+use Rattle.mk_core.specs.declared.events.Seat.TheVariants.{Caller, Host}
+use Rattle.mk_core.specs.declared.events.Step.{Step}
+use Rattle.mk_core.specs.declared.events.Step.TheVariants as step
+use Rattle.mk_core.specs.declared.events.Word.TheVariants as word
+use Rattle.mk_core.specs.Cycles.{Cycle, TurnOf, before_close, is_begin, is_close}
+use Rattle.mk_core.specs.Growing.{AreOfOthers, is_same_seat}
+use Rattle.mk_core.specs.History.{AreEnabledFrom, IsHistory, World, left, world_behind}
+use Rattle.mk_core.specs.Words.{phase_of}
+use Rattle.mk_core.proofs.HistoryParts.{earlier_part_is_history, enabled_in_parts}
+use Rattle.mk_readings.proofs.CyclePhases.{AsksPhase, close_is, moves_phase, phase_behind}
+use Rattle.mk_words.specs.Seats.{Has, HasCallers}
+use Rattle.mk_words.specs.States.{PassState, event_of}
+use Rattle.mk_words.specs.Steps.{Makes}
+use Rattle.mk_words.specs.TurnSteps.{turn_stays}
+use Rattle.mk_words.proofs.Seats.{others_append, others_none}
+use Rattle.mk_words.proofs.TurnSteps.{takes}
+use Rattle.mk_turns.specs.Doing.{Does}
+use Rattle.mk_turns.proofs.Doing.{does_then}
+use Rattle.mk_waiting.specs.Taking.{TakesTurn}
+use Rattle.mk_cycle.specs.TurnKeeps.{InTurn}
+use Rattle.mk_cycle.proofs.Allowed.{in_turn}
+use Rattle.mk_heap.specs.Ending.{EndsCycle, MakesToldCycle}
+use Rattle.mk_heap.proofs.MovedHosts.{MovesOn, moves_does, moves_more, turn_moves}
+use Rattle.mk_objects.proofs.JoinedLooks.{does_wider}
+use Rattle.mk_alloc.specs.TurnCycles.{finishes, has_step, within_turn}
+use Rattle.mk_alloc.proofs.CalmStretches.{cycles_in_turn, is_of_cycles}
+use Rattle.mk_alloc.proofs.CycleParts.{BeginIn, EndsIn, FinishIn, begin_does, begin_in, begins_held, finish_does, finish_in}
+use Rattle.mk_alloc.proofs.ListParts.{IsAt, Lacks, SomeKind, lacks_append, lacks_first, lacks_second, only_at}
+use Rattle.mk_alloc.proofs.OwnGives.{GivesNone, doing_gives, gives_append, others_give}
+use Rattle.mk_alloc.proofs.Parts.{has_then, history_before, in_turn_then, made_as, others_lack, seen_behind, seen_made}
+use Rattle.mk_run.specs.LastCycle.{MakesLastCycle, give_of}
+
+-- Outside of phases 1 and 2 no cycle is closed before another is begun.
+
+abbrev pub IsBeside : ℕ → Type 0
+IsBeside n = 1 ≤ n → n ≤ 2 → ⊥
+
+beside_step : (x : Step) (n : ℕ) → AsksPhase x n → IsBeside n → is_begin x ≡ false
+    → IsBeside (phase_behind x n) × (is_close x ≡ false)
+beside_step step.Begin n asks out none = cc
+beside_step step.Want n asks out none = absurd (out (omega arith) (omega arith))
+beside_step step.Close n asks out none = absurd (out (omega arith) (omega arith))
+beside_step step.Release n asks out none = (λ least most. omega arith, refl)
+beside_step step.End n asks out none = (λ least most. omega arith, refl)
+beside_step step.Over n asks out none = (λ least most. omega arith, refl)
+beside_step _ n asks out none = (out, refl)
+
+closes_none : (c : Config) (w : World) (es : List Event) → AreEnabledFrom c w es → IsBeside (phase_of w.now.words)
+    → Lacks is_begin es → Lacks is_close es
+closes_none c w [] on out none = refl
+closes_none c w (e ∷ es) on out none =
+    let parts = or_parts (is_begin e.step) (has_step is_begin es) none in
+    let moves = moves_phase c w e es on in
+    let one = beside_step e.step (phase_of w.now.words) moves.0 out parts.0 in
+    or_from (is_close e.step) (has_step is_close es) one.1
+    (closes_none c (world_behind c w e) es moves.2 (subst IsBeside (sym moves.1) one.0) parts.1)
+
+-- Directly behind a `close` it is so.
+closes_no_more : (c : Config) (es : List Event) (close : Event) (more : List Event)
+    → IsHistory c (es ++ close ∷ more) → is_close close.step ≡ true → Lacks is_begin more → Lacks is_close more
+closes_no_more c es close more history closes none =
+    let on = ((enabled_in_parts c es (close ∷ more)).0 history.enabled).1 in
+    let moves = moves_phase c (left c es) close more on in
+    let three : phase_of (world_behind c (left c es) close).now.words ≡ 3 =
+    moves.1 ∙ ap (λ (x : Step). phase_behind x (phase_of (left c es).now.words)) (close_is close.step closes) in
+    closes_none c (world_behind c (left c es) close) more moves.2
+    (λ least most. omega arith) none
+
+-- What finishes no cycle closes none.
+unfinished_unclosed : (es : List Event) → Lacks finishes es → Lacks is_close es
+unfinished_unclosed [] h = refl
+unfinished_unclosed (e ∷ es) h =
+    let parts = or_parts (finishes e.step) (has_step finishes es) h in
+    or_from (is_close e.step) (has_step is_close es) (by e.step parts.0) (unfinished_unclosed es parts.1)
+  where
+    by : (x : Step) → finishes x ≡ false → is_close x ≡ false
+    by step.Close h = cc
+    by _ h = refl
+
+-- what is behind the first event
+behind_first : (kind : SomeKind) (e : Event) (es : List Event) → Lacks kind (e ∷ es) → Lacks kind es
+behind_first kind e es h = (or_parts (kind e.step) (has_step kind es) h).1
+
+-- before a step
+pub before_made : (p q : PassState) (s : Step) → Makes p s q → IsHistory q.table.config q.seen
+    → IsHistory p.table.config p.seen
+before_made p q s m history =
+    let c : Config = p.table.config in
+    earlier_part_is_history c p.seen m.others
+    (earlier_part_is_history c (p.seen ++ m.others) (event_of p s ∷ [])
+    (subst (λ (r : PassState). IsHistory r.table.config r.seen) m.is history))
+
+-- The host's turn, up to where no cycle is on.
+
+pub turn_taken : (p taken : PassState) → Has p.seats p.seat → TakesTurn p None taken
+    → IsHistory taken.table.config taken.seen → InTurn taken
+turn_taken p taken own t history =
+    let waited_own : Has t.waited.seats t.waited.seat =
+    subst (λ (r : PassState). Has r.seats r.seat) (sym t.waits.is) own in
+    let taken_own : Has taken.seats taken.seat =
+    subst (λ (r : PassState). Has r.seats r.seat) (sym (turn_moves p taken t).is) own in
+    in_turn taken None taken_own
+    (takes t.waited None 0 taken (record { makes = t.takes.makes; tells = t.takes.finds }) waited_own history refl)
+    history
+
+stays : (x : Step) → turn_stays x ≡ true → turn_stays x ≡ true
+stays x h = h
+
+finish_stays : (p q : PassState) → Does is_of_cycles p q → Does turn_stays p q
+finish_stays p q d = does_wider is_of_cycles turn_stays cycles_in_turn p q d
+
+pub ends_does : (taken idle : PassState) → Has taken.seats taken.seat → EndsCycle taken idle → Does turn_stays taken idle
+ends_does taken idle own ends =
+    let look : Does turn_stays taken ends.looked =
+    made_as turn_stays taken ends.looked (step.Look word.Phase) own ends.looks refl in
+    elim ends.phase [
+      | inl none ↦ subst (λ (r : PassState). Does turn_stays taken r) (sym (ends.none none)) look
+      | inr on ↦ does_then turn_stays taken ends.looked idle look
+          (finish_stays ends.looked idle
+          (finish_does ends.looked idle (has_then turn_stays taken ends.looked look own) (ends.on on)))
+    ]
+
+module _ (tells : Config → World → Type 0) (p q : PassState) (m : MakesToldCycle tells p q) (own : Has p.seats p.seat)
+    (history : IsHistory q.table.config q.seen) where
+  abbrev taken : PassState
+  taken = m.makes.taken
+
+  abbrev idle : PassState
+  idle = m.makes.idle
+
+  abbrev begun : PassState
+  begun = m.makes.begun
+
+  abbrev ended : PassState
+  ended = m.makes.ended
+
+  taken_moves : MovesOn p taken
+  taken_moves = turn_moves p taken m.makes.takes
+
+  own_taken : Has taken.seats taken.seat
+  own_taken = subst (λ (r : PassState). Has r.seats r.seat) (sym taken_moves.is) own
+
+  d_idle : Does turn_stays taken idle
+  d_idle = ends_does taken idle own_taken m.makes.ends
+
+  own_idle : Has idle.seats idle.seat
+  own_idle = has_then turn_stays taken idle d_idle own_taken
+
+  d_begun : Does turn_stays idle begun
+  d_begun = finish_stays idle begun (begin_does idle begun own_idle m.makes.begins)
+
+  own_begun : Has begun.seats begun.seat
+  own_begun = has_then turn_stays idle begun d_begun own_idle
+
+  d_ended : Does turn_stays begun ended
+  d_ended = finish_stays begun ended (finish_does begun ended own_begun m.makes.finishes)
+
+  own_ended : Has ended.seats ended.seat
+  own_ended = has_then turn_stays begun ended d_ended own_begun
+
+  d_turn : Does turn_stays taken ended
+  d_turn = does_then turn_stays taken idle ended d_idle (does_then turn_stays idle begun ended d_begun d_ended)
+
+  h_ended : IsHistory ended.table.config ended.seen
+  h_ended = before_made ended q step.Give m.makes.gives history
+
+  h_begun : IsHistory begun.table.config begun.seen
+  h_begun = history_before turn_stays begun ended d_ended h_ended
+
+  h_idle : IsHistory idle.table.config idle.seen
+  h_idle = history_before turn_stays idle begun d_begun h_begun
+
+  h_taken : IsHistory taken.table.config taken.seen
+  h_taken = history_before turn_stays taken idle d_idle h_idle
+
+  t_taken : InTurn taken
+  t_taken = turn_taken p taken own m.makes.takes h_taken
+
+  t_idle : InTurn idle
+  t_idle = in_turn_then turn_stays taken idle stays t_taken d_idle h_idle
+
+  t_begun : InTurn begun
+  t_begun = in_turn_then turn_stays idle begun stays t_idle d_begun h_begun
+
+  t_ended : InTurn ended
+  t_ended = in_turn_then turn_stays begun ended stays t_begun d_ended h_ended
+
+  begins : BeginIn idle begun
+  begins = begin_in idle begun own_idle m.makes.begins t_idle h_begun
+
+  ends : FinishIn begun ended
+  ends = finish_in begun ended own_begun m.makes.finishes t_begun h_ended
+
+  -- the turn's events up to its `give`, and what the cycle's `close` is followed by in them
+
+  abbrev to_end : List Event
+  to_end = d_idle.more ++ ((begins.before ++ begins.begin ∷ begins.behind) ++ ends.more)
+
+  abbrev given : List Event
+  given = m.makes.gives.others
+
+  abbrev inside : List Event
+  inside = to_end ++ given
+
+  abbrev behind_close : List Event
+  behind_close =
+      ends.ends.to_release ++ ends.ends.release ∷ (ends.ends.to_end ++ ends.ends.end ∷ (ends.ends.behind ++ given))
+
+  ended_is : ended.seen ≡ taken.seen ++ to_end
+  ended_is =
+      ends.is ∙ ap (λ (l : List Event). l ++ ends.more) begins.is
+      ∙ ap (λ (l : List Event). (l ++ (begins.before ++ begins.begin ∷ begins.behind)) ++ ends.more)
+      (seen_behind turn_stays taken idle d_idle)
+      ∙ append_assoc (taken.seen ++ d_idle.more) (begins.before ++ begins.begin ∷ begins.behind) ends.more
+      ∙ append_assoc taken.seen d_idle.more ((begins.before ++ begins.begin ∷ begins.behind) ++ ends.more)
+
+  turn_is : d_turn.more ≡ to_end
+  turn_is =
+      append_cancel_left taken.seen d_turn.more to_end (sym (seen_behind turn_stays taken ended d_turn) ∙ ended_is)
+
+  -- the turn
+
+  abbrev before_take : List Event
+  before_take = m.makes.takes.waited.seen ++ m.makes.takes.takes.makes.others
+
+  abbrev take_event : Event
+  take_event = record { seat = p.seat; step = step.Take None }
+
+  waited_seat : m.makes.takes.waited.seat ≡ p.seat
+  waited_seat = ap (λ (r : PassState). r.seat) m.makes.takes.waits.is
+
+  taken_is : taken.seen ≡ before_take ++ take_event ∷ []
+  taken_is =
+      ap (λ (r : PassState). r.seen) m.makes.takes.takes.makes.is
+      ∙ ap (λ (s : Seat). before_take ++ record { seat = s; step = step.Take None } ∷ []) waited_seat
+
+  goes_on : GivesNone p.seat inside
+  goes_on =
+      gives_append p.seat to_end given
+      (subst (λ (s : Seat). GivesNone s to_end) (ap (λ (r : PassState). r.seat) taken_moves.is)
+      (subst (λ (l : List Event). GivesNone taken.seat l) turn_is (doing_gives taken ended d_turn)))
+      (subst (λ (s : Seat). GivesNone s given) ended_seat (others_give ended.seat ended.seats given own_ended
+      m.makes.gives.of_others))
+    where
+      ended_seat : ended.seat ≡ p.seat
+      ended_seat = ap (λ (r : PassState). r.seat) d_turn.is ∙ ap (λ (r : PassState). r.seat) taken_moves.is
+
+  abbrev the_turn : TurnOf p.table.config p.seat (ended.seen ++ given)
+  the_turn = record {
+    before = before_take;
+    op = None;
+    behind = inside;
+    is =
+        ap (λ (l : List Event). l ++ given) ended_is ∙ ap (λ (l : List Event). (l ++ to_end) ++ given) taken_is
+        ∙ append_assoc (before_take ++ take_event ∷ []) to_end given
+        ∙ append_assoc before_take (take_event ∷ []) inside;
+    took =
+        sym (ap (λ (r : PassState). (left r.table.config before_take).now.words.turn) m.makes.takes.waits.is)
+        ∙ sym m.makes.takes.takes.finds;
+    goes_on = goes_on;
+  }
+
+  -- the cycle
+
+  abbrev the_cycle : Cycle inside
+  the_cycle = record {
+    releasing = record {
+      marking = record {
+        begin = record {
+          before = d_idle.more ++ begins.before;
+          event = begins.begin;
+          behind = (begins.behind ++ ends.ends.to_close) ++ ends.ends.close ∷ behind_close;
+          is =
+              ap (λ (l : List Event).
+              (d_idle.more ++ ((begins.before ++ begins.begin ∷ begins.behind) ++ l)) ++ given) ends.ends.is
+              ∙ simp append_assoc;
+          of_kind = begins.begins;
+        };
+        close = record {
+          at = record {
+            before = begins.behind ++ ends.ends.to_close;
+            event = ends.ends.close;
+            behind = behind_close;
+            is = refl;
+            of_kind = ends.ends.closes;
+          };
+          none_before =
+              lacks_append is_close begins.behind ends.ends.to_close
+              (unfinished_unclosed begins.behind begins.finishes_none) ends.ends.none_closed;
+        };
+      };
+      release = record {
+        at = record {
+          before = ends.ends.to_release;
+          event = ends.ends.release;
+          behind = ends.ends.to_end ++ ends.ends.end ∷ (ends.ends.behind ++ given);
+          is = refl;
+          of_kind = ends.ends.releases;
+        };
+        none_before = ends.ends.none_released;
+      };
+    };
+    end = record {
+      at = record {
+        before = ends.ends.to_end;
+        event = ends.ends.end;
+        behind = ends.ends.behind ++ given;
+        is = refl;
+        of_kind = ends.ends.ends;
+      };
+      none_before = ends.ends.none_ended;
+    };
+  }
+
+  -- No cycle is begun in the turn behind this one's `close`.
+
+  abbrev finished : List Event
+  finished = ends.ends.to_release ++ ends.ends.release ∷ (ends.ends.to_end ++ ends.ends.end ∷ ends.ends.behind)
+
+  finished_begins_none : Lacks is_begin finished
+  finished_begins_none =
+      behind_first is_begin ends.ends.close finished
+      (lacks_second is_begin ends.ends.to_close (ends.ends.close ∷ finished)
+      (subst (λ (l : List Event). Lacks is_begin l) ends.ends.is ends.begins_none))
+
+  given_begins_none : Lacks is_begin given
+  given_begins_none = others_lack is_begin ended q step.Give begins_held t_ended m.makes.gives history
+
+  behind_is : finished ++ given ≡ behind_close
+  behind_is = simp append_assoc
+
+  behind_begins_none : Lacks is_begin behind_close
+  behind_begins_none =
+      subst (λ (l : List Event). Lacks is_begin l) behind_is
+      (lacks_append is_begin finished given finished_begins_none given_begins_none)
+
+  -- The world before the `close` is that of which the engine tells.
+
+  ended_config : begun.table.config ≡ p.table.config
+  ended_config =
+      ap (λ (r : PassState). r.table.config) d_begun.is ∙ ap (λ (r : PassState). r.table.config) d_idle.is
+      ∙ ap (λ (r : PassState). r.table.config) taken_moves.is
+
+  finished_closes_none : Lacks is_close finished
+  finished_closes_none =
+      closes_no_more ended.table.config (begun.seen ++ ends.ends.to_close) ends.ends.close finished
+      (subst (λ (l : List Event). IsHistory ended.table.config l)
+      (ends.is ∙ ap (λ (l : List Event). begun.seen ++ l) ends.ends.is
+      ∙ sym (append_assoc begun.seen ends.ends.to_close (ends.ends.close ∷ finished)))
+      h_ended) ends.ends.closes finished_begins_none
+
+  told_there : IsAt ends.ends.to_close finished m.at_close.before m.at_close.behind
+  told_there =
+      only_at is_close ends.ends.to_close ends.ends.close finished ends.ends.none_closed finished_closes_none
+      (record {
+        before = m.at_close.before;
+        event = event_of begun step.Close;
+        behind = m.at_close.behind;
+        is =
+            sym ends.ends.is
+            ∙ append_cancel_left begun.seen ends.more (m.at_close.before ++ event_of begun step.Close ∷ m.at_close.behind)
+            (sym ends.is ∙ m.at_close.is
+            ∙ append_assoc begun.seen m.at_close.before (event_of begun step.Close ∷ m.at_close.behind));
+        of_kind = refl;
+      })
+
+  abbrev through_begin : List Event
+  through_begin = (d_idle.more ++ begins.before) ++ begins.begin ∷ []
+
+  close_is_there : begun.seen ++ m.at_close.before
+      ≡ before_take ++ take_event ∷ (through_begin ++ (begins.behind ++ ends.ends.to_close))
+  close_is_there =
+      ap (λ (l : List Event). begun.seen ++ l) told_there.before_is
+      ∙ ap (λ (l : List Event). l ++ ends.ends.to_close)
+      (begins.is ∙ ap (λ (l : List Event). l ++ (begins.before ++ begins.begin ∷ begins.behind))
+      (seen_behind turn_stays taken idle d_idle ∙ ap (λ (l : List Event). l ++ d_idle.more) taken_is))
+      ∙ simp append_assoc
+
+  told_then : tells p.table.config (left p.table.config (within_turn the_turn (before_close the_cycle.releasing.marking)))
+  told_then =
+      subst (λ (l : List Event). tells p.table.config (left p.table.config l)) close_is_there
+      (subst (λ (c : Config). tells c (left c (begun.seen ++ m.at_close.before))) ended_config m.at_close.told)
+
+  -- No caller whose seat is home steps in the turn.
+
+  ended_moves : MovesOn taken q
+  ended_moves =
+      moves_more taken ended q step.Give
+      (moves_does turn_stays taken taken ended
+      (record {
+        more = [];
+        is = ap (λ (l : List Event). record taken { seen = l }) (sym (append-nil taken.seen));
+        leaves = λ s has other. others_none (s ∷ []);
+      }) d_turn) m.makes.gives
+
+  give_is : event_of ended step.Give ≡ give_of p.seat
+  give_is = ap (λ (s : Seat). record { seat = s; step = step.Give })
+      (ap (λ (r : PassState). r.seat) d_turn.is ∙ ap (λ (r : PassState). r.seat) taken_moves.is)
+
+  q_is : q.seen ≡ (ended.seen ++ given) ++ give_of p.seat ∷ []
+  q_is =
+      ap (λ (r : PassState). r.seen) m.makes.gives.is ∙ ap (λ (e : Event). (ended.seen ++ given) ++ e ∷ []) give_is
+
+  turn_moves_is : ended_moves.more ≡ inside ++ give_of p.seat ∷ []
+  turn_moves_is =
+      append_cancel_left taken.seen ended_moves.more (inside ++ give_of p.seat ∷ [])
+      (sym (ap (λ (r : PassState). r.seen) ended_moves.is) ∙ q_is
+      ∙ ap (λ (l : List Event). (l ++ given) ++ give_of p.seat ∷ []) ended_is ∙ simp append_assoc)
+
+  -- So it is in a longer list, in which nobody begins a cycle and no caller steps behind the turn.
+  module _ (host : p.seat ≡ Host) (home : HasCallers p.table.config p.seats) (tail : List Event)
+      (whole : IsHistory p.table.config (q.seen ++ tail)) (begins_no_more : Lacks is_begin tail)
+      (still : (k : ℕ) → k < p.table.config.callers → AreOfOthers (Caller k ∷ []) tail) where
+    callers_still : (k : ℕ) → k < p.table.config.callers → AreOfOthers (Caller k ∷ []) (inside ++ give_of p.seat ∷ tail)
+    callers_still k lt =
+        subst (λ (l : List Event). AreOfOthers (Caller k ∷ []) l) (append_assoc inside (give_of p.seat ∷ []) tail)
+        (others_append (Caller k ∷ []) (inside ++ give_of p.seat ∷ []) tail
+        (subst (λ (l : List Event). AreOfOthers (Caller k ∷ []) l) turn_moves_is
+        (ended_moves.leaves (Caller k)
+        (subst (λ (r : PassState). Has r.seats (Caller k)) (sym taken_moves.is) (home k lt))
+        (ap (λ (s : Seat). is_same_seat (Caller k) s) (ap (λ (r : PassState). r.seat) taken_moves.is ∙ host))))
+        (still k lt))
+
+    list_is : q.seen ++ tail ≡ (ended.seen ++ given) ++ give_of p.seat ∷ tail
+    list_is =
+        ap (λ (l : List Event). l ++ tail) q_is ∙ append_assoc (ended.seen ++ given) (give_of p.seat ∷ []) tail
+
+    abbrev behind_all : List Event
+    behind_all = behind_close ++ give_of p.seat ∷ tail
+
+    close_is_before : q.seen ++ tail ≡ (begun.seen ++ ends.ends.to_close) ++ ends.ends.close ∷ behind_all
+    close_is_before =
+        list_is
+        ∙ ap (λ (l : List Event). (l ++ given) ++ give_of p.seat ∷ tail)
+        (ends.is ∙ ap (λ (l : List Event). begun.seen ++ l) ends.ends.is)
+        ∙ simp append_assoc
+
+    closes_no_other : Lacks is_close behind_all
+    closes_no_other =
+        closes_no_more p.table.config (begun.seen ++ ends.ends.to_close) ends.ends.close behind_all
+        (subst (λ (l : List Event). IsHistory p.table.config l) close_is_before whole) ends.ends.closes
+        (lacks_append is_begin behind_close (give_of p.seat ∷ tail) behind_begins_none begins_no_more)
+
+    pub last_cycle : MakesLastCycle p.seat tells p.table.config (q.seen ++ tail)
+    last_cycle = record {
+      before = ended.seen ++ given;
+      behind = tail;
+      is = list_is;
+      turn = the_turn;
+      callers = callers_still;
+      cycle = the_cycle;
+      last =
+          lacks_append is_close behind_close tail (lacks_first is_close behind_close (give_of p.seat ∷ tail) closes_no_other)
+          (lacks_second is_close behind_close (give_of p.seat ∷ tail) closes_no_other);
+      told = told_then;
+    }

@@ -1,0 +1,204 @@
+-- Behind the host's last cycle: it says that all is over, and markers are joined. No cycle is begun there.
+use Rattle.std.proofs.Common.{◌≡◌, ℕ, ◌<◌, Bool, true, false, List, [], ◌∷◌, ◌++◌, refl, sym, ◌∙◌, ap, subst, inl, inr, append_assoc}
+use Rattle.std.specs.Prelude.{None}
+use Rattle.std.specs.List.{list_any}
+use Rattle.std.proofs.lemmas.Bool.{or_from, or_parts}
+use Rattle.std.proofs.lemmas.List.{append_cancel_left}
+use Rattle.mk_core.specs.declared.config.Config.{Config}
+use Rattle.mk_core.specs.declared.events.Event.{Event}
+use Rattle.mk_core.specs.declared.events.Seat.{Seat}
+use Rattle.mk_core.specs.declared.events.Seat.TheVariants.{Caller, Host}
+use Rattle.mk_core.specs.declared.events.Step.{Step}
+use Rattle.mk_core.specs.declared.events.Step.TheVariants as step
+use Rattle.mk_core.specs.declared.events.Word.TheVariants as word
+use Rattle.mk_core.specs.Cycles.{before_close, is_begin}
+use Rattle.mk_core.specs.Growing.{AreOfOthers}
+use Rattle.mk_core.specs.History.{IsHistory, World, left}
+use Rattle.mk_core.proofs.HistoryParts.{earlier_part_is_history, enabled_in_parts}
+use Rattle.mk_protocol.proofs.Actors.{is_holders}
+use Rattle.mk_words.specs.Seats.{Has, HasCallers}
+use Rattle.mk_words.specs.States.{PassState, WordsState, event_of}
+use Rattle.mk_words.specs.Steps.{Makes}
+use Rattle.mk_words.specs.TurnSteps.{turn_stays}
+use Rattle.mk_words.proofs.Seats.{others_append, others_own}
+use Rattle.mk_turns.specs.Doing.{Does}
+use Rattle.mk_waiting.specs.Taking.{Waits}
+use Rattle.mk_waiting.proofs.Waiting.{waits_more}
+use Rattle.mk_cycle.specs.TurnKeeps.{InTurn}
+use Rattle.mk_heap.specs.Ending.{EndsCycle, SaysOver}
+use Rattle.mk_heap.specs.Reports as report
+use Rattle.mk_heap.specs.Reports.{IsWhole}
+use Rattle.mk_heap.specs.declared.reports.Report.{Report}
+use Rattle.mk_heap.proofs.HomeCallers.{HoldersStepNone, others_hold_none, waiting_holds_none}
+use Rattle.mk_heap.proofs.MovedHosts.{turn_moves}
+use Rattle.mk_alloc.specs.TurnCycles.{has_step, within_turn}
+use Rattle.mk_alloc.proofs.CalmStretches.{is_of_cycles}
+use Rattle.mk_alloc.proofs.CycleParts.{begins_held, finish_does, finish_in}
+use Rattle.mk_alloc.proofs.ListParts.{Lacks, lacks_append, lacks_one}
+use Rattle.mk_alloc.proofs.Parts.{has_then, history_before, in_turn_then, made_as, others_lack, seen_made, seen_then}
+use Rattle.mk_run.specs.LastCycle.{EndsWithCycle, MakesLastCycle}
+use Rattle.mk_run.specs.LastTurns.{TakesLastTurns}
+use Rattle.mk_run.proofs.LastCycles.{before_made, ends_does, last_cycle, turn_taken}
+use Rattle.mk_run.proofs.LastTurns.{cycle_moves, over_moves, still_behind_over}
+
+-- From what the one pass had seen to what the other has seen no cycle is begun.
+record Unbegun (p q : PassState) : Type 0 where
+  pub more : List Event
+  pub is : q.seen ≡ p.seen ++ more
+  pub none : Lacks is_begin more
+
+unbegun_then : (p q r : PassState) → Unbegun p q → Unbegun q r → Unbegun p r
+unbegun_then p q r one two = record {
+  more = one.more ++ two.more;
+  is = seen_then p.seen q.seen r.seen one.more two.more one.is two.is;
+  none = lacks_append is_begin one.more two.more one.none two.none;
+}
+
+unbegun_made : (p q : PassState) (s : Step) → InTurn p → is_begin s ≡ false → Makes p s q
+    → IsHistory q.table.config q.seen → Unbegun p q
+unbegun_made p q s t other m history = record {
+  more = m.others ++ event_of p s ∷ [];
+  is = seen_made p q s m;
+  none =
+      lacks_append is_begin m.others (event_of p s ∷ []) (others_lack is_begin p q s begins_held t m history)
+      (lacks_one is_begin (event_of p s) other);
+}
+
+-- Where no holder steps nobody begins one.
+unheld_unbegun : (es : List Event) → HoldersStepNone es → Lacks is_begin es
+unheld_unbegun [] h = refl
+unheld_unbegun (e ∷ es) h =
+    let parts = or_parts (is_holders e.step) (list_any (λ (x : Event). is_holders x.step) es) h in
+    or_from (is_begin e.step) (has_step is_begin es) (begins_held e.step parts.0) (unheld_unbegun es parts.1)
+
+stays : (x : Step) → turn_stays x ≡ true → turn_stays x ≡ true
+stays x h = h
+
+-- A cycle that is on may be finished.
+ends_unbegun : (taken idle : PassState) → InTurn taken → EndsCycle taken idle → IsHistory idle.table.config idle.seen
+    → Unbegun taken idle
+ends_unbegun taken idle t ends history = elim ends.phase [
+  | inl none ↦
+      let is : idle ≡ ends.looked = ends.none none in
+      subst (λ (r : PassState). Unbegun taken r) (sym is)
+      (look (subst (λ (r : PassState). IsHistory r.table.config r.seen) is history))
+  | inr on ↦
+      let does : Does is_of_cycles ends.looked idle = finish_does ends.looked idle looked_own (ends.on on) in
+      let there = history_before is_of_cycles ends.looked idle does history in
+      let finish = finish_in ends.looked idle looked_own (ends.on on)
+      (in_turn_then turn_stays taken ends.looked stays t looks there) history in
+      unbegun_then taken ends.looked idle (look there)
+      (record { more = finish.more; is = finish.is; none = finish.begins_none })
+]
+  where
+    looks : Does turn_stays taken ends.looked
+    looks = made_as turn_stays taken ends.looked (step.Look word.Phase) t.own ends.looks refl
+
+    looked_own : Has ends.looked.seats ends.looked.seat
+    looked_own = has_then turn_stays taken ends.looked looks t.own
+
+    look : IsHistory ends.looked.table.config ends.looked.seen → Unbegun taken ends.looked
+    look there = unbegun_made taken ends.looked (step.Look word.Phase) t refl ends.looks there
+
+-- The host says that all is over.
+over_unbegun : (p q : PassState) → Has p.seats p.seat → Has p.seats Host → HasCallers p.table.config p.seats
+    → SaysOver p q → IsHistory q.table.config q.seen → Unbegun p q
+over_unbegun p q own host callers o history =
+    let c : Config = p.table.config in
+    let said = before_made o.said q step.Give o.gives history in
+    let idle = before_made o.idle o.said step.Over o.says said in
+    let taken_own : Has o.taken.seats o.taken.seat =
+    subst (λ (r : PassState). Has r.seats r.seat) (sym (turn_moves p o.taken o.takes).is) own in
+    let ends = ends_does o.taken o.idle taken_own o.ends in
+    let taken = history_before turn_stays o.taken o.idle ends idle in
+    let t_taken = turn_taken p o.taken own o.takes taken in
+    let t_idle = in_turn_then turn_stays o.taken o.idle stays t_taken ends idle in
+    let t_said = in_turn_then turn_stays o.idle o.said stays t_idle
+    (made_as turn_stays o.idle o.said step.Over t_idle.own o.says refl) said in
+    let w : Waits p o.taken = waits_more p o.takes.waited o.taken None o.takes.waits o.takes.takes.makes in
+    let long : IsHistory c (p.seen ++ w.more) =
+    subst (λ (r : PassState). IsHistory r.table.config r.seen) w.is taken in
+    let on = ((enabled_in_parts c p.seen w.more).0 long.enabled).1 in
+    unbegun_then p o.taken q
+    (record {
+      more = w.more;
+      is = ap (λ (r : PassState). r.seen) w.is;
+      none = unheld_unbegun w.more (waiting_holds_none p c host callers (left c p.seen) w.more w.only on);
+    })
+    (unbegun_then o.taken o.idle q (ends_unbegun o.taken o.idle t_taken o.ends idle)
+    (unbegun_then o.idle o.said q (unbegun_made o.idle o.said step.Over t_idle refl o.says said)
+    (unbegun_made o.said q step.Give t_said refl o.gives history)))
+
+-- So the host's last turns end the list with their cycle.
+pub ends_with_cycle : (tells : Config → World → Type 0) (w : WordsState) (p : PassState) → TakesLastTurns tells w p
+    → IsHistory w.config p.seen → EndsWithCycle tells w.config p.seen
+ends_with_cycle tells w p t history =
+    let a : PassState = t.joined in
+    let b : PassState = t.cycled in
+    let s : PassState = t.said in
+    let c : Config = a.table.config in
+    let more : List Event = t.behind.more in
+    let own : Has a.seats a.seat = subst (λ (x : Seat). Has a.seats x) (sym t.seat) t.own in
+    let callers : HasCallers c a.seats = subst (λ (x : WordsState). HasCallers x.config a.seats) (sym t.table) t.callers in
+    let made = (cycle_moves a b t.cycle.makes).is in
+    let said = (over_moves b s t.over).is in
+    let b_seat : b.seat ≡ Host = ap (λ (r : PassState). r.seat) made ∙ t.seat in
+    let b_callers : HasCallers b.table.config b.seats =
+    subst (λ (r : PassState). HasCallers r.table.config r.seats) (sym made) callers in
+    let whole : IsHistory c p.seen = subst (λ (x : WordsState). IsHistory x.config p.seen) (sym t.table) history in
+    let long : IsHistory c (s.seen ++ more) = subst (λ (l : List Event). IsHistory c l) t.behind.is whole in
+    let config : s.table.config ≡ c =
+    ap (λ (r : PassState). r.table.config) said ∙ ap (λ (r : PassState). r.table.config) made in
+    let s_history : IsHistory s.table.config s.seen =
+    subst (λ (d : Config). IsHistory d s.seen) (sym config) (earlier_part_is_history c s.seen more long) in
+    let over = over_unbegun b s (subst (λ (r : PassState). Has r.seats r.seat) (sym made) own)
+    (subst (λ (r : PassState). Has r.seats Host) (sym made) t.own) b_callers t.over s_history in
+    let tail : List Event = over.more ++ more in
+    let is : p.seen ≡ b.seen ++ tail =
+    t.behind.is ∙ ap (λ (l : List Event). l ++ more) over.is ∙ append_assoc b.seen over.more more in
+    let ends : IsHistory c (b.seen ++ tail) = subst (λ (l : List Event). IsHistory c l) is whole in
+    let b_history : IsHistory b.table.config b.seen =
+    subst (λ (d : Config). IsHistory d b.seen) (sym (ap (λ (r : PassState). r.table.config) made))
+    (earlier_part_is_history c b.seen tail ends) in
+    let none : Lacks is_begin tail =
+    lacks_append is_begin over.more more over.none
+    (unheld_unbegun more (others_hold_none a c t.own callers (left c s.seen) more t.behind.of_others
+    ((enabled_in_parts c s.seen more).0 long.enabled).1)) in
+    let still : (k : ℕ) → k < c.callers → AreOfOthers (Caller k ∷ []) tail =
+    λ k lt.
+    let said_still = still_behind_over b s b_seat t.over k
+    (subst (λ (r : PassState). Has r.seats (Caller k)) (sym made) (callers k lt)) in
+    others_append (Caller k ∷ []) over.more more
+    (subst (λ (l : List Event). AreOfOthers (Caller k ∷ []) l)
+    (append_cancel_left b.seen said_still.more over.more (sym said_still.is ∙ over.is)) said_still.of_others)
+    (others_own a.seats (Caller k) more (callers k lt) t.behind.of_others) in
+    subst (λ (x : WordsState). EndsWithCycle tells x.config p.seen) t.table
+    (subst (λ (l : List Event). EndsWithCycle tells c l) (sym is)
+    (subst (λ (x : Seat). MakesLastCycle x tells c (b.seen ++ tail)) t.seat
+    (last_cycle tells a b t.cycle own b_history t.seat callers tail ends none still)))
+
+-- and that of the whole run, when the heap is closed.
+pub run_ends_with_cycle : (tells : Config → World → Type 0) (c : Config) (w : WordsState) (p : PassState) (r : Report)
+    → w.config ≡ c → TakesLastTurns tells w p → report.history_of r ≡ p.seen → report.config_of r ≡ w.config
+    → IsWhole (report.config_of r) (report.history_of r) → EndsWithCycle tells c (report.history_of r)
+run_ends_with_cycle tells c w p r made t history config whole =
+    let es : List Event = report.history_of r in
+    let seen : IsHistory w.config p.seen =
+    subst (λ (l : List Event). IsHistory w.config l) history
+    (subst (λ (d : Config). IsHistory d es) config whole.history) in
+    subst (λ (d : Config). EndsWithCycle tells d es) made
+    (subst (λ (l : List Event). EndsWithCycle tells w.config l) (sym history) (ends_with_cycle tells w p t seen))
+
+-- What is told may tell more.
+pub ends_weaker : (tells others : Config → World → Type 0) (c : Config) (es : List Event)
+    → ((w : World) → tells c w → others c w) → EndsWithCycle tells c es → EndsWithCycle others c es
+ends_weaker tells others c es weaker h = record {
+  before = h.before;
+  behind = h.behind;
+  is = h.is;
+  turn = h.turn;
+  callers = h.callers;
+  cycle = h.cycle;
+  last = h.last;
+  told = weaker (left c (within_turn h.turn (before_close h.cycle.releasing.marking))) h.told;
+}

@@ -1,0 +1,99 @@
+-- The host's last turns, when the scripts are joined: the callers are still, and so they stay as markers are joined.
+use Rattle.std.proofs.Common.{◌≡◌, Bool, List, [], ◌∷◌, ◌++◌, sym, ◌∙◌, ap, subst, append-nil, append_assoc}
+use Rattle.mk_core.specs.declared.config.Config.{Config}
+use Rattle.mk_core.specs.declared.events.Event.{Event}
+use Rattle.mk_core.specs.declared.events.Seat.{Seat}
+use Rattle.mk_core.specs.declared.events.Seat.TheVariants.{Caller, Host}
+use Rattle.mk_core.specs.declared.events.Step.TheVariants as step
+use Rattle.mk_core.specs.Growing.{Grows, is_same_seat}
+use Rattle.mk_core.specs.History.{World}
+use Rattle.mk_words.specs.Seats.{Has, HasCallers}
+use Rattle.mk_words.specs.States.{WordsState, PassState}
+use Rattle.mk_words.proofs.Seats.{has_left, others_append, others_fewer, others_none}
+use Rattle.mk_heap.specs.Ending.{MakesCycle, MakesToldCycle, SaysOver}
+use Rattle.mk_heap.specs.Hosts.{HostState, with_joined, with_seen}
+use Rattle.mk_heap.proofs.MovedHosts.{MovesOn, begin_moves, finish_moves, idle_moves, moves_more}
+use Rattle.mk_run.specs.LastTurns.{CallersAreStill, TakesLastTurns}
+
+-- Callers whose seats are home make no step in the host's turns.
+
+moved_still : (p q : PassState) → p.seat ≡ Host → MovesOn p q → CallersAreStill p q.seen
+moved_still p q seat moves = λ k has. record {
+  more = moves.more;
+  is = ap (λ (r : PassState). r.seen) moves.is;
+  of_others = moves.leaves (Caller k) has (ap (λ (s : Seat). is_same_seat (Caller k) s) seat);
+}
+
+pub over_moves : (p q : PassState) → SaysOver p q → MovesOn p q
+over_moves p q over =
+    let idle = idle_moves p over.idle (record { taken = over.taken; takes = over.takes; ends = over.ends }) in
+    moves_more p over.said q step.Give (moves_more p over.idle over.said step.Over idle over.says) over.gives
+
+pub cycle_moves : (p q : PassState) → MakesCycle p q → MovesOn p q
+cycle_moves p q m =
+    let idle = idle_moves p m.idle (record { taken = m.taken; takes = m.takes; ends = m.ends }) in
+    let ended = finish_moves p m.begun m.ended (begin_moves p m.idle m.begun idle m.begins) m.finishes in
+    moves_more p m.ended q step.Give ended m.gives
+
+pub still_behind_over : (p q : PassState) → p.seat ≡ Host → SaysOver p q → CallersAreStill p q.seen
+still_behind_over p q seat over = moved_still p q seat (over_moves p q over)
+
+module _ (tells : Config → World → Type 0) (w : WordsState) (h g i : HostState) (seat : h.pass.seat ≡ Host)
+    (is : g ≡ with_seen h g.pass.seen)
+    (cycle : MakesToldCycle tells h.pass g.pass)
+    (over : SaysOver g.pass i.pass) where
+  pub still_behind_both : CallersAreStill h.pass i.pass.seen
+  still_behind_both k has =
+      let first = moved_still h.pass g.pass seat (cycle_moves h.pass g.pass cycle.makes) k has in
+      let second = still_behind_over g.pass i.pass (ap (λ (x : HostState). x.pass.seat) is ∙ seat) over k
+      (subst (λ (x : HostState). Has x.pass.seats (Caller k)) (sym is) has) in
+      record {
+        more = first.more ++ second.more;
+        is = second.is ∙ ap (λ (l : List Event). l ++ second.more) first.is
+            ∙ append_assoc h.pass.seen first.more second.more;
+        of_others = others_append (Caller k ∷ []) first.more second.more first.of_others second.of_others;
+      }
+
+  pub last_turns : h.pass.table ≡ w → HasCallers w.config h.pass.seats → Has g.pass.seats Host
+      → i ≡ with_seen g i.pass.seen → TakesLastTurns tells w i.pass
+  last_turns table callers own is' = record {
+    joined = h.pass;
+    cycled = g.pass;
+    said = i.pass;
+    table = table;
+    seat = seat;
+    own = subst (λ (x : HostState). Has x.pass.seats Host) is own;
+    callers = callers;
+    cycle = cycle;
+    over = over;
+    home = λ s has.
+        subst (λ (x : HostState). Has x.pass.seats s) (sym is')
+        (subst (λ (x : HostState). Has x.pass.seats s) (sym is) has);
+    behind = record { more = []; is = sym (append-nil i.pass.seen); of_others = others_none h.pass.seats };
+  }
+
+-- They stay the last as a marker is joined.
+pub last_turns_joined : (tells : Config → World → Type 0) (w : WordsState) (h g : HostState) (p : PassState)
+    → g ≡ with_joined h p g.pass.seen → Grows h.pass.seats h.pass.seen g.pass.seen → TakesLastTurns tells w h.pass
+    → TakesLastTurns tells w g.pass
+last_turns_joined tells w h g p is own t = record {
+  joined = t.joined;
+  cycled = t.cycled;
+  said = t.said;
+  table = t.table;
+  seat = t.seat;
+  own = t.own;
+  callers = t.callers;
+  cycle = t.cycle;
+  over = t.over;
+  home = λ s has.
+      subst (λ (x : HostState). Has x.pass.seats s) (sym is) (has_left h.pass.seats p.seats s (t.home s has));
+  behind = record {
+    more = t.behind.more ++ own.more;
+    is = own.is ∙ ap (λ (l : List Event). l ++ own.more) t.behind.is
+        ∙ append_assoc t.said.seen t.behind.more own.more;
+    of_others =
+        others_append t.joined.seats t.behind.more own.more t.behind.of_others
+        (others_fewer h.pass.seats t.joined.seats own.more t.home own.of_others);
+  };
+}

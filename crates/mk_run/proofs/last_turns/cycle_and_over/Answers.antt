@@ -1,0 +1,29 @@
+use Rattle.std.proofs.Common.{◌≡◌, ◌∙◌, ap, subst, sym}
+use Rattle.mk_turns.proofs.Sweeping.{sweeps_then}
+use Rattle.mk_heap.specs.Ending.{CallersAreJoined}
+use Rattle.mk_heap.specs.Hosts.{HostState, with_seen}
+use Rattle.mk_run.specs.LastTurns.{TakesLastTurns}
+use Rattle.mk_run.proofs.LastTurns.{last_turns, still_behind_both}
+use Rattle.mk_run.proofs.last_turns.cycle_and_over.Goals as goal
+
+pub over-requires-clause-joined : goal.over-requires-clause-joined
+over-requires-clause-joined g c κs within =
+    subst (λ (h : HostState). CallersAreJoined h) (sym c.cycle.ensures.host) c.requires.joined
+
+pub returns-clause-still : goal.returns-clause-still
+returns-clause-still g c =
+    still_behind_both (g.E.Engine.tells c.cycle.new.bench.engine) c.args.heap.now c.args.host.now c.cycle.new.self
+    c.over.new.self c.requires.seat c.cycle.ensures.host c.cycle.ensures.cycle c.over.ensures.over
+
+pub returns-clause-turns : goal.returns-clause-turns
+returns-clause-turns g c =
+    let same = c.over.ensures.bench c.cycle.ensures.idle in
+    subst (λ bench. TakesLastTurns (g.E.Engine.tells bench.engine) c.args.heap.now c.over.new.self.pass) (sym same)
+    (last_turns (g.E.Engine.tells c.cycle.new.bench.engine) c.args.heap.now c.args.host.now c.cycle.new.self
+    c.over.new.self c.requires.seat c.cycle.ensures.host c.cycle.ensures.cycle c.over.ensures.over
+    c.requires.one_table c.requires.callers c.cycle.ensures.own c.over.ensures.host)
+
+pub returns-clause-reached : goal.returns-clause-reached
+returns-clause-reached g c none =
+    sweeps_then c.args.host.now.pass c.cycle.new.self.pass c.over.new.self.pass
+    (ap (λ (h : HostState). h.pass) c.cycle.ensures.host) (c.cycle.ensures.reached none) (c.over.ensures.reached none)

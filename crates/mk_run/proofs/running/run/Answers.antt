@@ -1,0 +1,56 @@
+use Rattle.std.proofs.Common.{◌≡◌, ◌∙◌, List, sym, subst}
+use Rattle.std.specs.Prelude.{IfOk}
+use Rattle.mk_core.specs.declared.config.Config.{Config}
+use Rattle.mk_core.specs.declared.events.Event.{Event}
+use Rattle.mk_heap.specs.Reports as report
+use Rattle.mk_heap.specs.Reports.{IsWhole}
+use Rattle.mk_check.specs.Declarations.{config_of}
+use Rattle.mk_run.specs.Joining.{AreTextsFrom}
+use Rattle.mk_run.specs.UnsweptSeats.{ScriptsSweepNothing}
+use Rattle.mk_run.proofs.LastOvers.{run_ends_with_cycle}
+use Rattle.mk_run.proofs.UnsweptScripts.{run_is_unswept}
+use Rattle.mk_run.proofs.WholeRuns.{all_joined, is_run}
+use Rattle.mk_run.proofs.running.run.Goals as goal
+
+pub close-report-requires-clause-joined : goal.close-report-requires-clause-joined
+close-report-requires-clause-joined g c =
+    all_joined g.E.Engine.on c.args.program.now c.in_ok-heap.heap c.run_beside-joined.result.joined c.run_beside-joined.ensures.over
+
+pub returns-clause-runs : goal.returns-clause-runs
+returns-clause-runs g c =
+    let program = c.args.program.now in
+    let w = c.in_ok-heap.heap in
+    let h = c.run_beside-joined.result.joined.host in
+    let made : w.config ≡ config_of program c.args.markers =
+    c.in_ok-heap.ensures.config ∙ c.in_ok-config.ensures.config in
+    let texts : AreTextsFrom program 0 w.config h.pass.seen c.in_ok-texts.field-0.items =
+    subst (λ r. IfOk r (λ texts. AreTextsFrom program 0 w.config h.pass.seen texts.items)) c.in_ok-texts.was
+    c.run_beside-joined.ensures.over.texts in
+    is_run g.E.Engine.on program c.args.markers w h (record {
+      texts =
+          c.in_ok-texts.field-0;
+      report = c.close-report.result;
+    })
+    made c.run_beside-joined.ensures.over.is_host texts c.close-report.ensures.history c.close-report.ensures.config
+    c.close-report.ensures.whole c.close-report.ensures.counts
+
+pub returns-clause-cycle : goal.returns-clause-cycle
+returns-clause-cycle g c asked =
+    run_ends_with_cycle (g.E.Engine.tells c.run_beside-joined.result.bench.engine)
+    (config_of c.args.program.now c.args.markers) c.in_ok-heap.heap c.run_beside-joined.result.joined.host.pass
+    c.close-report.result (c.in_ok-heap.ensures.config ∙ c.in_ok-config.ensures.config)
+    (c.run_beside-joined.ensures.turns asked) c.close-report.ensures.history c.close-report.ensures.config
+    c.close-report.ensures.whole
+
+pub returns-clause-reached : goal.returns-clause-reached
+returns-clause-reached g c none =
+    let program = c.args.program.now in
+    let h = c.run_beside-joined.result.joined.host in
+    let made = c.in_ok-heap.ensures.config ∙ c.in_ok-config.ensures.config in
+    let es = report.history_of c.close-report.result in
+    let same = c.close-report.ensures.config ∙ made in
+    let whole = subst (λ (d : Config). IsWhole d es) same c.close-report.ensures.whole in
+    run_is_unswept program c.args.markers es whole.history
+    (subst (λ (l : List Event). ScriptsSweepNothing program 0 (config_of program c.args.markers) l)
+    (sym c.close-report.ensures.history)
+    (subst (λ (d : Config). ScriptsSweepNothing program 0 d h.pass.seen) made (c.run_beside-joined.ensures.reached none)))

@@ -1,0 +1,63 @@
+//! The host's last turns, when the scripts are joined.
+ghost use Rattle.std.specs.Prelude.{◌≡◌, length, true, false};
+ghost use Rattle.mk_core.specs.declared.events.Seat.TheVariants as seat;
+ghost use Rattle.mk_words.specs.Seats.{HasCallers, has_over};
+ghost use Rattle.mk_turns.specs.Sweeping.{SweepsNothing};
+ghost use Rattle.mk_heap.specs.Ending.{CallersAreJoined};
+ghost use Rattle.mk_heap.specs.Hosts.{with_seen};
+ghost use Rattle.mk_run.specs.LastTurns.{CallersAreStill, TakesLastTurns};
+
+use mk_cycle::{Bench, Engine};
+use mk_heap::{Heap, Host};
+use std::sync::Wait;
+use std::thread::Threads;
+
+/// Makes a last cycle, and says to the markers that all is over. The bench is as the cycle left it.
+fn cycle_and_over<E: Engine, R: Threads + Wait + Sync>(
+    rt: &R,
+    heap: &Heap,
+    host: &mut Host,
+    bench: &mut Bench<E>,
+)
+    requires one_table { host.old.pass.table ≡ heap.now }
+    requires made_for { E.made_for bench.old.engine ≡ heap.now.config.pages }
+    requires book { length bench.old.book ≡ heap.now.config.pages }
+    requires seat { host.old.pass.seat ≡ seat.Host }
+    requires joined { CallersAreJoined host.old }
+    requires callers { HasCallers heap.now.config host.old.pass.seats }
+    requires before_over { has_over host.old.pass.seen ≡ false }
+    ensures host { host.new ≡ with_seen host.old host.new.pass.seen }
+    ensures still { CallersAreStill host.old.pass host.new.pass.seen }
+    ensures reached { E.sweeps ≡ false → SweepsNothing host.old.pass host.new.pass }
+    ensures turns { TakesLastTurns (E.tells bench.new.engine) heap.now host.new.pass }
+{
+    host.cycle(rt, heap, bench);
+    host.over(rt, heap, bench);
+}
+
+/// Says to the markers that all is over, where asked behind a last cycle.
+pub(crate) fn take_last_turns<E: Engine, R: Threads + Wait + Sync>(
+    rt: &R,
+    heap: &Heap,
+    host: &mut Host,
+    bench: &mut Bench<E>,
+    with_cycle: bool,
+)
+    requires one_table { host.old.pass.table ≡ heap.now }
+    requires made_for { E.made_for bench.old.engine ≡ heap.now.config.pages }
+    requires book { length bench.old.book ≡ heap.now.config.pages }
+    requires seat { host.old.pass.seat ≡ seat.Host }
+    requires joined { CallersAreJoined host.old }
+    requires callers { HasCallers heap.now.config host.old.pass.seats }
+    requires before_over { has_over host.old.pass.seen ≡ false }
+    ensures host { host.new ≡ with_seen host.old host.new.pass.seen }
+    ensures still { CallersAreStill host.old.pass host.new.pass.seen }
+    ensures reached { E.sweeps ≡ false → SweepsNothing host.old.pass host.new.pass }
+    ensures turns { with_cycle ≡ true → TakesLastTurns (E.tells bench.new.engine) heap.now host.new.pass }
+{
+    if with_cycle {
+        cycle_and_over(rt, heap, host, bench);
+    } else {
+        host.over(rt, heap, bench);
+    }
+}

@@ -1,0 +1,41 @@
+//! The run of a program with a last cycle, and what that cycle keeps.
+ghost use Rattle.std.specs.Prelude.{◌≡◌, ◌≤◌, IfOk, false};
+ghost use Rattle.mk_check.specs.Declarations.{config_of};
+ghost use Rattle.mk_heap.specs.Reports.{history_of};
+ghost use Rattle.mk_why.specs.Chains.{AreKept};
+ghost use Rattle.mk_run.specs.LastCycle.{EndsWithCycle};
+ghost use Rattle.mk_run.specs.Running.{IsRunOf};
+ghost use Rattle.mk_run.specs.Unswept.{IsUnswept};
+
+use crate::outcomes::Outcome;
+use crate::paces::Pace;
+use crate::running::run_with_cycle;
+use mk_check::Checked;
+use mk_cycle::{Bench, Engine};
+use mk_never::NoMemory;
+use mk_why::{Kept, Why};
+use std::alloc::Global;
+use std::sync::Wait;
+use std::thread::Threads;
+
+/// Runs as `run_all` does, with a last cycle when the scripts are joined, and tells what that cycle keeps and why. Of the
+/// engine's answers only that to `keeps_on` is left to it: the marks are those of the engine inside.
+pub fn run_why<E: Engine + Send, P: Pace + Sync, R: Threads + Wait + Sync>(
+    rt: &R,
+    alloc: Global,
+    program: &Checked,
+    markers: u64,
+    pace: &P,
+) -> Result<(Outcome, Vec<Kept>), NoMemory>
+    requires markers { markers ≤ 8 }
+    ensures runs { IfOk result (λ ran. IsRunOf E.on program.now markers ran.0) }
+    ensures kept { IfOk result (λ ran. EndsWithCycle (λ c w. AreKept c w ran.1.items) (config_of program.now markers)
+        (history_of ran.0.report)) }
+    ensures reached { IfOk result (λ ran. E.sweeps ≡ false
+        → IsUnswept (config_of program.now markers) (history_of ran.0.report)) }
+{
+    let ran: (Outcome, Bench<Why<E>>) = run_with_cycle(rt, alloc, program, markers, pace)?;
+    let (outcome, bench) = ran;
+    let kept = bench.engine.kept(alloc)?;
+    Ok((outcome, kept))
+}

@@ -1,0 +1,15 @@
+mod Alike
+mod Closing
+mod Counts
+mod Explored
+mod Lists
+mod Looks
+mod MadeEntries
+mod Pointed
+mod Roots
+mod Scans
+mod Searches
+mod Sizes
+mod SweptChains
+mod Telling
+mod Ways

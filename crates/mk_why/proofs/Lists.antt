@@ -1,0 +1,352 @@
+-- The kept allocations are those of the cells that are in the snapshot and marked.
+use Rattle.std.proofs.Common.{◌≡◌, ◌≢◌, ◌∙◌, ℕ, ◌+◌, ◌*◌, ◌/◌, ◌^◌, ◌<◌, Bool, true, false, List, refl, sym, ap, subst, inl, inr, arith, length}
+use Rattle.std.specs.Prelude.{Option, None, Some, ◌&&◌, not, slice_index, slice_set}
+use Rattle.std.proofs.lemmas.Bool.{and_from, and_parts, cases_eq, cases_lt, not-true, true≢false}
+use Rattle.std.proofs.lemmas.List.{get_or-set_other, get_or-set_same, length-set}
+use Rattle.mk_geom.specs.declared.addresses.Cell.{Cell}
+use Rattle.mk_geom.specs.Headers.{header_of}
+use Rattle.mk_core.specs.declared.config.Config.{Config}
+use Rattle.mk_core.specs.Allocations.{PlacedAllocation, cell_of_allocation, placed_at, storage_words}
+use Rattle.mk_core.specs.Bits.{has_bit}
+use Rattle.mk_core.specs.Cells.{cell_words, cells_under, first_word, header_in, is_marked, words_under}
+use Rattle.mk_core.specs.ClosedMarks.{is_marked_allocation}
+use Rattle.mk_core.specs.History.{IsHistory, never_behind}
+use Rattle.mk_core.specs.StandingAllocations.{object_placed}
+use Rattle.mk_core.specs.Words.{header_at}
+use Rattle.mk_core.proofs.PointedAllocations.{marked_where_its_cell_is}
+use Rattle.mk_core.proofs.Sizes.{words_within}
+use Rattle.mk_core.proofs.StandingAllocations.{cell_is_known, cells_begin, typed_size}
+use Rattle.mk_layout.specs.Quarantine.{is_cycling}
+use Rattle.mk_layout.specs.SettledPages.{StandsUsed}
+use Rattle.mk_images.proofs.KnownWorlds.{known_world}
+use Rattle.mk_invariant.specs.Invariant.{Invariant}
+use Rattle.mk_invariant.proofs.Histories.{histories_keep_the_invariant}
+use Rattle.mk_invariant.proofs.Theorems.{allocations_stand}
+use Rattle.mk_readings.proofs.Stands.{freed_cell}
+use Rattle.mk_words.specs.States.{PassState, WordsState, now_of, world_of}
+use Rattle.mk_cycle.specs.FinishCycle.{is_in_snapshot_of_cycle}
+use Rattle.mk_why.specs.declared.found.Storage.{Storage}
+use Rattle.mk_why.specs.declared.tables.Tables.{Tables}
+use Rattle.mk_why.specs.Chains.{is_kept}
+use Rattle.mk_why.specs.Listing.{AreOfKept, IsKeptAt, IsListed, ListsOn}
+use Rattle.mk_why.specs.Searching.{at}
+use Rattle.mk_why.specs.Stops.{IsStill, View, base_at, view_by, world_in}
+
+-- The cell, of so many words, is that of a kept allocation.
+pub record IsKeptCell (c : Config) (v : View) (cell : Cell) (size : ℕ) : Type 0 where
+  pub number : ℕ
+  pub kept : is_kept c (world_in v) number ≡ true
+  pub is : base_at v number ≡ 64 * cell.page + cell.index * size
+  pub words : size ≡ storage_words c (placed_at v.allocations number)
+  pub within : 64 * cell.page + cell.index * size < 64 * c.pages
+
+-- The kept allocation has this cell, of so many words, whose bits are set.
+pub record HasKeptCell (c : Config) (v : View) (b page size count snapshot marks : ℕ) : Type 0 where
+  pub known : (cell_of_allocation c (placed_at v.allocations b)).index < count
+  pub in_snapshot : has_bit snapshot (cell_of_allocation c (placed_at v.allocations b)).index ≡ true
+  pub marked : has_bit marks (cell_of_allocation c (placed_at v.allocations b)).index ≡ true
+  pub is : base_at v b ≡ 64 * page + (cell_of_allocation c (placed_at v.allocations b)).index * size
+
+module _ (p : PassState) (history : IsHistory p.table.config p.seen) (still : IsStill p) where
+  abbrev c : Config
+  c = p.table.config
+
+  abbrev a : ℕ → PlacedAllocation
+  a b = placed_at (world_of p).allocations b
+
+  all : Invariant p.table.config (world_of p) (never_behind p.table.config p.seen)
+  all = histories_keep_the_invariant c p.seen history
+
+  stands : (b : ℕ) → (placed_at (world_of p).allocations b).released ≡ false
+      → StandsUsed p.table.config (world_of p) (placed_at (world_of p).allocations b)
+  stands b u = allocations_stand c p.seen history b u
+
+  -- an unreleased allocation's cell is in the snapshot where it is of the cycle's
+  snapshot_of : (b : ℕ) → (placed_at (world_of p).allocations b).released ≡ false
+      → has_bit
+      (slice_index (now_of p).words.snapshot (cell_of_allocation p.table.config (placed_at (world_of p).allocations b)).page)
+      (cell_of_allocation p.table.config (placed_at (world_of p).allocations b)).index
+      ≡ ((placed_at (world_of p).allocations b).freed && not (placed_at (world_of p).allocations b).fresh)
+  snapshot_of b u = all.order.snapshot.quarantined (ap is_cycling still.wanted) b u
+
+  marked_of : (b : ℕ) → (placed_at (world_of p).allocations b).released ≡ false
+      → is_marked_allocation p.table.config (now_of p).words (placed_at (world_of p).allocations b)
+      ≡ is_marked (now_of p).words (cell_of_allocation p.table.config (placed_at (world_of p).allocations b))
+  marked_of b u =
+      let st = stands b u in
+      marked_where_its_cell_is c (now_of p).words (a b) history.within_limits st.stands st.headers
+
+  pub kept_cell : (cell : Cell)
+      → has_bit (slice_index (now_of p).words.snapshot cell.page) cell.index ≡ true
+      → has_bit (slice_index (now_of p).words.marks cell.page) cell.index ≡ true
+      → IsKeptCell p.table.config (view_by p) cell (words_under (header_in (now_of p).words cell.page))
+  kept_cell cell in_snapshot marked =
+      let f = freed_cell c (world_of p) (never_behind c p.seen)
+      (known_world c p.seen history.within_limits history.enabled) all
+      (λ e. let two = still.wanted in absurd (omega arith)) cell
+      (all.order.quarantined.within cell.page cell.index in_snapshot) in
+      let b = f.number in
+      let x : PlacedAllocation = a b in
+      let st = stands b f.unreleased in
+      let begins = cells_begin c (now_of p).words x history.within_limits st.stands st.headers in
+      let bit : (x.freed && not x.fresh) ≡ true = sym (snapshot_of b f.unreleased)
+      ∙ ap (λ (y : Cell). has_bit (slice_index (now_of p).words.snapshot y.page) y.index) f.cell ∙ in_snapshot in
+      let parts = and_parts x.freed (not x.fresh) bit in
+      let of_cycle : is_in_snapshot_of_cycle x ≡ true = and_from (x.freed && not x.released) (not x.fresh)
+      (and_from x.freed (not x.released) parts.0 (ap not f.unreleased)) parts.1 in
+      let has_mark : is_marked_allocation c (now_of p).words x ≡ true = marked_of b f.unreleased
+      ∙ ap (is_marked (now_of p).words) f.cell ∙ marked in
+      let is : x.base ≡ first_word (now_of p).words cell =
+      sym begins.0 ∙ ap (first_word (now_of p).words) f.cell in
+      let words : cell_words (now_of p).words cell ≡ storage_words c x =
+      sym (ap (cell_words (now_of p).words) f.cell) ∙ begins.1 in
+      record {
+        number = b;
+        kept = and_from (is_in_snapshot_of_cycle x) (is_marked_allocation c (now_of p).words x) of_cycle has_mark;
+        is = is;
+        words = words;
+        within = subst (λ n. n < 64 * c.pages) is (begins_below b f.unreleased);
+      }
+    where
+      begins_below : (b : ℕ) → (placed_at (world_of p).allocations b).released ≡ false
+          → (placed_at (world_of p).allocations b).base < 64 * p.table.config.pages
+      begins_below b u =
+          let st = stands b u in
+          let some = (words_within (object_placed c (a b)) (typed_size c (a b) history.within_limits st.stands.typed)).0 in
+          let end = st.stands.within in
+          omega arith
+
+  pub has_kept_cell : (b : ℕ) → is_kept p.table.config (world_in (view_by p)) b ≡ true
+      → HasKeptCell p.table.config (view_by p) b
+      (cell_of_allocation p.table.config (placed_at (world_of p).allocations b)).page
+      (words_under (header_in (now_of p).words
+      (cell_of_allocation p.table.config (placed_at (world_of p).allocations b)).page))
+      (cells_under (header_in (now_of p).words
+      (cell_of_allocation p.table.config (placed_at (world_of p).allocations b)).page))
+      (slice_index (now_of p).words.snapshot
+      (cell_of_allocation p.table.config (placed_at (world_of p).allocations b)).page)
+      (slice_index (now_of p).words.marks
+      (cell_of_allocation p.table.config (placed_at (world_of p).allocations b)).page)
+  has_kept_cell b kept =
+      let x : PlacedAllocation = a b in
+      let parts = and_parts (is_in_snapshot_of_cycle x) (is_marked_allocation c (now_of p).words x) kept in
+      let cycle = and_parts (x.freed && not x.released) (not x.fresh) parts.0 in
+      let freed = and_parts x.freed (not x.released) cycle.0 in
+      let u : x.released ≡ false = not-true x.released freed.1 in
+      let st = stands b u in
+      record {
+        known = cell_is_known c (now_of p).words x (typed_size c x history.within_limits st.stands.typed)
+            st.stands.begins st.headers;
+        in_snapshot = snapshot_of b u ∙ and_from x.freed (not x.fresh) freed.0 cycle.1;
+        marked = sym (marked_of b u) ∙ parts.1;
+        is = sym (cells_begin c (now_of p).words x history.within_limits st.stands st.headers).0;
+      }
+
+-- By the configuration of the words, and what looks found of the view.
+module _ (p : PassState) (history : IsHistory p.table.config p.seen) (still : IsStill p) (k : WordsState)
+    (same : p.table ≡ k) (page header snapshot marks size : ℕ) (shown : header ≡ header_at (view_by p).words page)
+    (snapshots : snapshot ≡ slice_index (view_by p).words.snapshot page)
+    (bits : marks ≡ slice_index (view_by p).words.marks page) (under : size ≡ words_under (header_of header)) where
+  size_is : size ≡ words_under (header_in (now_of p).words page)
+  size_is = under ∙ ap (λ h. words_under (header_of h)) shown
+
+  pub kept_at : (index : ℕ) → has_bit snapshot index ≡ true → has_bit marks index ≡ true
+      → IsKeptCell k.config (view_by p) (record { page = page; index = index }) size
+  kept_at index in_snapshot marked =
+      subst (λ (t : WordsState). IsKeptCell t.config (view_by p) (record { page = page; index = index }) size) same
+      (subst (λ n. IsKeptCell p.table.config (view_by p) (record { page = page; index = index }) n) (sym size_is)
+      (kept_cell p history still (record { page = page; index = index })
+      (ap (λ n. has_bit n index) (sym snapshots) ∙ in_snapshot) (ap (λ n. has_bit n index) (sym bits) ∙ marked)))
+
+  has_kept_on : (b : ℕ) → is_kept p.table.config (world_in (view_by p)) b ≡ true
+      → (cell_of_allocation p.table.config (placed_at (world_of p).allocations b)).page ≡ page
+      → HasKeptCell p.table.config (view_by p) b page size (cells_under (header_of header)) snapshot marks
+  has_kept_on b kept at_page =
+      let on_page : (n : ℕ) → Type 0 = λ n. HasKeptCell p.table.config (view_by p) b n
+      (words_under (header_in (now_of p).words n)) (cells_under (header_in (now_of p).words n))
+      (slice_index (now_of p).words.snapshot n) (slice_index (now_of p).words.marks n) in
+      let x : on_page page = subst on_page at_page (has_kept_cell p history still b kept) in
+      record {
+        known = subst (λ h. (cell_of_allocation p.table.config (placed_at (world_of p).allocations b)).index
+            < cells_under (header_of h)) (sym shown) x.known;
+        in_snapshot = ap (λ n. has_bit n (cell_of_allocation p.table.config
+            (placed_at (world_of p).allocations b)).index) snapshots ∙ x.in_snapshot;
+        marked = ap (λ n. has_bit n (cell_of_allocation p.table.config (placed_at (world_of p).allocations b)).index)
+            bits ∙ x.marked;
+        is = x.is ∙ ap (λ n. 64 * page + (cell_of_allocation p.table.config
+            (placed_at (world_of p).allocations b)).index * n) (sym size_is);
+      }
+
+  pub has_kept_at : (b : ℕ) → is_kept k.config (world_in (view_by p)) b ≡ true
+      → (cell_of_allocation k.config (placed_at (view_by p).allocations b)).page ≡ page
+      → HasKeptCell k.config (view_by p) b page size (cells_under (header_of header)) snapshot marks
+  has_kept_at b =
+      subst (λ (t : WordsState). is_kept t.config (world_in (view_by p)) b ≡ true
+      → (cell_of_allocation t.config (placed_at (view_by p).allocations b)).page ≡ page
+      → HasKeptCell t.config (view_by p) b page size (cells_under (header_of header)) snapshot marks) same
+      (has_kept_on b)
+
+-- One cell more.
+
+pub lists_nothing : (c : Config) (v : View) (r : Tables) → AreOfKept c v r.kept.items → ListsOn c v r r
+lists_nothing c v r of_kept = record { size = refl; of_kept = of_kept; stays = λ base x. x; found = refl }
+
+pub lists_then : (c : Config) (v : View) (r s x : Tables) → ListsOn c v r s → ListsOn c v s x → ListsOn c v r x
+lists_then c v r s x one two =
+    record {
+      size = two.size ∙ one.size;
+      of_kept = two.of_kept;
+      stays = λ base y. two.stays base (one.stays base y);
+      found = two.found ∙ one.found;
+    }
+
+-- what is listed of a cell behind it
+pub record ListsCell (c : Config) (v : View) (r s : Tables) (base : ℕ) (in_snapshot marked : Bool) : Type 0 where
+  pub on : ListsOn c v r s
+  pub listed : in_snapshot ≡ true → marked ≡ true → IsListed s.kept.items base
+
+module _ (c : Config) (v : View) (r s : Tables) (cell : Cell) (size : ℕ) (of_kept : AreOfKept c v r.kept.items)
+    (within : 64 * cell.page + cell.index * size < length r.kept.items) (kept : IsKeptCell c v cell size)
+    (found : s.found ≡ r.found)
+    (set : s.kept.items ≡ slice_set r.kept.items (64 * cell.page + cell.index * size)
+    (Some (record { address = 65536 + 8 * (64 * cell.page + cell.index * size); words = size }))) where
+  abbrev base : ℕ
+  base = 64 * cell.page + cell.index * size
+
+  abbrev storage : Storage
+  storage = record { address = 65536 + 8 * (64 * cell.page + cell.index * size); words = size }
+
+  there : at s.kept.items (64 * cell.page + cell.index * size)
+      ≡ Some (record { address = 65536 + 8 * (64 * cell.page + cell.index * size); words = size })
+  there = ap (λ (xs : List (Option Storage)). at xs base) set ∙ get_or-set_same r.kept.items base (Some storage) None within
+
+  elsewhere : (k : ℕ) → k ≢ 64 * cell.page + cell.index * size → at s.kept.items k ≡ at r.kept.items k
+  elsewhere k ne =
+      ap (λ (xs : List (Option Storage)). at xs k) set ∙ get_or-set_other r.kept.items base k (Some storage) None ne
+
+  sets_cell : ListsCell c v r s (64 * cell.page + cell.index * size) true true
+  sets_cell =
+      record {
+        on = record {
+          size = ap (λ (xs : List (Option Storage)). length xs) set ∙ length-set r.kept.items base (Some storage);
+          of_kept = of_all;
+          stays = stays;
+          found = found;
+        };
+        listed = λ one two. record { storage = storage; there = there };
+      }
+    where
+      of_all : AreOfKept c v s.kept.items
+      of_all k x is = elim (cases_eq k base) [
+        | inl e ↦
+            let both : Some x ≡ Some storage = sym is ∙ ap (λ n. at s.kept.items n) e ∙ there in
+            let same : x ≡ storage = cc in
+            subst (λ (y : Storage). IsKeptAt c v k y) (sym same)
+            (record {
+              number = kept.number;
+              is = kept.is ∙ sym e;
+              storage = record {
+                kept = kept.kept;
+                address = ap (λ n. 65536 + 8 * n) (sym kept.is);
+                words = kept.words;
+              };
+            })
+        | inr ne ↦ of_kept k x (sym (elsewhere k ne) ∙ is)
+      ]
+
+      stays : (k : ℕ) → IsListed r.kept.items k → IsListed s.kept.items k
+      stays k x = elim (cases_eq k base) [
+        | inl e ↦ record { storage = storage; there = ap (λ n. at s.kept.items n) e ∙ there }
+        | inr ne ↦ record { storage = x.storage; there = elsewhere k ne ∙ x.there }
+      ]
+
+pub lists_cell : (c : Config) (v : View) (r s : Tables) (cell : Cell) (size : ℕ) (in_snapshot marked : Bool)
+    → AreOfKept c v r.kept.items → length r.kept.items ≡ 64 * c.pages
+    → (in_snapshot ≡ true → marked ≡ true → IsKeptCell c v cell size) → s.found ≡ r.found
+    → (in_snapshot ≡ true → marked ≡ true → s.kept.items ≡ slice_set r.kept.items
+    (64 * cell.page + cell.index * size)
+    (Some (record { address = 65536 + 8 * (64 * cell.page + cell.index * size); words = size })))
+    → (in_snapshot ≡ false → s ≡ r) → (marked ≡ false → s ≡ r)
+    → ListsCell c v r s (64 * cell.page + cell.index * size) in_snapshot marked
+lists_cell c v r s cell size true true of_kept all kept found set outside unmarked =
+    let x = kept refl refl in
+    sets_cell c v r s cell size of_kept (let low = x.within in omega arith) x found (set refl refl)
+lists_cell c v r s cell size false marked of_kept all kept found set outside unmarked =
+    record {
+      on = subst (λ (y : Tables). ListsOn c v r y) (sym (outside refl)) (lists_nothing c v r of_kept);
+      listed = λ one two. absurd (true≢false (sym one));
+    }
+lists_cell c v r s cell size true false of_kept all kept found set outside unmarked =
+    record {
+      on = subst (λ (y : Tables). ListsOn c v r y) (sym (unmarked refl)) (lists_nothing c v r of_kept);
+      listed = λ one two. absurd (true≢false (sym two));
+    }
+
+pub cells_more : (c : Config) (v : View) (r s : Tables) (page size count snapshot marks index : ℕ)
+    (in_snapshot marked : Bool) → in_snapshot ≡ has_bit snapshot index → marked ≡ has_bit marks index
+    → ((b : ℕ) → is_kept c (world_in v) b ≡ true → (cell_of_allocation c (placed_at v.allocations b)).page ≡ page
+    → HasKeptCell c v b page size count snapshot marks)
+    → ((b : ℕ) → is_kept c (world_in v) b ≡ true → (cell_of_allocation c (placed_at v.allocations b)).page ≡ page
+    → (cell_of_allocation c (placed_at v.allocations b)).index < index → IsListed r.kept.items (base_at v b))
+    → ListsCell c v r s (64 * page + index * size) in_snapshot marked
+    → (b : ℕ) → is_kept c (world_in v) b ≡ true → (cell_of_allocation c (placed_at v.allocations b)).page ≡ page
+    → (cell_of_allocation c (placed_at v.allocations b)).index < index + 1 → IsListed s.kept.items (base_at v b)
+cells_more c v r s page size count snapshot marks index in_snapshot marked is_in is_marked has before one b kept at_page lt =
+    elim (cases_lt (cell_of_allocation c (placed_at v.allocations b)).index index) [
+      | inl low ↦ one.on.stays (base_at v b) (before b kept at_page low)
+      | inr high ↦
+          let x = has b kept at_page in
+          let e : (cell_of_allocation c (placed_at v.allocations b)).index ≡ index = omega arith in
+          subst (λ n. IsListed s.kept.items n) (sym (x.is ∙ ap (λ i. 64 * page + i * size) e))
+          (one.listed (is_in ∙ ap (λ i. has_bit snapshot i) (sym e) ∙ x.in_snapshot)
+          (is_marked ∙ ap (λ i. has_bit marks i) (sym e) ∙ x.marked))
+    ]
+
+-- the snapshot's half of a quarantine word
+pub snapshot_read : (p : PassState) → IsHistory p.table.config p.seen → (page n : ℕ)
+    → n ≡ slice_index (view_by p).words.freed page + 2 ^ 32 * slice_index (view_by p).words.snapshot page
+    → n / 4294967296 ≡ slice_index (view_by p).words.snapshot page
+snapshot_read p history page n is =
+    let small = ((histories_keep_the_invariant p.table.config p.seen history).order.quarantined.small page).0 in
+    half (slice_index (view_by p).words.freed page) (slice_index (view_by p).words.snapshot page) n is small
+  where
+    half : (f s m : ℕ) → m ≡ f + 2 ^ 32 * s → f < 2 ^ 32 → m / 4294967296 ≡ s
+    half f s m e lt = omega arith
+
+-- A kept allocation begins on a page that there is.
+pub kept_page : (p : PassState) → IsHistory p.table.config p.seen → (k : WordsState) → p.table ≡ k → (b : ℕ)
+    → is_kept k.config (world_in (view_by p)) b ≡ true
+    → (cell_of_allocation k.config (placed_at (view_by p).allocations b)).page < k.config.pages
+kept_page p history k same b =
+    subst (λ (t : WordsState). is_kept t.config (world_in (view_by p)) b ≡ true
+    → (cell_of_allocation t.config (placed_at (view_by p).allocations b)).page < t.config.pages) same here
+  where
+    here : is_kept p.table.config (world_in (view_by p)) b ≡ true
+        → (cell_of_allocation p.table.config (placed_at (view_by p).allocations b)).page < p.table.config.pages
+    here kept =
+        let x : PlacedAllocation = placed_at (world_of p).allocations b in
+        let parts = and_parts (is_in_snapshot_of_cycle x) (is_marked_allocation p.table.config (now_of p).words x) kept in
+        let cycle = and_parts (x.freed && not x.released) (not x.fresh) parts.0 in
+        let u : x.released ≡ false = not-true x.released (and_parts x.freed (not x.released) cycle.0).1 in
+        let st = allocations_stand p.table.config p.seen history b u in
+        let some = (words_within (object_placed p.table.config x)
+        (typed_size p.table.config x history.within_limits st.stands.typed)).0 in
+        let end = st.stands.within in
+        omega arith
+
+pub none_listed : (c : Config) (v : View) (kept : List (Option Storage)) → ((base : ℕ) → at kept base ≡ None)
+    → AreOfKept c v kept
+none_listed c v kept none base s is = let e = none base in absurd cc
+
+pub pages_more : (c : Config) (v : View) (r s : Tables) (page : ℕ) → ListsOn c v r s
+    → ((b : ℕ) → is_kept c (world_in v) b ≡ true → (cell_of_allocation c (placed_at v.allocations b)).page < page
+    → IsListed r.kept.items (base_at v b))
+    → ((b : ℕ) → is_kept c (world_in v) b ≡ true → (cell_of_allocation c (placed_at v.allocations b)).page ≡ page
+    → IsListed s.kept.items (base_at v b))
+    → (b : ℕ) → is_kept c (world_in v) b ≡ true → (cell_of_allocation c (placed_at v.allocations b)).page < page + 1
+    → IsListed s.kept.items (base_at v b)
+pages_more c v r s page on before here b kept lt =
+    elim (cases_lt (cell_of_allocation c (placed_at v.allocations b)).page page) [
+      | inl low ↦ on.stays (base_at v b) (before b kept low)
+      | inr high ↦ here b kept (omega arith)
+    ]

@@ -1,0 +1,303 @@
+-- Chains followed back, and the entries of the kept allocations.
+use Rattle.std.proofs.Common.{◌≡◌, ◌∙◌, ℕ, ◌+◌, ◌*◌, ◌<◌, Bool, true, false, List, [], ◌∷◌, ◌++◌, refl, sym, ap, subst, inl, inr, arith, length}
+use Rattle.std.specs.Prelude.{Option, None, Some, Result, Ok, Err, if◌then◌else◌, is_err, is_ok, is_some, map, reverse, slice_index, slice_index_or, not, ◌&&◌}
+use Rattle.std.specs.List.Sorted.{IsStrictlyIncreasing}
+use Rattle.std.proofs.Math.ListN.{get_or-append}
+use Rattle.std.proofs.Math.Seq.{get_or-append_seam}
+use Rattle.std.proofs.lemmas.Bool.{and_parts, cases_lt, lt-ltb, not-true, true≢false}
+use Rattle.std.proofs.lemmas.List.{get_or_read_under, length-append, length-map, length-reverse, map-append, reverse-append}
+use Rattle.std.proofs.lemmas.List.Elements.{Contains-append_left, Contains-push, Contains-push_cases}
+use Rattle.mk_core.specs.declared.config.Config.{Config}
+use Rattle.mk_core.specs.Allocations.{PlacedAllocation, is_mapped, placed_at, storage_of}
+use Rattle.mk_core.specs.ClosedMarks.{is_marked_allocation, is_scanned_allocation}
+use Rattle.mk_zeros.proofs.MappedWords.{mapped_stays}
+use Rattle.mk_cycle.specs.FinishCycle.{is_in_snapshot_of_cycle}
+use Rattle.mk_why.specs.declared.found.Found.{Found}
+use Rattle.mk_why.specs.declared.found.Storage.{Storage}
+use Rattle.mk_why.specs.declared.found.Way.{Way}
+use Rattle.mk_why.specs.declared.found.Way.TheVariants.{Link, Start}
+use Rattle.mk_why.specs.declared.kept.Kept.{Kept}
+use Rattle.mk_why.specs.declared.kept.Root.{Root}
+use Rattle.mk_why.specs.Chains.{IsEntryOf, IsWhy, LeadsTo, is_kept}
+use Rattle.mk_why.specs.Entries.{AreEntriesBelow, IsLed, IsLedBack, IsMadeOf, IsOneMore, IsToldWhy, IsWayOf, back_to, root_of, step_back}
+use Rattle.mk_why.specs.Listing.{IsKeptAt, IsTold}
+use Rattle.mk_why.specs.Searching.{AreApart, AreWays, IsOnward, IsWay, at}
+use Rattle.mk_why.specs.Stops.{View, base_at, world_in}
+
+pub ok_of : {T E : Type 0} → (r : Result T E) → is_err r ≡ false → is_ok r ≡ true
+ok_of (Ok x) h = refl
+ok_of (Err e) h = absurd (true≢false h)
+
+-- what is read of a table
+pub read_at : {A : Type 0} → (xs : List (Option A)) (i : ℕ) (o : Option A) → o ≡ slice_index_or xs i o → i < length xs
+    → o ≡ at xs i
+read_at {A} xs i o is lt = get_or_read_under xs i (length xs) o None is lt refl
+
+-- One step back.
+
+some_back : (link links : ℕ) (o : Option Found) (before : Found) → o ≡ Some before → before.links < links
+    → back_to link links o ≡ Some (link, before)
+some_back link links o before is less =
+    ap (back_to link links) is
+    ∙ ap (λ (b : Bool). if b then Some (link, before) else None) (lt-ltb before.links links less)
+
+-- what a pair has
+
+first_of_pair : Option (ℕ × Found) → ℕ
+first_of_pair None = 0
+first_of_pair (Some p) = p.0
+
+second_of_pair : Found → Option (ℕ × Found) → Found
+second_of_pair f None = f
+second_of_pair f (Some p) = p.1
+
+pair_is : (a : ℕ) (x : Found) (b : ℕ) (y : Found) (p : Option (ℕ × Found)) → p ≡ Some (a, x) → p ≡ Some (b, y)
+    → (a ≡ b) × (x ≡ y)
+unfolding first_of_pair second_of_pair
+pair_is a x b y p one two = (ap first_of_pair (sym one ∙ two), ap (second_of_pair x) (sym one ∙ two))
+
+pair_is_some : (a : ℕ) (x : Found) (p : Option (ℕ × Found)) → p ≡ Some (a, x) → p ≡ None → ⊥
+pair_is_some a x p one two = true≢false (ap (is_some {T = ℕ × Found}) (sym one ∙ two))
+
+pub led_first : (c : Config) (v : View) (found : List (Option Found)) (f : Found) (b : ℕ)
+    → IsWay c v found f.way f.links b → IsLedBack c v found f [] b f.links
+led_first c v found f b way = record { number = b; way = way; leads = refl; sum = omega arith }
+
+module _ (c : Config) (v : View) (found : List (Option Found)) (ways : AreWays c v found) (apart : AreApart v) where
+  unreleased_of : (a : ℕ) → is_scanned_allocation c (placed_at v.allocations a) ≡ true
+      → (placed_at v.allocations a).released ≡ false
+  unreleased_of a is =
+      mapped_stays c (placed_at v.allocations a)
+      (and_parts (is_mapped c (placed_at v.allocations a)) (not (storage_of c (placed_at v.allocations a)).leaf) is).0
+
+  -- the allocation that has the link was found by its own way
+  way_before : (link from links x : ℕ) (on : IsOnward c v found link from links x)
+      → IsWay c v found on.before.way on.before.links on.number
+  way_before link from links x on =
+      let y = ways from on.before on.there in
+      let same : y.number ≡ on.number = apart y.number on.number y.unreleased
+      (unreleased_of on.number on.onward.scanned) (y.is ∙ sym on.begins) in
+      subst (λ n. IsWay c v found on.before.way on.before.links n) same y.way
+
+  led_by : (way : Way) (links : ℕ) (pushed : List ℕ) (b count x : ℕ) → IsWay c v found way links x
+      → LeadsTo c (world_in v) x (reverse pushed) b → length pushed + links ≡ count → (link : ℕ) (before : Found)
+      → step_back found (record { way = way; links = links }) ≡ Some (link, before)
+      → IsLedBack c v found before (pushed ++ link ∷ []) b count
+  led_by (Start root) links pushed b count x way leads sum link before is = absurd cc
+  led_by (Link to from) links pushed b count x on leads sum link before is =
+      let less : on.before.links < links = let more = on.one_more in omega arith in
+      let same = pair_is to on.before link before (back_to to links (at found from))
+      (some_back to links (at found from) on.before on.there less) is in
+      let size = length-append pushed (link ∷ []) in
+      let more = on.one_more in
+      subst (λ (f : Found). IsLedBack c v found f (pushed ++ link ∷ []) b count) same.1
+      (subst (λ n. IsLedBack c v found on.before (pushed ++ n ∷ []) b count) same.0
+      (record {
+        number = on.number;
+        way = way_before to from links x on;
+        leads = subst (λ ls. LeadsTo c (world_in v) on.number ls b) (sym (reverse-append pushed (to ∷ [])))
+            (x, on.onward, leads);
+        sum = let long = length-append pushed (to ∷ []) in omega arith;
+      }))
+
+  pub led_more : (f : Found) (pushed : List ℕ) (b count : ℕ) → IsLedBack c v found f pushed b count
+      → (link : ℕ) (before : Found) → step_back found f ≡ Some (link, before)
+      → IsLedBack c v found before (pushed ++ link ∷ []) b count
+  led_more f pushed b count led link before is =
+      led_by f.way f.links pushed b count led.number led.way led.leads led.sum link before is
+
+  ends_by : (way : Way) (links : ℕ) (pushed : List ℕ) (b count x : ℕ) → IsWay c v found way links x
+      → LeadsTo c (world_in v) x (reverse pushed) b → length pushed + links ≡ count
+      → step_back found (record { way = way; links = links }) ≡ None
+      → IsLed c v b count (root_of way) (reverse pushed)
+  ends_by (Start root) links pushed b count x way leads sum is =
+      record {
+        start = root;
+        is = refl;
+        chain = record { first = x; there = way.1; points = way.2; leads = leads };
+        as_many = let none = way.0 in let size = length-reverse pushed in omega arith;
+      }
+  ends_by (Link to from) links pushed b count x on leads sum is =
+      let less : on.before.links < links = let more = on.one_more in omega arith in
+      absurd (pair_is_some to on.before (back_to to links (at found from))
+      (some_back to links (at found from) on.before on.there less) is)
+
+  pub led_to_root : (f : Found) (pushed : List ℕ) (b count : ℕ) → IsLedBack c v found f pushed b count
+      → step_back found f ≡ None → IsLed c v b count (root_of f.way) (reverse pushed)
+  led_to_root f pushed b count led is =
+      ends_by f.way f.links pushed b count led.number led.way led.leads led.sum is
+
+-- Numbers that rise go on rising behind a greater one.
+
+pushed_at : (xs : List ℕ) (x i : ℕ) → i ≡ length xs → slice_index (xs ++ x ∷ []) i ≡ x
+pushed_at xs x i e = ap (slice_index (xs ++ x ∷ [])) e ∙ get_or-append_seam xs x [] 0
+
+rising_more : (xs : List ℕ) (x : ℕ) → IsStrictlyIncreasing xs → ((i : ℕ) → i < length xs → slice_index xs i < x)
+    → IsStrictlyIncreasing (xs ++ x ∷ [])
+rising_more xs x rising below k lt =
+    let size = length-append xs (x ∷ []) in
+    elim (cases_lt (k + 1) (length xs)) [
+      | inl before ↦
+          let low = rising k before in
+          let one = get_or-append xs (x ∷ []) 0 k (omega arith) in
+          let two = get_or-append xs (x ∷ []) 0 (k + 1) before in
+          omega arith
+      | inr past ↦
+          let low = below k (omega arith) in
+          let one = get_or-append xs (x ∷ []) 0 k (omega arith) in
+          let two = pushed_at xs x (k + 1) (omega arith) in
+          omega arith
+    ]
+
+below_pushed : (xs : List ℕ) (x n : ℕ) → x < n → ((i : ℕ) → i < length xs → slice_index xs i < n) → (i : ℕ)
+    → i < length xs + 1 → slice_index (xs ++ x ∷ []) i < n
+below_pushed xs x n small below i lt = elim (cases_lt i (length xs)) [
+  | inl before ↦ let low = below i before in let one = get_or-append xs (x ∷ []) 0 i before in omega arith
+  | inr past ↦ let two = pushed_at xs x i (omega arith) in omega arith
+]
+
+-- What an entry tells is why.
+module _ (c : Config) (v : View) (found : List (Option Found)) (kept : List (Option Storage))
+    (told : IsTold c found kept v) where
+  unreleased_kept : (b : ℕ) → is_kept c (world_in v) b ≡ true → (placed_at v.allocations b).released ≡ false
+  unreleased_kept b kept_here =
+      let a : PlacedAllocation = placed_at v.allocations b in
+      let parts = and_parts (is_in_snapshot_of_cycle a) (is_marked_allocation c v.words a) kept_here in
+      let cycle = and_parts (a.freed && not a.released) (not a.fresh) parts.0 in
+      not-true a.released (and_parts a.freed (not a.released) cycle.0).1
+
+  why_by : (b : ℕ) (o : Option Found) → at found (base_at v b) ≡ o → (root : Option Root) (links : List ℕ)
+      → IsToldWhy c v b o root links → IsWhy c (world_in v) b root links
+  why_by b None is root links why =
+      subst (λ (r : Option Root). IsWhy c (world_in v) b r links) (sym why.0) (
+        why.1,
+        λ r ls chain.
+            let x = told.explored.near r ls b chain in
+            let both : Some x.entry ≡ None = sym x.there ∙ is in
+            cc,
+      )
+  why_by b (Some f) is root links why =
+      subst (λ (r : Option Root). IsWhy c (world_in v) b r links) (sym why.is) (
+        why.chain,
+        λ r ls chain.
+            let x = told.explored.near r ls b chain in
+            let both : Some x.entry ≡ Some f = sym x.there ∙ is in
+            let same : x.entry ≡ f = cc in
+            let few : x.entry.links ≡ f.links = ap (λ (y : Found). y.links) same in
+            let low = x.near in
+            let size = why.as_many in
+            omega arith,
+      )
+
+  way_by : (b : ℕ) → (placed_at v.allocations b).released ≡ false → (o : Option Found) → at found (base_at v b) ≡ o
+      → IsWayOf c v found b o
+  way_by b u None is = tt
+  way_by b u (Some f) is =
+      let x = told.explored.ways (base_at v b) f is in
+      subst (λ n. IsWay c v found f.way f.links n) (told.apart x.number b x.unreleased u x.is) x.way
+
+  -- the entry that is made of what the tables have
+  made_entry : (base : ℕ) (s : Storage) → (k : IsKeptAt c v base s) → (entry : Kept)
+      → IsMadeOf found s (at found base) entry → IsEntryOf c (world_in v) entry k.number
+  made_entry base s k entry made =
+      let b = k.number in
+      let u = unreleased_kept b k.storage.kept in
+      let is : at found (base_at v b) ≡ at found base = ap (at found) k.is in
+      record {
+        kept = k.storage.kept;
+        address = made.address ∙ k.storage.address;
+        words = made.words ∙ k.storage.words;
+        why = why_by b (at found base) is entry.root entry.links.items
+            (made.why c v b told.explored.ways told.apart (way_by b u (at found base) is));
+      }
+
+  pub entries_none : (base : ℕ) (es : List Kept) → at kept base ≡ None → AreEntriesBelow c v base es
+      → AreEntriesBelow c v (base + 1) es
+  entries_none base es none x =
+      record {
+        ascending = x.ascending;
+        below = λ i lt. let low = x.below i lt in omega arith;
+        of_one = x.of_one;
+        each = λ b kept_here lt. elim (cases_lt (base_at v b) base) [
+          | inl low ↦ x.each b kept_here low
+          | inr high ↦
+              let y = told.each b kept_here in
+              let e : base_at v b ≡ base = omega arith in
+              let both : Some y.storage ≡ None = sym y.there ∙ ap (at kept) e ∙ none in
+              absurd cc
+        ];
+      }
+
+  pub entries_some : (base : ℕ) (es fs : List Kept) (s : Storage) → at kept base ≡ Some s
+      → IsOneMore found s (at found base) es fs → AreEntriesBelow c v base es → AreEntriesBelow c v (base + 1) fs
+  entries_some base es fs s is more x =
+      subst (AreEntriesBelow c v (base + 1)) (sym more.is)
+      (record {
+        ascending = subst IsStrictlyIncreasing (sym mapped)
+            (rising_more (map address es) more.entry.address x.ascending (λ i lt.
+            let low : slice_index (map address es) i < 65536 + 8 * base =
+            x.below i (let size = length-map es address in omega arith) in
+            let e = at_base in
+            omega arith));
+        below = λ i lt. below_all i lt;
+        of_one = λ y inside. elim (Contains-push_cases es more.entry y inside) [
+          | inl before ↦ x.of_one y before
+          | inr same ↦ (k.number, subst (λ (z : Kept). IsEntryOf c (world_in v) z k.number) same entry)
+        ];
+        each = λ b kept_here lt. elim (cases_lt (base_at v b) base) [
+          | inl low ↦
+              let y = x.each b kept_here low in
+              (y.0, Contains-append_left es (more.entry ∷ []) y.0 y.1, y.2)
+          | inr high ↦
+              let e : base_at v b ≡ base = omega arith in
+              let same : k.number ≡ b = told.apart k.number b (unreleased_kept k.number k.storage.kept)
+              (unreleased_kept b kept_here) (k.is ∙ sym e) in
+              (more.entry, Contains-push es more.entry, subst (λ n. IsEntryOf c (world_in v) more.entry n) same entry)
+        ];
+      })
+    where
+      address : Kept → ℕ
+      address entry = entry.address
+
+      k : IsKeptAt c v base s
+      k = told.of_kept base s is
+
+      entry : IsEntryOf c (world_in v) more.entry k.number
+      entry = made_entry base s k more.entry more.made
+
+      at_base : more.entry.address ≡ 65536 + 8 * base
+      at_base = entry.address ∙ ap (λ n. 65536 + 8 * n) k.is
+
+      mapped : map address (es ++ more.entry ∷ []) ≡ map address es ++ more.entry.address ∷ []
+      mapped = map-append address es (more.entry ∷ [])
+
+      below_all : (i : ℕ) → i < length (es ++ more.entry ∷ [])
+          → slice_index (map address (es ++ more.entry ∷ [])) i < 65536 + 8 * (base + 1)
+      below_all i lt =
+          subst (λ (ns : List ℕ). slice_index ns i < 65536 + 8 * (base + 1)) (sym mapped)
+          (below_pushed (map address es) more.entry.address (65536 + 8 * (base + 1)) (let e = at_base in omega arith)
+          (λ j few.
+          let low : slice_index (map address es) j < 65536 + 8 * base =
+          x.below j (let size = length-map es address in omega arith) in
+          omega arith) i
+          (let size = length-map es address in let both = length-append es (more.entry ∷ []) in omega arith))
+
+pub no_entries : (c : Config) (v : View) → AreEntriesBelow c v 0 []
+no_entries c v =
+    record {
+      ascending = λ k lt. absurd (omega arith);
+      below = λ i lt. absurd (omega arith);
+      of_one = λ entry inside. let lt = inside.1 in absurd (omega arith);
+      each = λ b kept lt. absurd (omega arith);
+    }
+
+pub entries_more : (c : Config) (v : View) (found : List (Option Found)) (kept : List (Option Storage))
+    → IsTold c found kept v → (base : ℕ) (es fs : List Kept) → (at kept base ≡ None → fs ≡ es)
+    → ((s : Storage) → at kept base ≡ Some s → IsOneMore found s (at found base) es fs)
+    → AreEntriesBelow c v base es → AreEntriesBelow c v (base + 1) fs
+entries_more c v found kept told base es fs same more x = by (at kept base) refl
+  where
+    by : (o : Option Storage) → at kept base ≡ o → AreEntriesBelow c v (base + 1) fs
+    by None is =
+        subst (AreEntriesBelow c v (base + 1)) (sym (same is)) (entries_none c v found kept told base es is x)
+    by (Some s) is = entries_some c v found kept told base es fs s is (more s is) x

@@ -1,0 +1,258 @@
+-- What values point into, by lookup and used bits, and what is scanned of an allocation, by the header of its page.
+use Rattle.std.proofs.Common.{◌≡◌, ◌∙◌, ℕ, ◌+◌, ◌*◌, ◌/◌, ◌<◌, ◌≤◌, true, false, sym, ap, subst, inr, arith}
+use Rattle.std.specs.Prelude.{Option, None, Some}
+use Rattle.std.proofs.lemmas.Bool.{ne_eqb, true≢false}
+use Rattle.mk_geom.specs.declared.addresses.Cell.{Cell}
+use Rattle.mk_core.specs.declared.config.Config.{Config}
+use Rattle.mk_core.specs.Allocations.{PlacedAllocation, cell_of_allocation, placed_at, storage_of, storage_words}
+use Rattle.mk_core.specs.Cells.{first_word, has_no_pointers, header_in, is_used, pointed_cell, words_under}
+use Rattle.mk_core.specs.ClosedMarks.{is_scanned_allocation}
+use Rattle.mk_core.specs.History.{World, IsHistory, never_behind}
+use Rattle.mk_core.specs.Touched.{PointsIntoAllocation}
+use Rattle.mk_core.specs.StandingAllocations.{object_placed}
+use Rattle.mk_core.specs.Bits.{has_bit}
+use Rattle.mk_core.specs.Words.{header_at, phase_of, used_at}
+use Rattle.mk_core.proofs.PointedPages.{pointed_within}
+use Rattle.mk_geom.specs.Headers.{header_of}
+use Rattle.mk_core.proofs.Sizes.{words_within}
+use Rattle.mk_core.proofs.StandingAllocations.{cells_begin, typed_size}
+use Rattle.mk_layout.specs.SettledPages.{IsSettled, StandsUsed}
+use Rattle.mk_layout.proofs.Settled.{unreleased_are_apart}
+use Rattle.mk_images.proofs.KnownWorlds.{known_world}
+use Rattle.mk_invariant.proofs.Histories.{histories_keep_the_invariant}
+use Rattle.mk_invariant.proofs.Theorems.{allocations_are_disjoint, allocations_stand}
+use Rattle.mk_precision.proofs.Worlds.{Told, comes_back, hits}
+use Rattle.mk_words.specs.States.{PassState, WordsState, now_of, world_of}
+use Rattle.mk_sweep.proofs.ScannedCells.{scanned_stands, used_cell, used_is_taken}
+use Rattle.mk_zeros.proofs.MappedWords.{mapped_stays}
+use Rattle.std.proofs.lemmas.Bool.{and_parts}
+use Rattle.mk_core.specs.Allocations.{is_mapped}
+use Rattle.std.specs.Prelude.{not}
+use Rattle.mk_why.specs.Searching.{AreApart, AreScannedFrom, IsBase, IsBasePointed, PointsAtBase}
+use Rattle.mk_why.specs.Stops.{IsStill, base_at, view_by}
+
+module _ (p : PassState) (history : IsHistory p.table.config p.seen) (still : IsStill p) where
+  abbrev c : Config
+  c = p.table.config
+
+  abbrev w : World
+  w = world_of p
+
+  abbrev a : ℕ → PlacedAllocation
+  a b = placed_at (world_of p).allocations b
+
+  pub settled : IsSettled (world_of p)
+  settled =
+      record {
+        releasing = ne_eqb (phase_of (now_of p).words) 4 (λ e. let two = still.wanted in omega arith);
+        placing = still.free.unplaced;
+        gone = still.free.gone;
+      }
+
+  told : Told p.table.config (world_of p) (never_behind p.table.config p.seen)
+  told =
+      record {
+        known = known_world c p.seen history.within_limits history.enabled;
+        all = histories_keep_the_invariant c p.seen history;
+      }
+
+  stands : (b : ℕ) → (placed_at (world_of p).allocations b).released ≡ false
+      → StandsUsed p.table.config (world_of p) (placed_at (world_of p).allocations b)
+  stands b u = allocations_stand c p.seen history b u
+
+  -- what points into an allocation points into its cell
+  into_cell : (value b : ℕ) → PointsIntoAllocation p.table.config (world_of p) value b
+      → pointed_cell p.table.config.pages (now_of p).words.pages value
+      ≡ Some (cell_of_allocation p.table.config (placed_at (world_of p).allocations b))
+  into_cell value b points = hits c w (never_behind c p.seen) told b value points.0 points.1
+
+  pub none_pointed : (value : ℕ) → pointed_cell p.table.config.pages (now_of p).words.pages value ≡ None
+      → (b : ℕ) → PointsIntoAllocation p.table.config (world_of p) value b → ⊥
+  none_pointed value none b points = let some = into_cell value b points in cc
+
+  same_cell : (value b : ℕ) (cell : Cell)
+      → pointed_cell p.table.config.pages (now_of p).words.pages value ≡ Some cell
+      → PointsIntoAllocation p.table.config (world_of p) value b
+      → cell_of_allocation p.table.config (placed_at (world_of p).allocations b) ≡ cell
+  same_cell value b cell is points = let some = into_cell value b points in cc
+
+  pub unused_pointed : (value : ℕ) (cell : Cell)
+      → pointed_cell p.table.config.pages (now_of p).words.pages value ≡ Some cell
+      → is_used (now_of p).words cell ≡ false
+      → (b : ℕ) → PointsIntoAllocation p.table.config (world_of p) value b → ⊥
+  unused_pointed value cell is unused b points =
+      true≢false (sym (stands b points.0).used ∙ ap (is_used (now_of p).words) (same_cell value b cell is points)
+      ∙ unused)
+
+  pub used_pointed : (value : ℕ) (cell : Cell)
+      → pointed_cell p.table.config.pages (now_of p).words.pages value ≡ Some cell
+      → is_used (now_of p).words cell ≡ true
+      → PointsAtBase p.table.config (view_by p) value (first_word (now_of p).words cell)
+  used_pointed value cell is used =
+      let x = used_is_taken c p.seen history settled cell.page cell.index used in
+      let st = stands x.number x.unreleased in
+      let begins = cells_begin c (now_of p).words (a x.number) history.within_limits st.stands st.headers in
+      record {
+        number = x.number;
+        points = (
+          x.unreleased,
+          comes_back c w (never_behind c p.seen) told (inr still.wanted) x.number value x.unreleased
+              (is ∙ ap (λ (y : Cell). Some y) (sym x.is)),
+        );
+        is = sym begins.0 ∙ ap (first_word (now_of p).words) x.is;
+        only = λ b points. unreleased_are_apart c p.seen
+            (histories_keep_the_invariant c p.seen history).order.laid b x.number points.0 x.unreleased
+            (same_cell value b cell is points ∙ sym x.is);
+      }
+
+  -- What is scanned has a header that says so.
+  scanned_header : (b : ℕ) → is_scanned_allocation p.table.config (placed_at (world_of p).allocations b) ≡ true
+      → has_no_pointers (header_in (now_of p).words ((placed_at (world_of p).allocations b).base / 64)) ≡ false
+  scanned_header b is = (scanned_stands c p.seen history settled b is).scanned
+
+  words_there : (b : ℕ) → (placed_at (world_of p).allocations b).released ≡ false
+      → words_under (header_in (now_of p).words ((placed_at (world_of p).allocations b).base / 64))
+      ≡ storage_words p.table.config (placed_at (world_of p).allocations b)
+  words_there b u =
+      let st = stands b u in
+      (cells_begin c (now_of p).words (a b) history.within_limits st.stands st.headers).1
+
+  unreleased_of : (b : ℕ) → is_scanned_allocation p.table.config (placed_at (world_of p).allocations b) ≡ true
+      → (placed_at (world_of p).allocations b).released ≡ false
+  unreleased_of b is = mapped_stays c (a b) (and_parts (is_mapped c (a b)) (not (storage_of c (a b)).leaf) is).0
+
+  module _ (base : ℕ) (is : IsBase (view_by p) base) where
+    pub bare_whole : has_no_pointers (header_in (now_of p).words (base / 64)) ≡ true
+        → (b : ℕ) → base_at (view_by p) b ≡ base
+        → is_scanned_allocation p.table.config (placed_at (world_of p).allocations b) ≡ true
+        → 0 ≡ storage_words p.table.config (placed_at (world_of p).allocations b)
+    bare_whole bare b at scanned =
+        absurd (true≢false (sym bare ∙ ap (λ n. has_no_pointers (header_in (now_of p).words (n / 64))) (sym at)
+        ∙ scanned_header b scanned))
+
+    pub scanned_whole : (b : ℕ) → base_at (view_by p) b ≡ base
+        → is_scanned_allocation p.table.config (placed_at (world_of p).allocations b) ≡ true
+        → words_under (header_in (now_of p).words (base / 64))
+        ≡ storage_words p.table.config (placed_at (world_of p).allocations b)
+    scanned_whole b at scanned =
+        ap (λ n. words_under (header_in (now_of p).words (n / 64))) (sym at) ∙ words_there b (unreleased_of b scanned)
+
+    pub scanned_from : has_no_pointers (header_in (now_of p).words (base / 64)) ≡ false
+        → AreScannedFrom p.table.config (view_by p) base (words_under (header_in (now_of p).words (base / 64)))
+    scanned_from bare i lt =
+        let b = is.number in
+        let cell : Cell = cell_of_allocation c (a b) in
+        let x = used_cell c p.seen history settled cell.page cell.index (stands b is.unreleased).used
+        (ap (λ n. has_no_pointers (header_in (now_of p).words (n / 64))) is.is ∙ bare) in
+        let same : x.number ≡ b = unreleased_are_apart c p.seen
+        (histories_keep_the_invariant c p.seen history).order.laid x.number b (unreleased_of x.number x.scanned)
+        is.unreleased x.is in
+        let scanned : is_scanned_allocation c (a b) ≡ true =
+        subst (λ n. is_scanned_allocation c (a n) ≡ true) same x.scanned in
+        let whole : words_under (header_in (now_of p).words (base / 64)) ≡ storage_words c (a b) =
+        scanned_whole b is.is scanned in
+        let begins : (a b).base ≡ base = is.is in
+        (b, is.is, scanned, (omega arith, omega arith))
+
+    pub within_heap : base + words_under (header_in (now_of p).words (base / 64)) ≤ 64 * p.table.config.pages
+    within_heap =
+        let b = is.number in
+        let begins : (a b).base ≡ base = is.is in
+        let whole : words_under (header_in (now_of p).words (base / 64)) ≡ storage_words c (a b) =
+        ap (λ n. words_under (header_in (now_of p).words (n / 64))) (sym begins) ∙ words_there b is.unreleased in
+        let end = (stands b is.unreleased).stands.within in
+        omega arith
+
+    pub begins_within : base < 64 * p.table.config.pages
+    begins_within =
+        let b = is.number in
+        let begins : (a b).base ≡ base = is.is in
+        let st = stands b is.unreleased in
+        let some = (words_within (object_placed c (a b)) (typed_size c (a b) history.within_limits st.stands.typed)).0 in
+        let end = st.stands.within in
+        omega arith
+
+  pub apart : AreApart (view_by p)
+  apart i j u v same =
+      let si = stands i u in
+      let sj = stands j v in
+      let some = (words_within (object_placed c (a i)) (typed_size c (a i) history.within_limits si.stands.typed)).0 in
+      let more = (words_within (object_placed c (a j)) (typed_size c (a j) history.within_limits sj.stands.typed)).0 in
+      allocations_are_disjoint c p.seen history i j (a i).base u v (omega arith, omega arith) (omega arith, omega arith)
+
+-- By the configuration of the words, and what looks found of the view.
+module _ (p : PassState) (history : IsHistory p.table.config p.seen) (still : IsStill p) (k : WordsState)
+    (same : p.table ≡ k) (value : ℕ) where
+  pointed_here : (cell : Option Cell) → cell ≡ pointed_cell k.config.pages (view_by p).words.pages value
+      → pointed_cell p.table.config.pages (now_of p).words.pages value ≡ cell
+  pointed_here cell is =
+      ap (λ (t : WordsState). pointed_cell t.config.pages (view_by p).words.pages value) same ∙ sym is
+
+  pub none_at : None ≡ pointed_cell k.config.pages (view_by p).words.pages value
+      → IsBasePointed k.config (view_by p) value None
+  none_at is =
+      subst (λ (t : WordsState). IsBasePointed t.config (view_by p) value None) same
+      (none_pointed p history still value (pointed_here None is))
+
+  module _ (cell : Cell) (is : Some cell ≡ pointed_cell k.config.pages (view_by p).words.pages value) (used : ℕ)
+      (found : used ≡ used_at (view_by p).words cell.page) where
+    pub none_at_unused : has_bit used cell.index ≡ false → IsBasePointed k.config (view_by p) value None
+    none_at_unused unused =
+        subst (λ (t : WordsState). IsBasePointed t.config (view_by p) value None) same
+        (unused_pointed p history still value cell (pointed_here (Some cell) is)
+        (ap (λ n. has_bit n cell.index) (sym found) ∙ unused))
+
+    pub some_at_used : has_bit used cell.index ≡ true → (header size : ℕ)
+        → header ≡ header_at (view_by p).words cell.page → size ≡ words_under (header_of header)
+        → PointsAtBase k.config (view_by p) value (64 * cell.page + cell.index * size)
+    some_at_used has header size shown under =
+        subst (λ (t : WordsState). PointsAtBase t.config (view_by p) value (64 * cell.page + cell.index * size)) same
+        (subst (λ n. PointsAtBase p.table.config (view_by p) value (64 * cell.page + cell.index * n))
+        (sym (under ∙ ap (λ h. words_under (header_of h)) shown))
+        (used_pointed p history still value cell (pointed_here (Some cell) is)
+        (ap (λ n. has_bit n cell.index) (sym found) ∙ has)))
+
+  pub cell_within : (cell : Cell) → Some cell ≡ pointed_cell k.config.pages (view_by p).words.pages value
+      → (cell.page < k.config.pages) × (cell.index < 64)
+  cell_within cell is = pointed_within k.config.pages (view_by p).words value cell (sym is)
+
+module _ (p : PassState) (history : IsHistory p.table.config p.seen) (still : IsStill p) (k : WordsState)
+    (same : p.table ≡ k) (base : ℕ) (is : IsBase (view_by p) base) where
+  pub begins_at : base < 64 * k.config.pages
+  begins_at = subst (λ (t : WordsState). base < 64 * t.config.pages) same (begins_within p history still base is)
+
+  module _ (header : ℕ) (shown : header ≡ header_at (view_by p).words (base / 64)) where
+    pub bare_at : has_no_pointers (header_of header) ≡ true → (b : ℕ) → base_at (view_by p) b ≡ base
+        → is_scanned_allocation k.config (placed_at (view_by p).allocations b) ≡ true
+        → 0 ≡ storage_words k.config (placed_at (view_by p).allocations b)
+    bare_at bare =
+        subst (λ (t : WordsState). (b : ℕ) → base_at (view_by p) b ≡ base
+        → is_scanned_allocation t.config (placed_at (view_by p).allocations b) ≡ true
+        → 0 ≡ storage_words t.config (placed_at (view_by p).allocations b)) same
+        (bare_whole p history still base is (ap (λ h. has_no_pointers (header_of h)) (sym shown) ∙ bare))
+
+    size_is : (size : ℕ) → size ≡ words_under (header_of header)
+        → size ≡ words_under (header_in (now_of p).words (base / 64))
+    size_is size under = under ∙ ap (λ h. words_under (header_of h)) shown
+
+    pub scanned_at : has_no_pointers (header_of header) ≡ false → (size : ℕ) → size ≡ words_under (header_of header)
+        → AreScannedFrom k.config (view_by p) base size
+    scanned_at bare size under =
+        subst (λ (t : WordsState). AreScannedFrom t.config (view_by p) base size) same
+        (subst (λ n. AreScannedFrom p.table.config (view_by p) base n) (sym (size_is size under))
+        (scanned_from p history still base is (ap (λ h. has_no_pointers (header_of h)) (sym shown) ∙ bare)))
+
+    pub whole_at : (size : ℕ) → size ≡ words_under (header_of header) → (b : ℕ) → base_at (view_by p) b ≡ base
+        → is_scanned_allocation k.config (placed_at (view_by p).allocations b) ≡ true
+        → size ≡ storage_words k.config (placed_at (view_by p).allocations b)
+    whole_at size under =
+        subst (λ (t : WordsState). (b : ℕ) → base_at (view_by p) b ≡ base
+        → is_scanned_allocation t.config (placed_at (view_by p).allocations b) ≡ true
+        → size ≡ storage_words t.config (placed_at (view_by p).allocations b)) same
+        (λ b at scanned. size_is size under ∙ scanned_whole p history still base is b at scanned)
+
+    pub within_at : (size : ℕ) → size ≡ words_under (header_of header) → base + size ≤ 64 * k.config.pages
+    within_at size under =
+        subst (λ (t : WordsState). base + size ≤ 64 * t.config.pages) same
+        (subst (λ n. base + n ≤ 64 * p.table.config.pages) (sym (size_is size under))
+        (within_heap p history still base is))

@@ -1,0 +1,79 @@
+-- What is done behind the scan of an allocation's words.
+use Rattle.std.proofs.Common.{◌≡◌, ◌∙◌, ℕ, ◌+◌, ◌-◌, ◌<◌, ◌≤◌, true, List, refl, sym, ap, subst, inl, inr, arith, length}
+use Rattle.std.specs.Prelude.{Option, None, Some, count_by, is_some, slice_index, slice_index_or}
+use Rattle.std.proofs.lemmas.Bool.{cases_lt}
+use Rattle.std.proofs.lemmas.List.{get_or_past, get_or_read_under}
+use Rattle.std.proofs.lemmas.List.Sums.{count_by-le-length}
+use Rattle.mk_core.specs.declared.config.Config.{Config}
+use Rattle.mk_core.specs.Allocations.{placed_at, storage_words}
+use Rattle.mk_core.specs.ClosedMarks.{is_scanned_allocation}
+use Rattle.mk_why.specs.declared.found.Found.{Found}
+use Rattle.mk_why.specs.declared.tables.Tables.{Tables}
+use Rattle.mk_why.specs.Searching.{IsBase, IsDone, IsFoundThrough, IsNoted, IsSearch, at, links_in, links_of}
+use Rattle.mk_why.specs.Stops.{View, base_at}
+
+-- What a table has stands in it.
+pub within_table : {A : Type 0} → (xs : List (Option A)) (i : ℕ) (x : A) → slice_index_or xs i None ≡ Some x
+    → i < length xs
+within_table {A} xs i x is = elim (cases_lt i (length xs)) [
+  | inl lt ↦ lt
+  | inr past ↦ let none : slice_index_or xs i None ≡ None = get_or_past xs i None past in absurd cc
+]
+
+pub done_from : (c : Config) (v : View) (found : List (Option Found)) (base size links : ℕ)
+    → IsFoundThrough found base links
+    → ((b : ℕ) → base_at v b ≡ base → is_scanned_allocation c (placed_at v.allocations b) ≡ true
+    → size ≡ storage_words c (placed_at v.allocations b))
+    → ((i : ℕ) → i < size → IsNoted c v found (slice_index v.words.heap (base + i)) (links + 1))
+    → IsDone c v found base
+done_from c v found base size links through whole noted a n begins scanned word =
+    let all = whole a begins scanned in
+    let low = word.0 in
+    let high = word.1 in
+    let first : (placed_at v.allocations a).base ≡ base = begins in
+    let here : base + (n - base) ≡ n = omega arith in
+    let few : n - base < size = omega arith in
+    let same : links_in (at found base) ≡ links = ap links_in through.there ∙ through.through in
+    subst (λ k. IsNoted c v found (slice_index v.words.heap n) (k + 1)) (sym same)
+    (subst (λ j. IsNoted c v found (slice_index v.words.heap j) (links + 1)) here (noted (n - base) few))
+
+module _ (c : Config) (v : View) (r : Tables) (place limit : ℕ) (search : IsSearch c v r limit) (known : place < r.count)
+  where
+    pub queued_within : slice_index r.queue.items place < length r.found.items
+    queued_within =
+        let x = search.entries place known in
+        within_table r.found.items (slice_index r.queue.items place) x.entry x.there
+
+    pub queued_base : IsBase v (slice_index r.queue.items place)
+    queued_base =
+        let x = search.entries place known in
+        let y = search.ways (slice_index r.queue.items place) x.entry x.there in
+        record { number = y.number; unreleased = y.unreleased; is = y.is }
+
+    module _ (base : ℕ) (is : base ≡ slice_index r.queue.items place) (f : Found) (there : at r.found.items base ≡ Some f)
+      where
+        pub links_there : links_of r place ≡ f.links
+        links_there = ap (λ n. links_in (at r.found.items n)) (sym is) ∙ ap links_in there
+
+        pub one_more_fits : f.links + 1 ≤ r.count
+        one_more_fits = let few = search.shallow place known in let same = links_there in omega arith
+
+-- The queue has room for all that was found.
+pub count_fits : (r : Tables) → r.count ≤ length r.queue.items
+count_fits r =
+    let few : count_by is_some r.found.items ≤ length r.found.items = count_by-le-length is_some r.found.items in
+    let full = r.full in
+    let size = r.queues in
+    omega arith
+
+-- what is read there
+pub queue_read : (r : Tables) (place x : ℕ) → x ≡ slice_index_or r.queue.items place x → place < r.count
+    → x ≡ slice_index r.queue.items place
+queue_read r place x is known =
+    let fits = count_fits r in
+    get_or_read_under r.queue.items place (length r.queue.items) x 0 is (omega arith) refl
+
+pub entry_read : (r : Tables) (base : ℕ) (o : Option Found) (f : Found) → o ≡ slice_index_or r.found.items base o
+    → base < length r.found.items → o ≡ Some f → at r.found.items base ≡ Some f
+entry_read r base o f is lt some =
+    sym (get_or_read_under r.found.items base (length r.found.items) o None is lt refl) ∙ some

@@ -1,0 +1,327 @@
+-- The search, one note after the other: what was found stays, and the queue rises.
+use Rattle.std.proofs.Common.{◌≡◌, ◌≢◌, ◌⊎◌, ◌∙◌, ℕ, ◌+◌, ◌*◌, ◌<◌, ◌≤◌, true, false, List, refl, sym, ap, subst, inl, inr, arith, length}
+use Rattle.std.specs.Prelude.{Option, None, Some, is_some, slice_index, slice_set}
+use borrow.Author.Count.{below_more}
+use Rattle.std.proofs.lemmas.Bool.{cases_Bool, cases_eq, cases_lt, true≢false}
+use Rattle.std.proofs.lemmas.List.{get_or-set_other, get_or-set_same, length-set}
+use Rattle.mk_core.specs.declared.config.Config.{Config}
+use Rattle.mk_words.specs.States.{TurnState}
+use Rattle.mk_why.specs.declared.found.Found.{Found}
+use Rattle.mk_why.specs.declared.found.Way.{Way}
+use Rattle.mk_why.specs.declared.found.Way.TheVariants.{Link, Start}
+use Rattle.mk_why.specs.declared.tables.Tables.{Tables}
+use Rattle.mk_why.specs.Searching.{AreWays, Grows, IsFound, IsFoundAt, IsFoundThrough, IsNoted, IsQueued, IsSearch, IsWay, IsWithin, SearchesOn, at, links_in, links_of}
+use Rattle.mk_why.specs.Stops.{IsStill, LooksOn, View, base_at, view_by}
+use Rattle.mk_why.proofs.Looks.{looks_at_nothing, looks_then}
+
+abbrev pub Stays : List (Option Found) → List (Option Found) → Type 0
+Stays found more = (base : ℕ) (f : Found) → at found base ≡ Some f → at more base ≡ Some f
+
+-- What was found stays so.
+
+way_stays : (c : Config) (v : View) (found more : List (Option Found)) → Stays found more
+    → (way : Way) (links b : ℕ) → IsWay c v found way links b → IsWay c v more way links b
+way_stays c v found more stays (Start root) links b way = way
+way_stays c v found more stays (Link link from) links b way =
+    record {
+      number = way.number;
+      begins = way.begins;
+      onward = way.onward;
+      before = way.before;
+      there = stays from way.before way.there;
+      one_more = way.one_more;
+    }
+
+found_stays : (c : Config) (v : View) (found more : List (Option Found)) → Stays found more → (base : ℕ) (f : Found)
+    → IsFoundAt c v found base f → IsFoundAt c v more base f
+found_stays c v found more stays base f x =
+    record {
+      number = x.number;
+      unreleased = x.unreleased;
+      is = x.is;
+      way = way_stays c v found more stays f.way f.links x.number x.way;
+    }
+
+pub within_stays : (found more : List (Option Found)) → Stays found more → (base limit : ℕ)
+    → IsWithin found base limit → IsWithin more base limit
+within_stays found more stays base limit x =
+    record { entry = x.entry; there = stays base x.entry x.there; near = x.near }
+
+pub noted_stays : (c : Config) (v : View) (found more : List (Option Found)) → Stays found more → (value limit : ℕ)
+    → IsNoted c v found value limit → IsNoted c v more value limit
+noted_stays c v found more stays value limit x b points =
+    within_stays found more stays (base_at v b) limit (x b points)
+
+pub through_stays : (found more : List (Option Found)) → Stays found more → (base links : ℕ)
+    → IsFoundThrough found base links → IsFoundThrough more base links
+through_stays found more stays base links x =
+    record { entry = x.entry; there = stays base x.entry x.there; through = x.through }
+
+pub same_links : (found more : List (Option Found)) → Stays found more → (base : ℕ) → IsFound found base
+    → links_in (at more base) ≡ links_in (at found base)
+same_links found more stays base x =
+    ap links_in (stays base x.entry x.there) ∙ sym (ap links_in x.there)
+
+pub links_stay : (r s : Tables) → Grows r s → (i : ℕ) → i < r.count
+    → IsFound r.found.items (slice_index r.queue.items i) → links_of s i ≡ links_of r i
+links_stay r s g i lt x =
+    ap (λ n. links_in (at s.found.items n)) (g.same i lt)
+    ∙ same_links r.found.items s.found.items g.stays (slice_index r.queue.items i) x
+
+-- It grows by nothing, and by one part behind another.
+
+pub grows_nothing : (r : Tables) → Grows r r
+grows_nothing r = record { stays = λ base f h. h; same = λ i lt. refl; further = omega arith }
+
+pub grows_then : (r s x : Tables) → Grows r s → Grows s x → Grows r x
+grows_then r s x one two =
+    record {
+      stays = λ base f h. two.stays base f (one.stays base f h);
+      same = λ i lt. two.same i (let more = one.further in omega arith) ∙ one.same i lt;
+      further = let a = one.further in let b = two.further in omega arith;
+    }
+
+pub searches_nothing : (c : Config) (t : TurnState) (r : Tables) (limit : ℕ) → IsStill t.pass
+    → IsSearch c (view_by t.pass) r limit → SearchesOn c t t r r limit
+searches_nothing c t r limit still search =
+    record { on = looks_at_nothing t still; search = search; grows = grows_nothing r }
+
+pub searches_then : (c : Config) (t u v : TurnState) (r s x : Tables) (limit : ℕ) → SearchesOn c t u r s limit
+    → SearchesOn c u v s x limit → SearchesOn c t v r x limit
+searches_then c t u v r s x limit one two =
+    record {
+      on = looks_then t u v one.on two.on;
+      search = subst (λ (y : View). IsSearch c y x limit) one.on.view two.search;
+      grows = grows_then r s x one.grows two.grows;
+    }
+
+-- Looks before a part leave it.
+pub looks_search : (c : Config) (t u v : TurnState) (r s : Tables) (limit : ℕ) → LooksOn t u
+    → SearchesOn c u v r s limit → SearchesOn c t v r s limit
+looks_search c t u v r s limit on two =
+    record {
+      on = looks_then t u v on two.on;
+      search = subst (λ (y : View). IsSearch c y s limit) on.view two.search;
+      grows = two.grows;
+    }
+
+pub view_search : (c : Config) (t u : TurnState) (r : Tables) (limit : ℕ) → LooksOn t u
+    → IsSearch c (view_by t.pass) r limit → IsSearch c (view_by u.pass) r limit
+view_search c t u r limit on search = subst (λ (y : View). IsSearch c y r limit) (sym on.view) search
+
+pub part_noted : (c : Config) (t u : TurnState) (found : List (Option Found)) (value : View → ℕ) (limit : ℕ)
+    → LooksOn t u → IsNoted c (view_by u.pass) found (value (view_by u.pass)) limit
+    → IsNoted c (view_by t.pass) found (value (view_by t.pass)) limit
+part_noted c t u found value limit on noted =
+    subst (λ (y : View). IsNoted c y found (value y) limit) on.view noted
+
+-- what values point into, one value more
+pub more_noted : (c : Config) (v : View) (found more : List (Option Found)) → Stays found more → (value : ℕ → ℕ)
+    (limit i : ℕ) → ((k : ℕ) → k < i → IsNoted c v found (value k) limit) → IsNoted c v more (value i) limit
+    → (k : ℕ) → k < i + 1 → IsNoted c v more (value k) limit
+more_noted c v found more stays value limit i before here =
+    below_more (λ k. IsNoted c v more (value k) limit) i
+    (λ k lt. noted_stays c v found more stays (value k) limit (before k lt)) here
+
+-- Another limit.
+pub limit_of : (c : Config) (v : View) (r : Tables) (limit more : ℕ) → IsSearch c v r limit
+    → ((i : ℕ) → i < r.count → links_of r i ≤ more) → IsSearch c v r more
+limit_of c v r limit more search below =
+    record {
+      size = search.size;
+      ways = search.ways;
+      entries = search.entries;
+      queued = search.queued;
+      rising = search.rising;
+      below = below;
+      shallow = search.shallow;
+    }
+
+-- One note more.
+module _ (c : Config) (v : View) (r s : Tables) (base : ℕ) (f : Found) (search : IsSearch c v r f.links)
+    (lt : base < length r.found.items) (none : is_some (at r.found.items base) ≡ false)
+    (found : s.found.items ≡ slice_set r.found.items base (Some f))
+    (queue : s.queue.items ≡ slice_set r.queue.items r.count base) (count : s.count ≡ r.count + 1)
+    (room : s.count ≤ length s.queue.items) where
+  pub there : at s.found.items base ≡ Some f
+  there = ap (λ (xs : List (Option Found)). at xs base) found ∙ get_or-set_same r.found.items base (Some f) None lt
+
+  elsewhere : (k : ℕ) → k ≢ base → at s.found.items k ≡ at r.found.items k
+  elsewhere k ne =
+      ap (λ (xs : List (Option Found)). at xs k) found ∙ get_or-set_other r.found.items base k (Some f) None ne
+
+  not_there : (k : ℕ) (g : Found) → at r.found.items k ≡ Some g → k ≢ base
+  not_there k g h e =
+      true≢false (ap is_some (sym h) ∙ ap (λ n. is_some (at r.found.items n)) e ∙ none)
+
+  last : slice_index s.queue.items r.count ≡ base
+  last =
+      ap (λ (xs : List ℕ). slice_index xs r.count) queue
+      ∙ get_or-set_same r.queue.items r.count base 0
+      (let size = ap (λ (xs : List ℕ). length xs) queue ∙ length-set r.queue.items r.count base in omega arith)
+
+  earlier : (i : ℕ) → i < r.count → slice_index s.queue.items i ≡ slice_index r.queue.items i
+  earlier i few =
+      ap (λ (xs : List ℕ). slice_index xs i) queue
+      ∙ get_or-set_other r.queue.items r.count i base 0 (λ e. absurd (omega arith))
+
+  pub note_grows : Grows r s
+  note_grows =
+      record {
+        stays = λ k g h. elsewhere k (not_there k g h) ∙ h;
+        same = earlier;
+        further = omega arith;
+      }
+
+  links_before : (i : ℕ) → i < r.count → links_of s i ≡ links_of r i
+  links_before i few = links_stay r s note_grows i few (search.entries i few)
+
+  links_last : links_of s r.count ≡ f.links
+  links_last = ap (λ n. links_in (at s.found.items n)) last ∙ ap links_in there
+
+  in_queue : (i : ℕ) → i < s.count → (i < r.count) ⊎ (i ≡ r.count)
+  in_queue i few = elim (cases_lt i r.count) [
+    | inl before ↦ inl before
+    | inr past ↦ inr (omega arith)
+  ]
+
+  links_there : (i : ℕ) → i < s.count
+      → ((i < r.count) × (links_of s i ≡ links_of r i)) ⊎ ((i ≡ r.count) × (links_of s i ≡ f.links))
+  links_there i few = elim (in_queue i few) [
+    | inl before ↦ inl (before, links_before i before)
+    | inr e ↦ inr (e, ap (λ n. links_of s n) e ∙ links_last)
+  ]
+
+  note_search : f.links ≤ r.count → IsFoundAt c v r.found.items base f → IsSearch c v s f.links
+  note_search shallow way =
+      record {
+        size = ap (λ (xs : List (Option Found)). length xs) found ∙ length_set ∙ search.size;
+        ways = ways;
+        entries = entries;
+        queued = queued;
+        rising = rising;
+        below = below;
+        shallow = at_most;
+      }
+    where
+      length_set : length (slice_set r.found.items base (Some f)) ≡ length r.found.items
+      length_set = length-set r.found.items base (Some f)
+
+      ways : AreWays c v s.found.items
+      ways k g h = elim (cases_eq k base) [
+        | inl e ↦
+            let both : Some g ≡ Some f = sym h ∙ ap (λ n. at s.found.items n) e ∙ there in
+            let same : g ≡ f = cc in
+            subst (λ (y : Found). IsFoundAt c v s.found.items k y) (sym same)
+            (subst (λ n. IsFoundAt c v s.found.items n f) (sym e)
+            (found_stays c v r.found.items s.found.items note_grows.stays base f way))
+        | inr ne ↦
+            found_stays c v r.found.items s.found.items note_grows.stays k g
+            (search.ways k g (sym (elsewhere k ne) ∙ h))
+      ]
+
+      entries : (i : ℕ) → i < s.count → IsFound s.found.items (slice_index s.queue.items i)
+      entries i few = elim (in_queue i few) [
+        | inl before ↦
+            let x = search.entries i before in
+            record {
+              entry = x.entry;
+              there = ap (λ n. at s.found.items n) (earlier i before)
+                  ∙ note_grows.stays (slice_index r.queue.items i) x.entry x.there;
+            }
+        | inr e ↦
+            record {
+              entry = f;
+              there = ap (λ n. at s.found.items (slice_index s.queue.items n)) e ∙ ap (λ n. at s.found.items n) last
+                  ∙ there;
+            }
+      ]
+
+      queued : (k : ℕ) → IsFound s.found.items k → IsQueued s k
+      queued k x = elim (cases_eq k base) [
+        | inl e ↦ record { place = r.count; known = omega arith; is = last ∙ sym e }
+        | inr ne ↦
+            let q = search.queued k (record { entry = x.entry; there = sym (elsewhere k ne) ∙ x.there }) in
+            record { place = q.place; known = let low = q.known in omega arith; is = earlier q.place q.known ∙ q.is }
+      ]
+
+      rising : (i j : ℕ) → i ≤ j → j < s.count → links_of s i ≤ links_of s j
+      rising i j le few = elim (links_there j few) [
+        | inl y ↦
+            let first : i < r.count = let low = y.0 in omega arith in
+            let a = links_before i first in
+            let b = y.1 in
+            let c = search.rising i j le y.0 in
+            omega arith
+        | inr y ↦ elim (links_there i (let e = y.0 in omega arith)) [
+          | inl x ↦ let a = x.1 in let b = y.1 in let c = search.below i x.0 in omega arith
+          | inr x ↦ let a = x.1 in let b = y.1 in omega arith
+        ]
+      ]
+
+      below : (i : ℕ) → i < s.count → links_of s i ≤ f.links
+      below i few = elim (links_there i few) [
+        | inl x ↦ let a = x.1 in let b = search.below i x.0 in omega arith
+        | inr x ↦ let a = x.1 in omega arith
+      ]
+
+      at_most : (i : ℕ) → i < s.count → links_of s i ≤ i
+      at_most i few = elim (links_there i few) [
+        | inl x ↦ let a = x.1 in let b = search.shallow i x.0 in omega arith
+        | inr x ↦ let a = x.1 in let e = x.0 in omega arith
+      ]
+
+-- What a note leaves, whether the allocation was found before or not.
+pub record Notes (c : Config) (v : View) (r s : Tables) (base limit : ℕ) : Type 0 where
+  pub search : IsSearch c v s limit
+  pub grows : Grows r s
+  pub within : IsWithin s.found.items base limit
+
+pub notes : (c : Config) (v : View) (r s : Tables) (base : ℕ) (f : Found) → IsSearch c v r f.links
+    → base < length r.found.items → (is_some (at r.found.items base) ≡ true → s ≡ r)
+    → (is_some (at r.found.items base) ≡ false → s.found.items ≡ slice_set r.found.items base (Some f))
+    → (is_some (at r.found.items base) ≡ false → s.queue.items ≡ slice_set r.queue.items r.count base)
+    → (is_some (at r.found.items base) ≡ false → s.count ≡ r.count + 1) → s.count ≤ length s.queue.items
+    → f.links ≤ r.count → IsFoundAt c v r.found.items base f → Notes c v r s base f.links
+notes c v r s base f search lt known noted last more room shallow way =
+    elim (cases_Bool (is_some (at r.found.items base))) [
+      | inl there ↦
+          subst (λ (x : Tables). Notes c v r x base f.links) (sym (known there))
+          (record {
+            search = search;
+            grows = grows_nothing r;
+            within = before (at r.found.items base) refl there;
+          })
+      | inr none ↦
+          let new = there c v r s base f search lt none (noted none) (last none) (more none) room in
+          record {
+            search = note_search c v r s base f search lt none (noted none) (last none) (more none) room shallow way;
+            grows = note_grows c v r s base f search lt none (noted none) (last none) (more none) room;
+            within = record { entry = f; there = new; near = omega arith };
+          }
+    ]
+  where
+    before : (x : Option Found) → at r.found.items base ≡ x → is_some x ≡ true → IsWithin r.found.items base f.links
+    before None e h = absurd (true≢false (sym h))
+    before (Some g) e h =
+        let q = search.queued base (record { entry = g; there = e }) in
+        let low = search.below q.place q.known in
+        let same : links_of r q.place ≡ g.links = ap (λ n. links_in (at r.found.items n)) q.is ∙ ap links_in e in
+        record { entry = g; there = e; near = omega arith }
+
+-- Before the first note.
+pub empty_search : (c : Config) (v : View) (r : Tables) → length r.found.items ≡ 64 * c.pages
+    → ((base : ℕ) → at r.found.items base ≡ None) → r.count ≡ 0 → IsSearch c v r 0
+empty_search c v r size none empty =
+    record {
+      size = size;
+      ways = λ base f h. absurd (unfound base f h);
+      entries = λ i lt. absurd (omega arith);
+      queued = λ base x. absurd (unfound base x.entry x.there);
+      rising = λ i j le lt. absurd (omega arith);
+      below = λ i lt. absurd (omega arith);
+      shallow = λ i lt. absurd (omega arith);
+    }
+  where
+    unfound : (base : ℕ) (f : Found) → at r.found.items base ≡ Some f → ⊥
+    unfound base f h = let e = none base in cc

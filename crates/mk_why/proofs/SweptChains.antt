@@ -1,0 +1,31 @@
+-- What chains lead to is swept, link by link.
+use Rattle.std.proofs.Common.{ℕ, ◌+◌, ◌*◌, List, [], ◌∷◌, refl, subst}
+use Rattle.std.specs.Prelude.{slice_index}
+use Rattle.mk_core.specs.declared.config.Config.{Config}
+use Rattle.mk_core.specs.History.{World}
+use Rattle.mk_sweep.specs.Swept.{IsSwept, IsSweptValue, InGlobal, InRegister, InWord}
+use Rattle.mk_why.specs.declared.kept.Root.{Root}
+use Rattle.mk_why.specs.declared.kept.Root.TheVariants.{Global, Register}
+use Rattle.mk_why.specs.Chains.{LeadsTo, word_of_root}
+use Rattle.mk_why.specs.SweptChains.{ChainsAreSwept}
+
+root_swept : (c : Config) (w : World) (root : Root) → IsSweptValue c w (word_of_root w.now.words root)
+root_swept c w (Register caller register) = InRegister (8 * caller + register) refl
+root_swept c w (Global global) = InGlobal global refl
+
+links_swept : (c : Config) (w : World) (links : List ℕ) (a b : ℕ) → LeadsTo c w a links b → IsSwept c w a
+    → IsSwept c w b
+links_swept c w [] a b leads x = subst (λ n. IsSwept c w n) leads x
+links_swept c w (link ∷ links) a b leads x =
+    let l = leads.1 in
+    links_swept c w links leads.0 b leads.2
+    (record {
+      value = slice_index w.now.words.heap l.word;
+      found = InWord l.word (record { number = a; scanned = l.scanned; word = l.of_the_one }) refl;
+      points = l.to_the_other;
+    })
+
+pub chains_are_swept : ChainsAreSwept
+chains_are_swept c w root links b chain =
+    links_swept c w links chain.first b chain.leads
+    (record { value = word_of_root w.now.words root; found = root_swept c w root; points = chain.points })

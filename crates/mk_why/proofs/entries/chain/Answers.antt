@@ -1,0 +1,31 @@
+use Rattle.std.proofs.Common.{◌∙◌, ℕ, List, sym, subst}
+use Rattle.std.specs.Prelude.{Option}
+use Rattle.mk_why.specs.declared.kept.Root.{Root}
+use Rattle.mk_why.specs.Entries.{IsLed, IsLedBack, root_of}
+use Rattle.mk_why.proofs.MadeEntries.{led_first, led_more, led_to_root}
+use Rattle.mk_why.proofs.entries.chain.Goals as goal
+
+pub loop-link-init : goal.loop-link-init
+loop-link-init c = record {
+  led = λ k v b ways apart way.
+      subst (λ (ls : List ℕ). IsLedBack k v c.args.tables.now.found.items c.args.found ls b c.args.found.links)
+      (sym c.new-links.ensures.items) (led_first k v c.args.tables.now.found.items c.args.found b way);
+}
+
+pub loop-link-preserved : goal.loop-link-preserved
+loop-link-preserved c = record {
+  led = λ k v b ways apart way.
+      subst (λ (ls : List ℕ). IsLedBack k v c.args.tables.now.found.items c.in-Some.before ls b c.args.found.links)
+      (sym c.in_ok-append.ensures)
+      (led_more k v c.args.tables.now.found.items ways apart c.loop-link.current c.loop-link.links.items b
+      c.args.found.links (c.loop-link.invariant.led k v b ways apart way) c.in-Some.link c.in-Some.before
+      (sym c.step_back.ensures.exact ∙ c.in-Some.is));
+}
+
+pub returns : goal.returns
+returns c k v b ways apart way =
+    subst (λ (o : Option Root). IsLed k v b c.args.found.links o c.reverse.new.self.items) (sym c.root_of.ensures)
+    (subst (λ (ls : List ℕ). IsLed k v b c.args.found.links (root_of c.loop-link.current.way) ls) (sym c.reverse.ensures.items)
+    (led_to_root k v c.args.tables.now.found.items ways apart c.loop-link.current c.loop-link.links.items b
+    c.args.found.links (c.loop-link.invariant.led k v b ways apart way)
+    (sym c.step_back.ensures.exact ∙ c.in_default.is)))

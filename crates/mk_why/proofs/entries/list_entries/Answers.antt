@@ -1,0 +1,26 @@
+use Rattle.std.proofs.Common.{◌≡◌, ◌∙◌, length, ap, arith, subst, sym}
+use Rattle.mk_why.specs.Entries.{AreEntriesBelow}
+use Rattle.mk_why.proofs.MadeEntries.{entries_more, no_entries}
+use Rattle.mk_why.proofs.entries.list_entries.Goals as goal
+
+pub loop-base-init : goal.loop-base-init
+loop-base-init c = record {
+  below = λ k v told. subst (AreEntriesBelow k v 0) (sym c.new-entries.ensures.items) (no_entries k v);
+  none = λ none. c.new-entries.ensures.items;
+}
+
+pub loop-base-preserved : goal.loop-base-preserved
+loop-base-preserved c = record {
+  below = λ k v told. entries_more k v c.args.tables.now.found.items c.args.tables.now.kept.items told
+      c.loop-base.base c.loop-base.entries.items c.push_entry.new.entries.items
+      (λ none. ap (λ entries. entries.items) (c.in_ok-push_entry.ensures.none none))
+      c.in_ok-push_entry.ensures.more (c.loop-base.invariant.below k v told);
+  none = λ none. ap (λ entries. entries.items) (c.in_ok-push_entry.ensures.none (none c.loop-base.base))
+      ∙ c.loop-base.invariant.none none;
+}
+
+pub returns-clause-kept : goal.returns-clause-kept
+returns-clause-kept c k v told =
+    let end = c.loop-base-test.false in
+    let at_end : c.loop-base.base ≡ length c.args.tables.now.kept.items = omega arith in
+    subst (λ n. AreEntriesBelow k v n c.loop-base.entries.items) at_end (c.loop-base.invariant.below k v told)

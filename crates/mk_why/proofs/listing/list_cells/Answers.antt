@@ -1,0 +1,57 @@
+use Rattle.std.proofs.Common.{◌∙◌, ℕ, sym, arith}
+use Rattle.mk_why.specs.Stops.{view_by}
+use Rattle.mk_why.proofs.Lists.{cells_more, has_kept_at, kept_at, lists_cell, lists_nothing, lists_then}
+use Rattle.mk_why.proofs.listing.list_cells.Goals as goal
+
+pub loop-index-init : goal.loop-index-init
+loop-index-init c = record {
+  on = lists_nothing c.args.words.now.config (view_by c.args.stop.now.pass) c.args.tables.now c.requires.of_kept;
+  listed = λ b kept at_page lt. absurd (omega arith);
+}
+
+pub list_cell-requires-clause-within : goal.list_cell-requires-clause-within
+list_cell-requires-clause-within c in_snapshot marked =
+    let x = kept_at c.args.stop.now.pass c.is_in_order.ensures.history c.requires.still c.args.words.now
+    c.requires.one_table c.args.page c.args.header c.args.snapshot c.args.marks c.words_under-size.result
+    c.requires.header c.requires.snapshot c.requires.marks c.words_under-size.ensures.exact c.loop-index.index
+    (sym c.has_bit.ensures ∙ in_snapshot) (sym c.has_bit-in-loop-index.ensures ∙ marked) in
+    let low = x.within in
+    let size = c.loop-index.invariant.on.size ∙ c.requires.size in
+    omega arith
+
+pub loop-index-preserved : goal.loop-index-preserved
+loop-index-preserved c =
+    let k = c.args.words.now.config in
+    let v = view_by c.args.stop.now.pass in
+    let r = c.loop-index.tables in
+    let s = c.list_cell.new.tables in
+    let index : ℕ = c.loop-index.index in
+    let size : ℕ = c.words_under-size.result in
+    let one = lists_cell k v r s (record { page = c.args.page; index = c.loop-index.index }) c.words_under-size.result
+    c.has_bit.result c.has_bit-in-loop-index.result c.loop-index.invariant.on.of_kept
+    (c.loop-index.invariant.on.size ∙ c.requires.size)
+    (λ in_snapshot marked. kept_at c.args.stop.now.pass c.is_in_order.ensures.history c.requires.still
+    c.args.words.now c.requires.one_table c.args.page c.args.header c.args.snapshot c.args.marks
+    c.words_under-size.result c.requires.header c.requires.snapshot c.requires.marks
+    c.words_under-size.ensures.exact c.loop-index.index (sym c.has_bit.ensures ∙ in_snapshot)
+    (sym c.has_bit-in-loop-index.ensures ∙ marked))
+    c.list_cell.ensures.found c.list_cell.ensures.kept c.list_cell.ensures.outside c.list_cell.ensures.unmarked in
+    record {
+      on = lists_then k v c.args.tables.now r s c.loop-index.invariant.on one.on;
+      listed = cells_more k v r s c.args.page c.words_under-size.result _ c.args.snapshot c.args.marks
+          c.loop-index.index c.has_bit.result c.has_bit-in-loop-index.result c.has_bit.ensures c.has_bit-in-loop-index.ensures
+          (has_kept_at c.args.stop.now.pass c.is_in_order.ensures.history c.requires.still c.args.words.now
+          c.requires.one_table c.args.page c.args.header c.args.snapshot c.args.marks c.words_under-size.result
+          c.requires.header c.requires.snapshot c.requires.marks c.words_under-size.ensures.exact)
+          c.loop-index.invariant.listed one;
+    }
+
+pub returns-clause-listed : goal.returns-clause-listed
+returns-clause-listed c b kept at_page =
+    let x = has_kept_at c.args.stop.now.pass c.is_in_order.ensures.history c.requires.still c.args.words.now
+    c.requires.one_table c.args.page c.args.header c.args.snapshot c.args.marks c.words_under-size.result
+    c.requires.header c.requires.snapshot c.requires.marks c.words_under-size.ensures.exact b kept at_page in
+    let low = x.known in
+    let count = c.cells_under-index-end.ensures.exact in
+    let end = c.loop-index-test.false in
+    c.loop-index.invariant.listed b kept at_page (omega arith)

@@ -1,0 +1,15 @@
+use Rattle.std.proofs.Common.{◌≡◌, ℕ, ◌<◌, true}
+use Rattle.mk_core.specs.Allocations.{cell_of_allocation, placed_at}
+use Rattle.mk_why.specs.Chains.{is_kept}
+use Rattle.mk_why.specs.Listing.{IsListed, ListsOn}
+use Rattle.mk_why.specs.Stops.{LooksOn, base_at, view_by, world_in}
+use Rattle.mk_why.proofs.listing.list_kept.Given as goal
+
+abbrev pub invariant-loop-page : goal.invariant-loop-page
+invariant-loop-page l = record {
+  looks : LooksOn l.fn.stop l.stop;
+  on : ListsOn l.words.config (view_by l.fn.stop.pass) l.fn.tables l.tables;
+  listed : (b : ℕ) → is_kept l.words.config (world_in (view_by l.fn.stop.pass)) b ≡ true
+      → (cell_of_allocation l.words.config (placed_at (view_by l.fn.stop.pass).allocations b)).page < l.page
+      → IsListed l.tables.kept.items (base_at (view_by l.fn.stop.pass) b);
+}

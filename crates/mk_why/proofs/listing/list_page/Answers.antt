@@ -1,0 +1,59 @@
+use Rattle.std.proofs.Common.{◌≡◌, ◌∙◌, ℕ, ◌+◌, ◌*◌, ◌^◌, true, ap, sym, subst}
+use Rattle.std.specs.Prelude.{slice_index}
+use Rattle.mk_core.specs.Allocations.{cell_of_allocation, placed_at}
+use Rattle.mk_core.specs.Words.{header_at}
+use Rattle.mk_why.specs.Chains.{is_kept}
+use Rattle.mk_why.specs.Listing.{AreOfKept, IsListed, ListsOn}
+use Rattle.mk_why.specs.Stops.{View, base_at, world_in}
+use Rattle.mk_why.proofs.Lists.{snapshot_read}
+use Rattle.mk_why.proofs.Looks.{looks_then}
+use Rattle.mk_why.proofs.listing.list_page.Goals as goal
+
+pub list_cells-requires-clause-header : goal.list_cells-requires-clause-header
+list_cells-requires-clause-header c =
+    c.look_at-header.ensures.found
+    ∙ sym (ap (λ (v : View). header_at v.words c.args.page)
+    (c.look_at-marks.ensures.on.view ∙ c.look_at-quarantine.ensures.on.view ∙ c.look_at-header.ensures.on.view))
+
+pub list_cells-requires-clause-snapshot : goal.list_cells-requires-clause-snapshot
+list_cells-requires-clause-snapshot c =
+    let same = c.look_at-marks.ensures.on.view ∙ c.look_at-quarantine.ensures.on.view
+    ∙ c.look_at-header.ensures.on.view in
+    snapshot_read c.args.stop.now.pass c.is_in_order.ensures.history c.args.page c.look_at-quarantine.result
+    (c.look_at-quarantine.ensures.found
+    ∙ ap (λ (v : View). slice_index v.words.freed c.args.page + 2 ^ 32 * slice_index v.words.snapshot c.args.page)
+    c.look_at-header.ensures.on.view)
+    ∙ sym (ap (λ (v : View). slice_index v.words.snapshot c.args.page) same)
+
+pub list_cells-requires-clause-marks : goal.list_cells-requires-clause-marks
+list_cells-requires-clause-marks c =
+    c.look_at-marks.ensures.found
+    ∙ sym (ap (λ (v : View). slice_index v.words.marks c.args.page) c.look_at-marks.ensures.on.view)
+
+pub list_cells-requires-clause-of_kept : goal.list_cells-requires-clause-of_kept
+list_cells-requires-clause-of_kept c =
+    let same = c.look_at-marks.ensures.on.view ∙ c.look_at-quarantine.ensures.on.view
+    ∙ c.look_at-header.ensures.on.view in
+    subst (λ (v : View). AreOfKept c.args.words.now.config v c.args.tables.now.kept.items) (sym same)
+    c.requires.of_kept
+
+pub returns-clause-looks : goal.returns-clause-looks
+returns-clause-looks c =
+    looks_then c.args.stop.now c.look_at-quarantine.new.stop c.look_at-marks.new.stop
+    (looks_then c.args.stop.now c.look_at-header.new.stop c.look_at-quarantine.new.stop c.look_at-header.ensures.on
+    c.look_at-quarantine.ensures.on) c.look_at-marks.ensures.on
+
+pub returns-clause-on : goal.returns-clause-on
+returns-clause-on c =
+    let same = c.look_at-marks.ensures.on.view ∙ c.look_at-quarantine.ensures.on.view
+    ∙ c.look_at-header.ensures.on.view in
+    subst (λ (v : View). ListsOn c.args.words.now.config v c.args.tables.now c.list_cells.new.tables) same
+    c.list_cells.ensures.on
+
+pub returns-clause-listed : goal.returns-clause-listed
+returns-clause-listed c =
+    let same = c.look_at-marks.ensures.on.view ∙ c.look_at-quarantine.ensures.on.view
+    ∙ c.look_at-header.ensures.on.view in
+    subst (λ (v : View). (b : ℕ) → is_kept c.args.words.now.config (world_in v) b ≡ true
+    → (cell_of_allocation c.args.words.now.config (placed_at v.allocations b)).page ≡ c.args.page
+    → IsListed c.list_cells.new.tables.kept.items (base_at v b)) same c.list_cells.ensures.listed

@@ -1,0 +1,52 @@
+use Rattle.std.proofs.Common.{arith}
+use Rattle.mk_why.specs.Stops.{view_by}
+use Rattle.mk_why.proofs.Pointed.{begins_at}
+use Rattle.mk_why.proofs.Searches.{grows_nothing, notes}
+use Rattle.mk_why.proofs.Ways.{found_by, noted_by}
+use Rattle.mk_why.proofs.searching.note_value.Goals as goal
+
+pub returns-in_default-clause-noted : goal.returns-in_default-clause-noted
+returns-in_default-clause-noted c b points = absurd (c.in_default.ensures.points b points)
+
+pub returns-in_default-clause-on : goal.returns-in_default-clause-on
+returns-in_default-clause-on c = record {
+  on = c.base_pointed.ensures.on;
+  search = c.requires.search;
+  grows = grows_nothing c.args.tables.now;
+}
+
+pub note-requires : goal.note-requires
+note-requires c =
+    let x = c.in-Some.ensures.points in
+    let low = begins_at c.args.stop.now.pass c.is_in_order.ensures.history c.requires.still c.args.words.now
+    c.requires.one_table c.in-Some.base (record { number = x.number; unreleased = x.points.0; is = x.is }) in
+    let size = c.requires.search.size in
+    omega arith
+
+pub returns-clause-on : goal.returns-clause-on
+returns-clause-on c =
+    let k = c.args.words.now.config in
+    let v = view_by c.args.stop.now.pass in
+    let x = c.in-Some.ensures.points in
+    let low = begins_at c.args.stop.now.pass c.is_in_order.ensures.history c.requires.still c.args.words.now
+    c.requires.one_table c.in-Some.base (record { number = x.number; unreleased = x.points.0; is = x.is }) in
+    let size = c.requires.search.size in
+    let n = notes k v c.args.tables.now c.note.new.self c.in-Some.base c.args.found c.requires.search (omega arith)
+    c.note.ensures.known c.note.ensures.noted c.note.ensures.last c.note.ensures.more c.note.ensures.room
+    c.requires.shallow
+    (found_by k v c.args.tables.now.found.items c.args.value c.in-Some.base c.args.found x c.requires.way) in
+    record { on = c.base_pointed.ensures.on; search = n.search; grows = n.grows }
+
+pub returns-clause-noted : goal.returns-clause-noted
+returns-clause-noted c =
+    let k = c.args.words.now.config in
+    let v = view_by c.args.stop.now.pass in
+    let x = c.in-Some.ensures.points in
+    let low = begins_at c.args.stop.now.pass c.is_in_order.ensures.history c.requires.still c.args.words.now
+    c.requires.one_table c.in-Some.base (record { number = x.number; unreleased = x.points.0; is = x.is }) in
+    let size = c.requires.search.size in
+    let n = notes k v c.args.tables.now c.note.new.self c.in-Some.base c.args.found c.requires.search (omega arith)
+    c.note.ensures.known c.note.ensures.noted c.note.ensures.last c.note.ensures.more c.note.ensures.room
+    c.requires.shallow
+    (found_by k v c.args.tables.now.found.items c.args.value c.in-Some.base c.args.found x c.requires.way) in
+    noted_by k v c.note.new.self.found.items c.args.value c.in-Some.base c.args.found.links x n.within

@@ -1,0 +1,102 @@
+use Rattle.std.proofs.Common.{◌+◌, ◌<◌, refl, sym, subst, arith, length}
+use Rattle.std.specs.Prelude.{slice_index}
+use Rattle.mk_why.specs.Searching.{AreScannedFrom, IsBase, IsDone, IsSearch, SearchesOn, links_of}
+use Rattle.mk_why.specs.Stops.{View, view_by}
+use Rattle.mk_why.proofs.Scans.{done_from, entry_read, links_there, one_more_fits, queue_read, queued_base, queued_within}
+use Rattle.mk_why.proofs.Searches.{looks_search, part_noted, through_stays, view_search}
+use Rattle.mk_why.proofs.searching.search_from.Goals as goal
+
+pub index-requires : goal.index-requires
+index-requires c =
+    let r = c.args.tables.now in
+    let base = queue_read r c.args.place c.index-base.result.now c.index-base.ensures c.requires.place in
+    let low : c.index-base.result.now < length r.found.items =
+    subst (λ n. n < length r.found.items) (sym base)
+    (queued_within c.args.words.now.config (view_by c.args.stop.now.pass) r c.args.place
+    (links_of r c.args.place + 1) c.requires.search c.requires.place) in
+    omega arith
+
+pub scanned_size-size-requires-clause-base : goal.scanned_size-size-requires-clause-base
+scanned_size-size-requires-clause-base c =
+    let r = c.args.tables.now in
+    let v = view_by c.args.stop.now.pass in
+    let base = queue_read r c.args.place c.index-base.result.now c.index-base.ensures c.requires.place in
+    subst (λ n. IsBase v n) (sym base)
+    (queued_base c.args.words.now.config v r c.args.place (links_of r c.args.place + 1) c.requires.search
+    c.requires.place)
+
+pub search_words-requires-clause-scanned : goal.search_words-requires-clause-scanned
+search_words-requires-clause-scanned c =
+    subst (λ (v : View). AreScannedFrom c.args.words.now.config v c.index-base.result.now c.scanned_size-size.result)
+    (sym c.scanned_size-size.ensures.on.view) c.scanned_size-size.ensures.scanned
+
+pub search_words-requires-clause-found : goal.search_words-requires-clause-found
+search_words-requires-clause-found c =
+    let k = c.args.words.now.config in
+    let v = view_by c.args.stop.now.pass in
+    let r = c.args.tables.now in
+    let base = queue_read r c.args.place c.index-base.result.now c.index-base.ensures c.requires.place in
+    let there = entry_read r c.index-base.result.now c.index.result.now c.in-Some.found c.index.ensures
+    (subst (λ n. n < length r.found.items) (sym base)
+    (queued_within k v r c.args.place (links_of r c.args.place + 1) c.requires.search c.requires.place)) c.in-Some.is in
+    record { entry = c.in-Some.found; there = there; through = refl }
+
+pub search_words-requires-clause-search : goal.search_words-requires-clause-search
+search_words-requires-clause-search c =
+    let k = c.args.words.now.config in
+    let v = view_by c.args.stop.now.pass in
+    let r = c.args.tables.now in
+    let base = queue_read r c.args.place c.index-base.result.now c.index-base.ensures c.requires.place in
+    let there = entry_read r c.index-base.result.now c.index.result.now c.in-Some.found c.index.ensures
+    (subst (λ n. n < length r.found.items) (sym base)
+    (queued_within k v r c.args.place (links_of r c.args.place + 1) c.requires.search c.requires.place)) c.in-Some.is in
+    let links = links_there k v r c.args.place (links_of r c.args.place + 1) c.requires.search c.requires.place
+    c.index-base.result.now base c.in-Some.found there in
+    view_search k c.args.stop.now c.scanned_size-size.new.stop r (c.in-Some.found.links + 1)
+    c.scanned_size-size.ensures.on (subst (λ n. IsSearch k v r (n + 1)) links c.requires.search)
+
+pub search_words-requires-clause-shallow : goal.search_words-requires-clause-shallow
+search_words-requires-clause-shallow c =
+    let k = c.args.words.now.config in
+    let v = view_by c.args.stop.now.pass in
+    let r = c.args.tables.now in
+    let base = queue_read r c.args.place c.index-base.result.now c.index-base.ensures c.requires.place in
+    let there = entry_read r c.index-base.result.now c.index.result.now c.in-Some.found c.index.ensures
+    (subst (λ n. n < length r.found.items) (sym base)
+    (queued_within k v r c.args.place (links_of r c.args.place + 1) c.requires.search c.requires.place)) c.in-Some.is in
+    one_more_fits k v r c.args.place (links_of r c.args.place + 1) c.requires.search c.requires.place
+    c.index-base.result.now base c.in-Some.found there
+
+pub returns-clause-on : goal.returns-clause-on
+returns-clause-on c =
+    let k = c.args.words.now.config in
+    let v = view_by c.args.stop.now.pass in
+    let r = c.args.tables.now in
+    let base = queue_read r c.args.place c.index-base.result.now c.index-base.ensures c.requires.place in
+    let there = entry_read r c.index-base.result.now c.index.result.now c.in-Some.found c.index.ensures
+    (subst (λ n. n < length r.found.items) (sym base)
+    (queued_within k v r c.args.place (links_of r c.args.place + 1) c.requires.search c.requires.place)) c.in-Some.is in
+    let links = links_there k v r c.args.place (links_of r c.args.place + 1) c.requires.search c.requires.place
+    c.index-base.result.now base c.in-Some.found there in
+    subst (λ n. SearchesOn k c.args.stop.now c.search_words.new.stop r c.search_words.new.tables (n + 1)) (sym links)
+    (looks_search k c.args.stop.now c.scanned_size-size.new.stop c.search_words.new.stop r c.search_words.new.tables
+    (c.in-Some.found.links + 1) c.scanned_size-size.ensures.on c.search_words.ensures.on)
+
+pub returns-clause-done : goal.returns-clause-done
+returns-clause-done c =
+    let k = c.args.words.now.config in
+    let v = view_by c.args.stop.now.pass in
+    let r = c.args.tables.now in
+    let base = queue_read r c.args.place c.index-base.result.now c.index-base.ensures c.requires.place in
+    let there = entry_read r c.index-base.result.now c.index.result.now c.in-Some.found c.index.ensures
+    (subst (λ n. n < length r.found.items) (sym base)
+    (queued_within k v r c.args.place (links_of r c.args.place + 1) c.requires.search c.requires.place)) c.in-Some.is in
+    let found = c.search_words.new.tables.found.items in
+    subst (λ n. IsDone k v found n) base
+    (done_from k v found c.index-base.result.now c.scanned_size-size.result c.in-Some.found.links
+    (through_stays r.found.items found c.search_words.ensures.on.grows.stays c.index-base.result.now
+    c.in-Some.found.links (record { entry = c.in-Some.found; there = there; through = refl }))
+    c.scanned_size-size.ensures.whole
+    (λ i lt. part_noted k c.args.stop.now c.scanned_size-size.new.stop found
+    (λ y. slice_index y.words.heap (c.index-base.result.now + i)) (c.in-Some.found.links + 1)
+    c.scanned_size-size.ensures.on (c.search_words.ensures.noted i lt)))

@@ -1,0 +1,56 @@
+use Rattle.std.proofs.Common.{ℕ, ◌+◌, ◌<◌, subst, arith}
+use Rattle.std.specs.Prelude.{slice_index}
+use Rattle.mk_why.specs.Searching.{IsDone, IsSearch, links_of}
+use Rattle.mk_why.specs.Stops.{View, view_by}
+use Rattle.mk_why.proofs.Explored.{all_done, done_more, near_next}
+use Rattle.mk_why.proofs.Looks.{looks_at_nothing, looks_then}
+use Rattle.mk_why.proofs.Searches.{grows_nothing, grows_then, limit_of, view_search}
+use Rattle.mk_why.proofs.searching.search_queue.Goals as goal
+
+pub loop-place-init : goal.loop-place-init
+loop-place-init c = record {
+  on = looks_at_nothing c.args.stop.now c.requires.still;
+  limit = 0;
+  search = c.requires.search;
+  grows = grows_nothing c.args.tables.now;
+  near = λ some i lt. let low = c.requires.search.below i lt in omega arith;
+  done = λ i lt. absurd (omega arith);
+}
+
+pub search_from-requires-clause-search : goal.search_from-requires-clause-search
+search_from-requires-clause-search c =
+    let k = c.args.words.now.config in
+    let x = c.loop-place.invariant in
+    view_search k c.args.stop.now c.loop-place.stop c.loop-place.tables
+    (links_of c.loop-place.tables c.loop-place.place + 1) x.on
+    (limit_of k (view_by c.args.stop.now.pass) c.loop-place.tables x.limit
+    (links_of c.loop-place.tables c.loop-place.place + 1) x.search (x.near c.loop-place-test.true))
+
+pub loop-place-preserved : goal.loop-place-preserved
+loop-place-preserved c =
+    let k = c.args.words.now.config in
+    let v = view_by c.args.stop.now.pass in
+    let x = c.loop-place.invariant in
+    let r = c.loop-place.tables in
+    let s = c.search_from.new.tables in
+    let place : ℕ = c.loop-place.place in
+    let known : place < r.count = c.loop-place-test.true in
+    let behind : IsSearch k v s (links_of r place + 1) =
+    subst (λ (y : View). IsSearch k y s (links_of r place + 1)) x.on.view c.search_from.ensures.on.search in
+    let here : IsDone k v s.found.items (slice_index r.queue.items place) =
+    subst (λ (y : View). IsDone k y s.found.items (slice_index r.queue.items place)) x.on.view
+    c.search_from.ensures.done in
+    record {
+      on = looks_then c.args.stop.now c.loop-place.stop c.search_from.new.stop x.on c.search_from.ensures.on.on;
+      limit = links_of r place + 1;
+      search = behind;
+      grows = grows_then c.args.tables.now r s x.grows c.search_from.ensures.on.grows;
+      near = near_next k v r s place x.limit known x.search behind c.search_from.ensures.on.grows;
+      done = done_more k v r s place x.limit known x.search behind c.search_from.ensures.on.grows x.done here;
+    }
+
+pub returns-clause-done : goal.returns-clause-done
+returns-clause-done c =
+    let x = c.loop-place.invariant in
+    all_done c.args.words.now.config (view_by c.args.stop.now.pass) c.loop-place.tables x.limit c.loop-place.place
+    x.search (let end = c.loop-place-test.false in omega arith) x.done

@@ -1,0 +1,14 @@
+use Rattle.std.proofs.Common.{ℕ, ◌<◌}
+use Rattle.mk_why.specs.declared.kept.Root.TheVariants.{Register}
+use Rattle.mk_why.specs.Chains.{word_of_root}
+use Rattle.mk_why.specs.Searching.{IsNoted, SearchesOn}
+use Rattle.mk_why.specs.Stops.{view_by}
+use Rattle.mk_why.proofs.searching.search_registers.Given as goal
+
+abbrev pub invariant-loop-caller : goal.invariant-loop-caller
+invariant-loop-caller l = record {
+  on : SearchesOn l.words.config l.fn.stop l.stop l.fn.tables l.tables 0;
+  noted : (caller : ℕ) → caller < l.caller → (register : ℕ) → register < 8
+      → IsNoted l.words.config (view_by l.fn.stop.pass) l.tables.found.items
+      (word_of_root (view_by l.fn.stop.pass).words (Register caller register)) 0;
+}

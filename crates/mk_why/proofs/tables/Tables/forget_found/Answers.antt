@@ -1,0 +1,10 @@
+use Rattle.std.proofs.Common.{rules, arith}
+use Rattle.std.specs.Vec.{with_items}
+use Rattle.std.proofs.lemmas.Grind.{common_steps}
+use Rattle.mk_why.proofs.Counts.{none_counted}
+use Rattle.mk_why.proofs.tables.Tables.forget_found.Goals as goal
+
+pub invariant_of-self-clause-full : goal.invariant_of-self-clause-full
+invariant_of-self-clause-full c =
+    none_counted (with_items c.args.self.now.found c.forget.new.table).items
+    (λ i. first_of (search (rules, c.forget.ensures.none i), grind (arith, common_steps, c.forget.ensures.none i)))

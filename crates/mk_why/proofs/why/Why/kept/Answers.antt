@@ -1,0 +1,11 @@
+use Rattle.std.proofs.lemmas.Result.{IfOk-weaker}
+use Rattle.mk_why.specs.Stops.{view_of}
+use Rattle.mk_why.proofs.Alike.{kept_of}
+use Rattle.mk_why.proofs.why.Why.kept.Goals as goal
+
+pub returns-clause-kept : goal.returns-clause-kept
+returns-clause-kept g c k w tells =
+    IfOk-weaker c.list_entries.result _ _
+    (λ entries below. kept_of k w c.args.self.now.tables.found.items c.args.self.now.tables.kept.items entries.items
+    tells.1 (below k (view_of w) tells.1))
+    c.list_entries.ensures.kept

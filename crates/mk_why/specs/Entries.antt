@@ -1,0 +1,80 @@
+-- Chains, followed back through the tables, and the entries that are made of them. Private functions alone cite these
+-- words.
+use Rattle.std.specs.Prelude.{◌≡◌, ℕ, ◌+◌, ◌*◌, ◌<◌, true, List, [], ◌∷◌, ◌++◌, length, map, nat_lt, reverse, slice_index, Option, Some, None, ⊤, if◌then◌else◌}
+use Rattle.std.specs.List.{Contains}
+use Rattle.std.specs.List.Sorted.{IsStrictlyIncreasing}
+use Rattle.mk_core.specs.declared.config.Config.{Config}
+use Rattle.mk_why.specs.declared.found.Found.{Found}
+use Rattle.mk_why.specs.declared.found.Storage.{Storage}
+use Rattle.mk_why.specs.declared.found.Way.{Way}
+use Rattle.mk_why.specs.declared.found.Way.TheVariants.{Link, Start}
+use Rattle.mk_why.specs.declared.kept.Kept.{Kept}
+use Rattle.mk_why.specs.declared.kept.Root.{Root}
+use Rattle.mk_why.specs.Chains.{IsChain, IsEntryOf, LeadsTo, is_kept}
+use Rattle.mk_why.specs.Searching.{AreApart, AreWays, IsWay, at}
+use Rattle.mk_why.specs.Stops.{View, base_at, world_in}
+
+-- one link back, and how the allocation was found that has it
+
+abbrev pub back_to : ℕ → ℕ → Option Found → Option (ℕ × Found)
+back_to link links None = None
+back_to link links (Some before) = if nat_lt before.links links then Some (link, before) else None
+
+abbrev pub back_by : List (Option Found) → Way → ℕ → Option (ℕ × Found)
+back_by found (Start root) links = None
+back_by found (Link link from) links = back_to link links (at found from)
+
+abbrev pub step_back : List (Option Found) → Found → Option (ℕ × Found)
+step_back found f = back_by found f.way f.links
+
+abbrev pub root_of : Way → Option Root
+root_of (Start root) = Some root
+root_of (Link link from) = None
+
+-- Links, the last one first, lead from an allocation that was found so, and have so many in all with those before it.
+pub record IsLedBack (c : Config) (v : View) (found : List (Option Found)) (f : Found) (links : List ℕ) (b count : ℕ)
+    : Type 0 where
+  pub number : ℕ
+  pub way : IsWay c v found f.way f.links number
+  pub leads : LeadsTo c (world_in v) number (reverse links) b
+  pub sum : length links + f.links ≡ count
+
+-- a chain of so many links
+pub record IsLed (c : Config) (v : View) (b count : ℕ) (root : Option Root) (links : List ℕ) : Type 0 where
+  pub start : Root
+  pub is : root ≡ Some start
+  pub chain : IsChain c (world_in v) start links b
+  pub as_many : length links ≡ count
+
+-- what is known of an allocation by its entry in the table, and told of it
+
+abbrev pub IsWayOf : Config → View → List (Option Found) → ℕ → Option Found → Type 0
+IsWayOf c v found b None = ⊤
+IsWayOf c v found b (Some f) = IsWay c v found f.way f.links b
+
+abbrev pub IsToldWhy : Config → View → ℕ → Option Found → Option Root → List ℕ → Type 0
+IsToldWhy c v b None root links = (root ≡ None) × (links ≡ [])
+IsToldWhy c v b (Some f) root links = IsLed c v b f.links root links
+
+-- The entry is made of the storage, and of how it was found.
+pub record IsMadeOf (found : List (Option Found)) (s : Storage) (f : Option Found) (entry : Kept) : Type 0 where
+  pub address : entry.address ≡ s.address
+  pub words : entry.words ≡ s.words
+  pub why : (c : Config) (v : View) (b : ℕ) → AreWays c v found → AreApart v → IsWayOf c v found b f
+      → IsToldWhy c v b f entry.root entry.links.items
+
+-- one entry more
+pub record IsOneMore (found : List (Option Found)) (s : Storage) (f : Option Found) (before behind : List Kept)
+    : Type 0 where
+  pub entry : Kept
+  pub is : behind ≡ before ++ entry ∷ []
+  pub made : IsMadeOf found s f entry
+
+-- The entries of the kept allocations that begin below this heap word.
+pub record AreEntriesBelow (c : Config) (v : View) (base : ℕ) (entries : List Kept) : Type 0 where
+  pub ascending : IsStrictlyIncreasing (map (λ (entry : Kept). entry.address) entries)
+  pub below : (i : ℕ) → i < length entries
+      → slice_index (map (λ (entry : Kept). entry.address) entries) i < 65536 + 8 * base
+  pub of_one : (entry : Kept) → Contains entries entry → (b : ℕ) × IsEntryOf c (world_in v) entry b
+  pub each : (b : ℕ) → is_kept c (world_in v) b ≡ true → base_at v b < base
+      → (entry : Kept) × Contains entries entry × IsEntryOf c (world_in v) entry b

@@ -1,0 +1,7 @@
+pub mod Chains
+pub mod Entries
+pub mod Listing
+pub mod Searching
+pub mod Sizes
+pub mod Stops
+pub mod SweptChains

@@ -1,0 +1,152 @@
+-- The search for chains, breadth first: what its tables say of a view. Private functions alone cite these words.
+use Rattle.std.specs.Prelude.{◌≡◌, ℕ, ◌+◌, ◌*◌, ◌<◌, ◌≤◌, true, false, List, length, slice_index, slice_index_or, Option, Some, None}
+use Rattle.mk_geom.specs.StorageWords.{IsWordOf}
+use Rattle.mk_core.specs.declared.config.Config.{Config}
+use Rattle.mk_core.specs.declared.events.Word.{Word}
+use Rattle.mk_core.specs.declared.events.Word.TheVariants as word
+use Rattle.mk_core.specs.Allocations.{placed_at, storage_of}
+use Rattle.mk_core.specs.ClosedMarks.{is_scanned_allocation}
+use Rattle.mk_core.specs.Touched.{PointsIntoAllocation}
+use Rattle.mk_words.specs.States.{TurnState}
+use Rattle.mk_why.specs.declared.found.Found.{Found}
+use Rattle.mk_why.specs.declared.found.Way.{Way}
+use Rattle.mk_why.specs.declared.found.Way.TheVariants.{Start, Link}
+use Rattle.mk_why.specs.declared.kept.Root.{Root}
+use Rattle.mk_why.specs.declared.kept.Root.TheVariants.{Global, Register}
+use Rattle.mk_why.specs.declared.tables.Tables.{Tables}
+use Rattle.mk_why.specs.Chains.{IsChain, IsLink, IsRoot, word_of_root}
+use Rattle.mk_why.specs.Stops.{LooksOn, View, base_at, view_by, world_in}
+
+-- what a table has for a heap word
+abbrev pub at : {A : Type 0} → List (Option A) → ℕ → Option A
+at table base = slice_index_or table base None
+
+abbrev pub links_in : Option Found → ℕ
+links_in (Some found) = found.links
+links_in None = 0
+
+-- the name of a root's word
+abbrev pub root_word : Root → Word
+root_word (Register caller register) = word.Reg caller register
+root_word (Global global) = word.Global global
+
+-- An unreleased allocation begins at the heap word.
+pub record IsBase (v : View) (base : ℕ) : Type 0 where
+  pub number : ℕ
+  pub unreleased : (placed_at v.allocations number).released ≡ false
+  pub is : base_at v number ≡ base
+
+-- The value points into the one allocation that begins there.
+pub record PointsAtBase (c : Config) (v : View) (value base : ℕ) : Type 0 where
+  pub number : ℕ
+  pub points : PointsIntoAllocation c (world_in v) value number
+  pub is : base_at v number ≡ base
+  pub only : (b : ℕ) → PointsIntoAllocation c (world_in v) value b → b ≡ number
+
+abbrev pub IsBasePointed : Config → View → ℕ → Option ℕ → Type 0
+IsBasePointed c v value (Some base) = PointsAtBase c v value base
+IsBasePointed c v value None = (b : ℕ) → PointsIntoAllocation c (world_in v) value b → ⊥
+
+-- Each of so many words from the first one on is one of a scanned allocation that begins there.
+abbrev pub AreScannedFrom : Config → View → ℕ → ℕ → Type 0
+AreScannedFrom c v base size =
+    (i : ℕ) → i < size
+    → (a : ℕ) × (base_at v a ≡ base) × (is_scanned_allocation c (placed_at v.allocations a) ≡ true)
+    × IsWordOf (storage_of c (placed_at v.allocations a)) (base + i)
+
+-- The allocation was found through a link in another that was found through one link less.
+pub record IsOnward (c : Config) (v : View) (found : List (Option Found)) (link from links b : ℕ) : Type 0 where
+  pub number : ℕ
+  pub begins : base_at v number ≡ from
+  pub onward : IsLink c (world_in v) number link b
+  pub before : Found
+  pub there : at found from ≡ Some before
+  pub one_more : links ≡ before.links + 1
+
+abbrev pub IsWay : Config → View → List (Option Found) → Way → ℕ → ℕ → Type 0
+IsWay c v found (Start root) links b =
+    (links ≡ 0) × IsRoot c root × PointsIntoAllocation c (world_in v) (word_of_root v.words root) b
+IsWay c v found (Link link from) links b = IsOnward c v found link from links b
+
+-- What was found at the heap word is an allocation that begins there, by its way.
+pub record IsFoundAt (c : Config) (v : View) (found : List (Option Found)) (base : ℕ) (f : Found) : Type 0 where
+  pub number : ℕ
+  pub unreleased : (placed_at v.allocations number).released ≡ false
+  pub is : base_at v number ≡ base
+  pub way : IsWay c v found f.way f.links number
+
+abbrev pub AreWays : Config → View → List (Option Found) → Type 0
+AreWays c v found = (base : ℕ) (f : Found) → at found base ≡ Some f → IsFoundAt c v found base f
+
+-- It was found.
+pub record IsFound (found : List (Option Found)) (base : ℕ) : Type 0 where
+  pub entry : Found
+  pub there : at found base ≡ Some entry
+
+-- It was found through exactly so many links.
+pub record IsFoundThrough (found : List (Option Found)) (base links : ℕ) : Type 0 where
+  pub entry : Found
+  pub there : at found base ≡ Some entry
+  pub through : entry.links ≡ links
+
+pub record IsQueued (r : Tables) (base : ℕ) : Type 0 where
+  pub place : ℕ
+  pub known : place < r.count
+  pub is : slice_index r.queue.items place ≡ base
+
+-- the links of the allocation that is in this place of the queue
+abbrev pub links_of : Tables → ℕ → ℕ
+links_of r i = links_in (at r.found.items (slice_index r.queue.items i))
+
+-- The queue has each allocation that was found, in the order of their links. None has more than so many,
+-- or more than its place.
+pub record IsSearch (c : Config) (v : View) (r : Tables) (limit : ℕ) : Type 0 where
+  pub size : length r.found.items ≡ 64 * c.pages
+  pub ways : AreWays c v r.found.items
+  pub entries : (i : ℕ) → i < r.count → IsFound r.found.items (slice_index r.queue.items i)
+  pub queued : (base : ℕ) → IsFound r.found.items base → IsQueued r base
+  pub rising : (i j : ℕ) → i ≤ j → j < r.count → links_of r i ≤ links_of r j
+  pub below : (i : ℕ) → i < r.count → links_of r i ≤ limit
+  pub shallow : (i : ℕ) → i < r.count → links_of r i ≤ i
+
+-- It was found through so many links, or fewer.
+pub record IsWithin (found : List (Option Found)) (base limit : ℕ) : Type 0 where
+  pub entry : Found
+  pub there : at found base ≡ Some entry
+  pub near : entry.links ≤ limit
+
+-- So was whatever the value points into.
+abbrev pub IsNoted : Config → View → List (Option Found) → ℕ → ℕ → Type 0
+IsNoted c v found value limit =
+    (b : ℕ) → PointsIntoAllocation c (world_in v) value b → IsWithin found (base_at v b) limit
+
+-- So was whatever the words of an allocation point into that begins there and is scanned, through one link more.
+abbrev pub IsDone : Config → View → List (Option Found) → ℕ → Type 0
+IsDone c v found base =
+    (a n : ℕ) → base_at v a ≡ base → is_scanned_allocation c (placed_at v.allocations a) ≡ true
+    → IsWordOf (storage_of c (placed_at v.allocations a)) n
+    → IsNoted c v found (slice_index v.words.heap n) (links_in (at found base) + 1)
+
+-- More was found, and what was found before stays.
+pub record Grows (r s : Tables) : Type 0 where
+  pub stays : (base : ℕ) (f : Found) → at r.found.items base ≡ Some f → at s.found.items base ≡ Some f
+  pub same : (i : ℕ) → i < r.count → slice_index s.queue.items i ≡ slice_index r.queue.items i
+  pub further : r.count ≤ s.count
+
+-- Looks went on with the search, from one set of tables to another.
+pub record SearchesOn (c : Config) (t u : TurnState) (r s : Tables) (limit : ℕ) : Type 0 where
+  pub on : LooksOn t u
+  pub search : IsSearch c (view_by t.pass) s limit
+  pub grows : Grows r s
+
+-- No two unreleased allocations begin at one heap word.
+abbrev pub AreApart : View → Type 0
+AreApart v =
+    (a b : ℕ) → (placed_at v.allocations a).released ≡ false → (placed_at v.allocations b).released ≡ false
+    → base_at v a ≡ base_at v b → a ≡ b
+
+-- All that chains lead to was found, through no more links than theirs.
+pub record IsExplored (c : Config) (v : View) (found : List (Option Found)) : Type 0 where
+  pub ways : AreWays c v found
+  pub near : (root : Root) (links : List ℕ) (b : ℕ) → IsChain c (world_in v) root links b
+      → IsWithin found (base_at v b) (length links)

@@ -1,0 +1,73 @@
+-- What stays still in the stop, behind the inner engine's marks. Private functions alone cite these words.
+use Rattle.std.specs.Prelude.{◌≡◌, ℕ, Bool, true, false, List, []}
+use Rattle.mk_core.specs.declared.events.Step.{Step}
+use Rattle.mk_core.specs.declared.events.Step.TheVariants as step
+use Rattle.mk_core.specs.declared.events.Word.{Word}
+use Rattle.mk_core.specs.declared.events.Word.TheVariants as word
+use Rattle.mk_core.specs.declared.config.Config.{Config}
+use Rattle.mk_core.specs.Allocations.{PlacedAllocation, placed_at}
+use Rattle.mk_core.specs.History.{World}
+use Rattle.mk_core.specs.Moments.{nothing_done}
+use Rattle.mk_core.specs.Readings.{NoneAttends}
+use Rattle.mk_core.specs.Words.{Words}
+use Rattle.mk_words.specs.States.{PassState, TurnState, now_of, world_of}
+use Rattle.mk_turns.specs.Doing.{Does}
+use Rattle.mk_cycle.specs.EngineLaw.{IsAtPhase, IsFreeForCycle}
+use Rattle.mk_cycle.specs.TurnKeeps.{KeepsTurn, but_phase}
+
+-- the words but the phase, and the allocations
+pub record View : Type 0 where
+  pub words : Words
+  pub allocations : List PlacedAllocation
+
+abbrev pub view_of : World → View
+view_of w = record { words = record w.now.words { phase = 0 }; allocations = w.allocations }
+
+abbrev pub view_by : PassState → View
+view_by p = view_of (world_of p)
+
+-- a world with this view, of whose seats nothing is told
+abbrev pub world_in : View → World
+world_in v =
+    record {
+      now = record {
+        words = v.words;
+        seats = record { flights = []; holding = nothing_done; markers = [] };
+        fresh_words = 0;
+      };
+      allocations = v.allocations;
+    }
+
+-- the heap word at which an allocation begins
+abbrev pub base_at : View → ℕ → ℕ
+base_at v b = (placed_at v.allocations b).base
+
+-- The close is wanted, no marker attends, and the turn is free for a cycle.
+pub record IsStill (p : PassState) : Type 0 where
+  pub free : IsFreeForCycle p
+  pub wanted : IsAtPhase p 2
+  pub none : NoneAttends (now_of p)
+
+abbrev pub is_look : Step → Bool
+is_look (step.Look x) = true
+is_look _ = false
+
+-- any word but the phase, which markers count in
+abbrev pub is_still_word : Word → Bool
+is_still_word word.Phase = false
+is_still_word _ = true
+
+-- The holder of the turn has looked, and all is still.
+pub record LooksOn (t u : TurnState) : Type 0 where
+  pub table : u.pass.table ≡ t.pass.table
+  pub op : u.op ≡ t.op
+  pub does : Does is_look t.pass u.pass
+  pub keeps : KeepsTurn but_phase t.pass u.pass
+  pub view : view_by u.pass ≡ view_by t.pass
+  pub still : IsStill u.pass
+
+-- It was told of a world with this view, behind which the holder looked.
+pub record IsToldBefore (tells : Config → World → Type 0) (c : Config) (w : World) : Type 0 where
+  pub before : World
+  pub told : tells c before
+  pub view : view_of w ≡ view_of before

@@ -1,0 +1,11 @@
+-- What chains lead to is swept: a sweep keeps whatever marking in the stop keeps.
+use Rattle.std.specs.Prelude.{ℕ, List}
+use Rattle.mk_core.specs.declared.config.Config.{Config}
+use Rattle.mk_core.specs.History.{World}
+use Rattle.mk_sweep.specs.Swept.{IsSwept}
+use Rattle.mk_why.specs.declared.kept.Root.{Root}
+use Rattle.mk_why.specs.Chains.{IsChain}
+
+abbrev pub ChainsAreSwept : Type 0
+ChainsAreSwept =
+    (c : Config) (w : World) (root : Root) (links : List ℕ) (b : ℕ) → IsChain c w root links b → IsSwept c w b

@@ -1,0 +1,17 @@
+//! An engine that tells why freed objects are kept: which root holds each, and through which words.
+#![tactic(auto)]
+
+mod entries;
+mod found;
+mod kept;
+mod laws;
+mod listing;
+mod searching;
+mod stepping;
+mod tables;
+mod values;
+mod why;
+
+pub use kept::{Kept, Root};
+pub use laws::chains_lead_to_what_is_swept;
+pub use why::Why;

@@ -1,0 +1,101 @@
+//! The tables of a search, and of what a cycle kept.
+ghost use Rattle.std.specs.Prelude.{◌≡◌, ℕ, None, count_by, is_some, length, slice_index_or, vec_len};
+
+use crate::found::{Found, Storage};
+use mk_never::NoMemory;
+use std::alloc::Global;
+
+/// Tables over the heap words, where each allocation stands at its first word: how it was found, and its storage if it
+/// was kept. The queue has the first words of the allocations that were found, in the order in which they were.
+#[derive(Drop)]
+pub(crate) struct Tables {
+    pub(crate) found: Vec<Option<Found>>,
+    pub(crate) queue: Vec<u64>,
+    pub(crate) count: usize,
+    pub(crate) kept: Vec<Option<Storage>>,
+    ghost queues: { vec_len queue ≡ vec_len found },
+    ghost keeps: { vec_len kept ≡ vec_len found },
+    ghost full: { count_by is_some found.items ≡ count },
+}
+
+impl Tables {
+    ghost use Rattle.std.specs.Prelude.{◌<◌, ◌≤◌, ◌*◌, ◌+◌, true, false, Some, IfOk, slice_set};
+    ghost use Rattle.mk_why.specs.Searching.{at};
+
+    /// Empty tables for a heap of so many pages.
+    pub(crate) fn new(alloc: Global, pages: u64) -> Result<Tables, NoMemory>
+        requires { pages ≤ 4096 }
+        ensures size { IfOk result (λ made. length made.found.items ≡ 64 * pages) }
+        ensures none { IfOk result (λ made. (base : ℕ) → at made.kept.items base ≡ None) }
+    {
+        let words = 64 * pages as usize;
+        let found = vec![in alloc; None; words].map_err(|_| NoMemory)?;
+        let queue = vec![in alloc; 0; words].map_err(|_| NoMemory)?;
+        let kept = vec![in alloc; None; words].map_err(|_| NoMemory)?;
+        Ok(Tables {
+            found,
+            queue,
+            count: 0,
+            kept,
+        })
+    }
+
+    /// Notes how the allocation was found that begins at this heap word, unless it was found before.
+    pub(crate) fn note(&mut self, base: u64, found: Found)
+        requires { base < length self.old.found.items }
+        ensures kept { self.new.kept ≡ self.old.kept }
+        ensures known { is_some (at self.old.found.items base) ≡ true → self.new ≡ self.old }
+        ensures noted { is_some (at self.old.found.items base) ≡ false
+            → self.new.found.items ≡ slice_set self.old.found.items base (Some found) }
+        ensures last { is_some (at self.old.found.items base) ≡ false
+            → self.new.queue.items ≡ slice_set self.old.queue.items self.old.count base }
+        ensures more { is_some (at self.old.found.items base) ≡ false → self.new.count ≡ self.old.count + 1 }
+        ensures room { self.new.count ≤ length self.new.queue.items }
+    {
+        let place = base as usize;
+        if self.found[place].is_some() {
+            return;
+        }
+        self.found[place] = Some(found);
+        self.queue[self.count] = base;
+        self.count += 1;
+    }
+
+    /// Lists a kept allocation, which begins at this heap word.
+    pub(crate) fn keep(&mut self, base: u64, storage: Storage)
+        requires { base < length self.old.kept.items }
+        ensures kept { self.new.kept.items ≡ slice_set self.old.kept.items base (Some storage) }
+        ensures found { self.new.found ≡ self.old.found }
+    {
+        self.kept[base as usize] = Some(storage);
+    }
+
+    /// Forgets what was found.
+    pub(crate) fn forget_found(&mut self)
+        ensures size { length self.new.found.items ≡ length self.old.found.items }
+        ensures none { (base : ℕ) → at self.new.found.items base ≡ None }
+        ensures empty { self.new.count ≡ 0 }
+    {
+        forget(&mut self.found);
+        self.count = 0;
+    }
+
+    /// Forgets what was kept.
+    pub(crate) fn forget_kept(&mut self)
+        ensures size { length self.new.kept.items ≡ length self.old.kept.items }
+        ensures none { (base : ℕ) → at self.new.kept.items base ≡ None }
+        ensures found { self.new.found ≡ self.old.found }
+    {
+        forget(&mut self.kept);
+    }
+}
+
+/// Empties a table.
+fn forget<T: Copy>(table: &mut [Option<T>])
+    ensures size { length table.new ≡ length table.old }
+    ensures none { (place : ℕ) → slice_index_or table.new place None ≡ None }
+{
+    for place in 0..table.len() {
+        table[place] = None;
+    }
+}

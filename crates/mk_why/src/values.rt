@@ -1,0 +1,81 @@
+//! What values point into, and which words of an allocation are scanned.
+ghost use Rattle.std.specs.Prelude.{◌≡◌, ◌+◌, ◌*◌, ◌≤◌, ℕ, true};
+ghost use Rattle.mk_core.specs.Allocations.{placed_at, storage_words};
+ghost use Rattle.mk_core.specs.Cells.{pointed_cell};
+ghost use Rattle.mk_core.specs.ClosedMarks.{is_scanned_allocation};
+ghost use Rattle.mk_why.specs.Searching.{AreScannedFrom, IsBase, IsBasePointed};
+ghost use Rattle.mk_why.specs.Stops.{IsStill, LooksOn, base_at, view_by};
+
+use crate::stepping::look_at;
+use mk_core::Word;
+use mk_geom::{Cell, lookup};
+use mk_tracing::{has_bit, has_no_pointers, words_under};
+use mk_words::{Stopped, Words};
+
+/// The address of the heap's first word.
+pub(crate) const HEAP_START: u64 = 65536;
+
+const PAGE_BYTES: u64 = 512;
+
+pub(crate) const PAGE_WORDS: u64 = 64;
+
+pub(crate) const WORD_BYTES: u64 = 8;
+
+/// The cell into which a value points.
+fn cell_pointed(words: &Words, stop: &mut Stopped, value: u64) -> Option<Cell>
+    requires one_table { stop.old.pass.table ≡ words.now }
+    requires still { IsStill stop.old.pass }
+    ensures on { LooksOn stop.old stop.new }
+    ensures points { result ≡ pointed_cell words.now.config.pages (view_by stop.old.pass).words.pages value }
+{
+    if value < HEAP_START {
+        return None;
+    }
+    let page = (value - HEAP_START) / PAGE_BYTES;
+    if page >= words.pages() {
+        return None;
+    }
+    let header = look_at(words, stop, Word::Head(page));
+    lookup(words.pages(), header, value)
+}
+
+/// The first heap word of the allocation into which a value points.
+pub(crate) fn base_pointed(words: &Words, stop: &mut Stopped, value: u64) -> Option<u64>
+    requires one_table { stop.old.pass.table ≡ words.now }
+    requires still { IsStill stop.old.pass }
+    ensures on { LooksOn stop.old stop.new }
+    ensures points { IsBasePointed words.now.config (view_by stop.old.pass) value result }
+{
+    words.is_within_limits();
+    stop.is_in_order();
+    let Some(cell) = cell_pointed(words, stop, value) else {
+        return None;
+    };
+    let used = look_at(words, stop, Word::Used(cell.page));
+    if !has_bit(used, cell.index) {
+        return None;
+    }
+    let header = look_at(words, stop, Word::Head(cell.page));
+    Some(PAGE_WORDS * cell.page + cell.index * words_under(header))
+}
+
+/// How many words are scanned of the allocation that begins at this heap word: all of a mapped one that isn't leaf.
+pub(crate) fn scanned_size(words: &Words, stop: &mut Stopped, base: u64) -> u64
+    requires one_table { stop.old.pass.table ≡ words.now }
+    requires still { IsStill stop.old.pass }
+    requires base { IsBase (view_by stop.old.pass) base }
+    ensures on { LooksOn stop.old stop.new }
+    ensures scanned { AreScannedFrom words.now.config (view_by stop.old.pass) base result }
+    ensures whole { (b : ℕ) → base_at (view_by stop.old.pass) b ≡ base
+        → is_scanned_allocation words.now.config (placed_at (view_by stop.old.pass).allocations b) ≡ true
+        → result ≡ storage_words words.now.config (placed_at (view_by stop.old.pass).allocations b) }
+    ensures within { base + result ≤ 64 * words.now.config.pages }
+{
+    words.is_within_limits();
+    stop.is_in_order();
+    let header = look_at(words, stop, Word::Head(base / PAGE_WORDS));
+    if has_no_pointers(header) {
+        return 0;
+    }
+    words_under(header)
+}

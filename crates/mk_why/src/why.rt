@@ -1,0 +1,83 @@
+//! The engine that tells why.
+ghost use Rattle.std.specs.Prelude.{◌≡◌, ℕ, [], None, IfOk, length};
+ghost use Rattle.mk_core.specs.declared.config.Config.{Config};
+ghost use Rattle.mk_core.specs.History.{World};
+ghost use Rattle.mk_why.specs.Chains.{AreKept};
+ghost use Rattle.mk_why.specs.Listing.{IsTold};
+ghost use Rattle.mk_why.specs.Searching.{at};
+ghost use Rattle.mk_why.specs.Sizes.{pages_for};
+ghost use Rattle.mk_why.specs.Stops.{IsToldBefore, view_of};
+
+use crate::entries::list_entries;
+use crate::kept::Kept;
+use crate::listing::list_kept;
+use crate::searching::search;
+use crate::tables::Tables;
+use mk_cycle::Engine;
+use mk_never::NoMemory;
+use mk_words::{Stopped, Turn, Words};
+use std::alloc::Global;
+use std::sync::Wait;
+use std::thread::Threads;
+
+/// A heap has no more pages.
+const MOST_PAGES: u64 = 4096;
+
+/// An engine round another, which makes the marks. Behind them, still in the stop, it searches from the roots, breadth
+/// first, and notes what the cycle keeps of its snapshot, and through which words it is held.
+#[derive(Drop)]
+pub struct Why<E: Engine> {
+    inner: E,
+    pub(crate) tables: Tables,
+}
+
+impl<E: Engine> Why<E> {
+    /// What the last `close_marks` found kept, and why. Before the first the list is empty.
+    pub fn kept(&self, alloc: Global) -> Result<Vec<Kept>, NoMemory>
+        ensures kept { (c : Config) (w : World) → ⟦<Why<E> as Engine>⟧.tells self.now c w
+            → IfOk result (λ entries. AreKept c w entries.items) }
+        ensures none { ((base : ℕ) → at self.now.tables.kept.items base ≡ None) → IfOk result (λ entries. entries.items ≡ []) }
+    {
+        list_entries(&self.tables, alloc)
+    }
+}
+
+impl<E: Engine> Engine for Why<E> {
+    ghost on = { E.on };
+
+    ghost sweeps = { E.sweeps };
+
+    ghost made_for = { λ why. pages_for (E.made_for why.inner) (length why.tables.found.items) };
+
+    ghost tells = { λ why c w. IsToldBefore (E.tells why.inner) c w
+        × IsTold c why.tables.found.items why.tables.kept.items (view_of w) };
+
+    fn make(alloc: Global, pages: u64) -> Result<Why<E>, NoMemory>
+        ensures made_for { IfOk result (λ why. pages_for (E.made_for why.inner) (length why.tables.found.items) ≡ pages) }
+        ensures none { IfOk result (λ why. (base : ℕ) → at why.tables.kept.items base ≡ None) }
+    {
+        let inner = E::make(alloc, pages)?;
+        let tables = Tables::new(alloc, pages.min(MOST_PAGES))?;
+        Ok(Why { inner, tables })
+    }
+
+    fn keeps_on(&self) -> bool {
+        self.inner.keeps_on()
+    }
+
+    fn begin<R: Threads + Wait + Sync>(&mut self, rt: &R, words: &Words, turn: &mut Turn) {
+        words.is_within_limits();
+        self.inner.begin(rt, words, turn);
+    }
+
+    fn close_marks<R: Threads + Wait + Sync>(&mut self, rt: &R, words: &Words, stop: &mut Stopped) {
+        words.is_within_limits();
+        self.inner.close_marks(rt, words, stop);
+        stop.is_in_order();
+        self.tables.forget_found();
+        search(words, stop, &mut self.tables);
+        self.tables.forget_kept();
+        list_kept(words, stop, &mut self.tables);
+        stop.is_in_order();
+    }
+}
