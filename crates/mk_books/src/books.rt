@@ -3,12 +3,18 @@ ghost use Rattle.std.specs.Prelude.{◌≡◌, ◌<◌, length, replicate, slice
 ghost use Rattle.mk_geom.specs.Storages.{free_page};
 
 use mk_geom::{FREE_PAGE, Page};
-use std::alloc::Global;
+use std::alloc::{AllocError, Global};
 use std::marker::Model;
 
 /// There is no memory.
 #[derive(Clone, Copy, Debug, PartialEq, Eq)]
 pub struct NoMemory;
+
+impl From<AllocError> for NoMemory {
+    fn from(_refused: AllocError) -> NoMemory {
+        NoMemory
+    }
+}
 
 /// A list of pages, whose number stays.
 #[derive(Drop)]
@@ -30,7 +36,7 @@ impl Book {
     pub fn new(alloc: Global, pages: u64) -> Result<Book, NoMemory>
         ensures { IfOk result (λ book. book ≡ replicate pages free_page) }
     {
-        let pages = vec![in alloc; FREE_PAGE; pages as usize].map_err(|_| NoMemory)?;
+        let pages = vec![in alloc; FREE_PAGE; pages as usize]?;
         Ok(Book { pages })
     }
 

@@ -42,7 +42,8 @@ pub record TalliesAreTidy (c : Config) (es : List Event) : Type 0 where
 -- A list is tidy where they are so before each `give`.
 abbrev pub IsTidy : Config → List Event → Type 0
 IsTidy c es =
-    (before : List Event) (e : Event) (behind : List Event) → es ≡ before ++ e ∷ behind → e.step ≡ step.Give → TalliesAreTidy c before
+    (before : List Event) (e : Event) (behind : List Event)
+    → es ≡ before ++ e ∷ behind → e.step ≡ step.Give → TalliesAreTidy c before
 
 -- The tallies of held and fresh words are those of the allocations.
 pub record TalliesAreExact (c : Config) (es : List Event) : Type 0 where

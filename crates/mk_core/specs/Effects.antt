@@ -147,7 +147,12 @@ holding_behind c m s f found (step.Quar p v) h =
     record h { freed = or_else (run_of_cell m.words (cell_freed c.pages m.words f p v)) h.freed }
 holding_behind c m s f found step.Grant h = record h { placing = Granted }
 holding_behind c m s f found (step.Mark p v) h =
-    record h { placing = if marks_place m.words (object_made c f.op) (place_now c m f) p v then chosen h.placing (place_now c m f) else h.placing }
+    record h {
+      placing =
+          if marks_place m.words (object_made c f.op) (place_now c m f) p v
+          then chosen h.placing (place_now c m f)
+          else h.placing;
+    }
 holding_behind c m s f found step.Begin h = record h { hand = None; cycle = Begun }
 holding_behind c m s f found step.End h = record h { cycle = cycle_ended h.cycle }
 holding_behind c m s f found _ h = h
@@ -174,7 +179,9 @@ scan_begun page index header =
       page = page;
       index = index;
       next = 64 * page + index * words_under (header_of header);
-      end = 64 * page + index * words_under (header_of header) + (if has_no_pointers (header_of header) then 0 else words_under (header_of header));
+      end =
+          64 * page + index * words_under (header_of header)
+          + (if has_no_pointers (header_of header) then 0 else words_under (header_of header));
     }
 
 abbrev pub scan_claimed : ℕ → ℕ → ℕ → Option SeenHeader → Option Scan

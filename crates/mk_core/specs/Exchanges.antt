@@ -23,5 +23,6 @@ ComparesValues c es k q i p number =
 abbrev pub ExchangesCompareValues : Config → List Event → Type 0
 ExchangesCompareValues c es =
     (before behind : List Event) (k q i p r number : ℕ)
-    → es ≡ before ++ record { seat = Caller k; step = step.Cas } ∷ behind → (flight_of (left c before).now (Caller k)).op ≡ op.CasPtr q i p r
+    → es ≡ before ++ record { seat = Caller k; step = step.Cas } ∷ behind
+    → (flight_of (left c before).now (Caller k)).op ≡ op.CasPtr q i p r
     → ComparesValues c before k q i p number

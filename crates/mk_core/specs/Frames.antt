@@ -55,7 +55,8 @@ pub record OwnIsLeft (c : Config) (s : Seat) (w v : World) : Type 0 where
 -- A caller in a call outside the turn keeps its gate, and no page becomes unmapped.
 pub record CallIsLeft (w v : World) (k : ℕ) : Type 0 where
   pub gate : slice_index v.now.words.gates k ≡ 1
-  pub mapped : (p : ℕ) → is_unmapped_header (header_in w.now.words p) ≡ false → is_unmapped_header (header_in v.now.words p) ≡ false
+  pub mapped :
+      (p : ℕ) → is_unmapped_header (header_in w.now.words p) ≡ false → is_unmapped_header (header_in v.now.words p) ≡ false
 
 -- what none but the turn's holder changes
 pub record Steady : Type 0 where
@@ -115,7 +116,8 @@ pub record TurnIsLeft (w v : World) : Type 0 where
   pub held_gates : (j : ℕ) → slice_index w.now.words.gates j ≡ 2 → slice_index v.now.words.gates j ≡ 2
   pub other_gates : (j : ℕ) → slice_index w.now.words.gates j ≢ 2 → slice_index v.now.words.gates j ≢ 2
   pub held_callers : (j : ℕ) → slice_index w.now.words.gates j ≡ 2 → flight_of v.now (Caller j) ≡ flight_of w.now (Caller j)
-  pub held_registers : (j r : ℕ) → r < 8 → slice_index w.now.words.gates j ≡ 2 → register_word v.now.words j r ≡ register_word w.now.words j r
+  pub held_registers :
+      (j r : ℕ) → r < 8 → slice_index w.now.words.gates j ≡ 2 → register_word v.now.words j r ≡ register_word w.now.words j r
   pub marks_grow : OnlyGrow w.now.words.marks v.now.words.marks
   pub blacks_grow : OnlyGrow w.now.words.blacks v.now.words.blacks
   pub unmarked : phase_of w.now.words ≢ 1 → phase_of w.now.words ≢ 2

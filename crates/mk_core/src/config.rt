@@ -37,7 +37,7 @@ impl GlobalTable {
         ensures added { OnOk result (self.new ≡ self.old ++ ty ∷ []) }
         ensures unchanged { OnErr result (self.new ≡ self.old) }
     {
-        self.types.push(ty).map_err(|_| NoMemory)
+        Ok(self.types.push(ty)?)
     }
 
     /// A copy.
@@ -45,7 +45,7 @@ impl GlobalTable {
         ensures { IfOk result (λ globals. globals ≡ self.now) }
     {
         let mut types = Vec::new(alloc);
-        types.extend_from_slice(&self.types).map_err(|_| NoMemory)?;
+        types.extend_from_slice(&self.types)?;
         Ok(GlobalTable { types })
     }
 

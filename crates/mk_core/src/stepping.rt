@@ -24,13 +24,13 @@ use std::alloc::Global;
 fn no_calls(alloc: Global, callers: usize) -> Result<Vec<Flight>, NoMemory>
     ensures { IfOk result (λ flights. flights.items ≡ replicate callers at_rest) }
 {
-    Vec::from_elem(alloc, AT_REST, callers).map_err(|_| NoMemory)
+    Ok(Vec::from_elem(alloc, AT_REST, callers)?)
 }
 
 fn markers_outside(alloc: Global, markers: usize) -> Result<Vec<Marker>, NoMemory>
     ensures { IfOk result (λ list. list.items ≡ replicate markers outside) }
 {
-    Vec::from_elem(alloc, OUTSIDE, markers).map_err(|_| NoMemory)
+    Ok(Vec::from_elem(alloc, OUTSIDE, markers)?)
 }
 
 impl Core {

@@ -44,19 +44,19 @@ impl Model for Table {
 fn zeros(alloc: Global, count: usize) -> Result<Vec<u64>, NoMemory>
     ensures { IfOk result (λ list. list.items ≡ replicate count 0) }
 {
-    Vec::from_elem(alloc, 0, count).map_err(|_| NoMemory)
+    Ok(Vec::from_elem(alloc, 0, count)?)
 }
 
 fn no_cells(alloc: Global, count: usize) -> Result<Vec<u32>, NoMemory>
     ensures { IfOk result (λ list. list.items ≡ replicate count 0) }
 {
-    Vec::from_elem(alloc, 0, count).map_err(|_| NoMemory)
+    Ok(Vec::from_elem(alloc, 0, count)?)
 }
 
 fn free_pages(alloc: Global, count: usize) -> Result<Vec<Page>, NoMemory>
     ensures { IfOk result (λ list. list.items ≡ replicate count free_page) }
 {
-    Vec::from_elem(alloc, FREE_PAGE, count).map_err(|_| NoMemory)
+    Ok(Vec::from_elem(alloc, FREE_PAGE, count)?)
 }
 
 /// The number at a place that may be greater than any list is long.

@@ -8,12 +8,24 @@ mod applying;
 
 use crate::values::Target;
 use crate::{Kind, Reply, TypeTable, Value};
-use std::alloc::Global;
+use std::alloc::{AllocError, AllocFailed, Global};
 use std::marker::Model;
 
 /// There is no memory.
 #[derive(Clone, Copy, Debug, PartialEq, Eq)]
 pub struct NoMemory;
+
+impl From<AllocError> for NoMemory {
+    fn from(_refused: AllocError) -> NoMemory {
+        NoMemory
+    }
+}
+
+impl<T: Drop> From<AllocFailed<T>> for NoMemory {
+    fn from(_refused: AllocFailed<T>) -> NoMemory {
+        NoMemory
+    }
+}
 
 /// An allocation: the type that it was made for, its words, and whether it was freed.
 #[derive(Drop)]
@@ -97,10 +109,7 @@ fn zero(kind: &Kind) -> Value
 fn zeros(alloc: Global, kinds: &[Kind]) -> Result<Vec<Value>, NoMemory>
     ensures { IfOk result (λ words. words.items ≡ zero_words kinds.now) }
 {
-    let Ok(words) = kinds.iter().map(|kind| zero(kind)).collect(alloc) else {
-        return Err(NoMemory);
-    };
-    Ok(words)
+    Ok(kinds.iter().map(|kind| zero(kind)).collect(alloc)?)
 }
 
 impl NeverHeap {
@@ -112,12 +121,8 @@ impl NeverHeap {
             return Err(NoMemory);
         };
         let types = types.try_clone(alloc)?;
-        let Ok(registers) = Vec::from_elem(alloc, Value::Null, count as usize) else {
-            return Err(NoMemory);
-        };
-        let Ok(globals) = Vec::from_elem(alloc, Value::Null, 64) else {
-            return Err(NoMemory);
-        };
+        let registers = Vec::from_elem(alloc, Value::Null, count as usize)?;
+        let globals = Vec::from_elem(alloc, Value::Null, 64)?;
         Ok(NeverHeap {
             alloc,
             types,
@@ -218,9 +223,6 @@ impl NeverHeap {
             words,
             freed: false,
         };
-        match self.objects.push(object) {
-            Ok(()) => Ok(()),
-            Err(_) => Err(NoMemory),
-        }
+        Ok(self.objects.push(object)?)
     }
 }

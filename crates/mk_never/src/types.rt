@@ -45,7 +45,7 @@ impl TypeTable {
         ensures added { OnOk result (self.new ≡ self.old ++ kinds.items ∷ []) }
         ensures unchanged { OnErr result (self.new ≡ self.old) }
     {
-        self.types.push(kinds).map_err(|_| NoMemory)
+        Ok(self.types.push(kinds)?)
     }
 
     /// The kinds of a type.
@@ -69,9 +69,7 @@ impl TypeTable {
     {
         let mut copy = TypeTable::new(alloc);
         for ty in 0..self.count() {
-            let Ok(kinds) = self.kinds(ty).to_vec(alloc) else {
-                return Err(NoMemory);
-            };
+            let kinds = self.kinds(ty).to_vec(alloc)?;
             copy.add(kinds)?;
         }
         Ok(copy)

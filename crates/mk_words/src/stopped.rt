@@ -83,6 +83,7 @@ impl Stopped {
     }
 
     /// Looks at a word. Behind an undecided Free's look at its target's quarantine word the call may be decided.
+    #[inline(always)]
     pub fn look(&mut self, words: &Words, x: Word) -> u64
         requires one_table { self.old.pass.table ≡ words.now }
         requires enabled { IsEnabledTo self.old.pass (step.Look x) }

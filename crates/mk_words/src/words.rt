@@ -42,7 +42,7 @@ impl Model for Words {
 fn zeros(alloc: Global, count: usize) -> Result<Vec<u64>, NoMemory>
     ensures { IfOk result (λ list. list.items ≡ replicate count 0) }
 {
-    Vec::from_elem(alloc, 0, count).map_err(|_| NoMemory)
+    Ok(Vec::from_elem(alloc, 0, count)?)
 }
 
 impl Words {
