@@ -16,7 +16,7 @@ use Rattle.mk_check.specs.declared.text.Text.{Text}
 use Rattle.mk_check.specs.Declarations.{config_of}
 use Rattle.mk_check.specs.Laws.{IsScript}
 use Rattle.mk_script.proofs.Spacing.{drop_next}
-use Rattle.mk_gen.specs.Generated.{all_names, generated}
+use Rattle.mk_gen.specs.Generated.{all_names, generated_program}
 use Rattle.mk_gen.proofs.GeneratedLaws.{generated_declares_nodes, generated_makes_turns}
 use Rattle.mk_heap.specs.Reports as report
 use Rattle.mk_run.specs.declared.outcomes.Outcome.{Outcome}
@@ -24,7 +24,7 @@ use Rattle.mk_run.specs.Running.{answers_in, IsRunOf}
 use Rattle.mk_run.specs.Headline.{StandsInOneHistory, cycles_go_on}
 use Rattle.mk_run.specs.Unswept.{IsUnswept}
 use Rattle.mk_run.proofs.Headline.{runs_to_its_end, runs_stand_in_one_history}
-use Rattle.markus.specs.Summary.{script_line, total_line, calls_made, line_of, summary}
+use Rattle.markus.specs.Summary.{script_line, total_line, calls_made, line_of_script, summary}
 use Rattle.markus.specs.SummedTexts.{line_of_text, lines_from, all_ops, summary_of_texts, AreFew}
 
 -- Lines and sums, place by place.
@@ -83,12 +83,12 @@ name_is (suc (suc (suc zero))) h = rw (decimal_digit 3 (omega arith)) refl
 name_is (suc (suc (suc (suc k)))) h = absurd (omega arith)
 
 module _ (start count markers : ℕ) (outcome : Outcome)
-    (runs : IsRunOf (cycles_go_on markers) (generated start count) markers outcome) where
+    (runs : IsRunOf (cycles_go_on markers) (generated_program start count) markers outcome) where
   abbrev program : List Item
-  program = generated start count
+  program = generated_program start count
 
   abbrev c : Config
-  c = config_of (generated start count) markers
+  c = config_of (generated_program start count) markers
 
   abbrev es : List Event
   es = report.history_of outcome.report
@@ -115,7 +115,7 @@ module _ (start count markers : ℕ) (outcome : Outcome)
       omega arith
 
   line_is : (k : ℕ) (text : Text) → slice_get outcome.texts.items k ≡ Some text
-      → line_of_text k text ≡ line_of program c es k
+      → line_of_text k text ≡ line_of_script program c es k
   line_is k text is =
       let t = runs.texts k text is in
       let script = is_script k text is in
@@ -130,15 +130,15 @@ module _ (start count markers : ℕ) (outcome : Outcome)
   summary_is : summary_of_texts outcome.texts.items ≡ summary program c es
   summary_is =
       let texts = outcome.texts.items in
-      let lines = lines_are (line_of program c es) 0 texts (λ k text is.
+      let lines = lines_are (line_of_script program c es) 0 texts (λ k text is.
       let same : 0 + k ≡ k = omega arith in
-      ap (λ (j : ℕ). line_of_text j text) same ∙ line_is k text is ∙ ap (line_of program c es) (sym same)) in
+      ap (λ (j : ℕ). line_of_text j text) same ∙ line_is k text is ∙ ap (line_of_script program c es) (sym same)) in
       let sums = sums_are (calls_made c es) 0 texts (λ k text is.
       (runs.texts k text is).ops ∙ ap (calls_made c es) (omega arith)) in
       let counted = runs.count in
       ap (λ (front : List ℕ). front ++ total_line (all_ops texts)) lines
-      ∙ ap (λ (n : ℕ). flat_map (line_of program c es) (range_with_len 0 (length texts)) ++ total_line n) sums
-      ∙ ap (λ (n : ℕ). flat_map (line_of program c es) (range_with_len 0 n) ++ total_line (sum_by (calls_made c es) (range_with_len 0 n))) counted
+      ∙ ap (λ (n : ℕ). flat_map (line_of_script program c es) (range_with_len 0 (length texts)) ++ total_line n) sums
+      ∙ ap (λ (n : ℕ). flat_map (line_of_script program c es) (range_with_len 0 n) ++ total_line (sum_by (calls_made c es) (range_with_len 0 n))) counted
 
   pub run_is_summed : IsUnswept c es → (bytes : List ℕ) → bytes ≡ summary_of_texts outcome.texts.items
       → StandsInOneHistory program markers false (summary program) bytes

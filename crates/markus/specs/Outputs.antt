@@ -1,5 +1,6 @@
 -- What a command writes, and the status that it ends with where nothing fails.
-use Rattle.std.specs.Prelude.{◌≡◌, ℕ, Bool, true, false, List, [], ◌++◌, Option, Some, None, IfSome, Ok as Accepted, Err as Refused, ◌⊎◌}
+use Rattle.std.specs.Prelude.{◌≡◌, ℕ, Bool, true, false, List, [], ◌++◌, Option, Some, None, IfSome, Ok as Accepted}
+use Rattle.std.specs.Prelude.{Err as Refused, ◌⊎◌}
 use Rattle.std.specs.declared.result.Result.{Result}
 use lib.Chars.{codes}
 use Rattle.mk_script.specs.declared.items.Item.{Item}
@@ -12,6 +13,7 @@ use Rattle.mk_check.specs.declared.typing_faults.TypeStop.TheVariants as typing
 use Rattle.mk_check.specs.Typing.{TypingFault, first_typing_fault}
 use Rattle.mk_check.specs.Declarations.{config_of}
 use Rattle.mk_check.specs.Output.{output as output_behind}
+use Rattle.mk_core.specs.declared.events.Event.{Event}
 use Rattle.mk_core.specs.History.{AreEnabled}
 use Rattle.mk_theorems.specs.Promises.{KeepsAllPromises}
 use Rattle.mk_run.specs.Headline.{StandsInOneHistory}
@@ -23,10 +25,13 @@ use Rattle.mk_replay.specs.declared.replaying.ReplayStop.{ReplayStop}
 use Rattle.mk_replay.specs.declared.replaying.ReplayStop.TheVariants as replay
 use Rattle.mk_replay.specs.Schedules.{replay_of}
 use Rattle.mk_replay.specs.Replays.{history_of, refusal_of}
-use Rattle.mk_gen.specs.Generated.{generated}
+use Rattle.mk_gen.specs.Generated.{generated_program}
 use Rattle.mk_trace.specs.declared.faults.TraceStop.{TraceStop}
 use Rattle.mk_trace.specs.declared.faults.TraceStop.TheVariants as trace
+use Rattle.mk_trace.specs.declared.peaks.Peaks.{Peaks}
 use Rattle.mk_trace.specs.Traces.{Contents, trace_of}
+use Rattle.mk_trace.specs.Playing.{IsPlayed, AreCounted, IsMostHeld}
+use Rattle.mk_trace.specs.Printed.{peaks_text}
 use Rattle.markus.specs.declared.commands.Command.{Command}
 use Rattle.markus.specs.declared.commands.Command.TheVariants as asked
 use Rattle.markus.specs.declared.commands.TextCommand.{TextCommand}
@@ -34,7 +39,7 @@ use Rattle.markus.specs.declared.commands.TextCommand.TheVariants.{Run, Check, P
 use Rattle.markus.specs.declared.commands.Options.{Options}
 use Rattle.markus.specs.declared.commands.Request.{Request}
 use Rattle.markus.specs.declared.statuses.Status.{Status}
-use Rattle.markus.specs.declared.statuses.Status.TheVariants.{Ok, NoMemory, Text, IllTyped, Limit, NotEnabled, NotBuilt}
+use Rattle.markus.specs.declared.statuses.Status.TheVariants.{Ok, NoMemory, Text, IllTyped, Limit, NotEnabled}
 use Rattle.markus.specs.Commands.{command_of}
 use Rattle.markus.specs.KeptText.{kept_text}
 use Rattle.markus.specs.Summary.{summary}
@@ -85,9 +90,9 @@ status_of_trace_stop (trace.IllTyped line kind) = IllTyped line kind
 status_of_trace_stop (trace.Limit line which found) = Limit line which found
 status_of_trace_stop trace.NoMemory = NoMemory
 
--- A trace without a fault isn't played yet.
+-- Each trace without a fault is played to its end.
 abbrev pub status_of_trace : Result Contents TraceStop → Status
-status_of_trace (Accepted contents) = NotBuilt
+status_of_trace (Accepted contents) = Ok
 status_of_trace (Refused stop) = status_of_trace_stop stop
 
 -- the status of a command on an input, where nothing fails
@@ -98,9 +103,9 @@ status_on command input = status_of_text command (program_of input)
 
 -- What a run prints that tells why objects are kept. The program's replies stand in one history of its heap, and what
 -- its scripts print of it is written, whole, and behind that the lines of the entries. In this history a cycle is begun
--- and ended behind the last step of every script, in one turn of the host. The entries are those of its `close`, the last
--- one of all: each object that was freed before this cycle and is marked, with a shortest chain from a register or a
--- global to it.
+-- and ended behind the last step of every script, in one turn of the host. The entries are those of its `close`, the
+-- last one of all: each object that was freed before this cycle and is marked, with a shortest chain from a register or
+-- a global to it.
 pub record TellsWhatIsKept (program : List Item) (markers : ℕ) (sweep : Bool) (output : List ℕ) : Type 0 where
   pub entries : List Kept
   pub stands :
@@ -111,7 +116,8 @@ pub record TellsWhatIsKept (program : List Item) (markers : ℕ) (sweep : Bool) 
 -- heap, and what its scripts print of it is written.
 abbrev pub IsOutputOfRun : Bool → List Item → ℕ → Bool → List ℕ → Type 0
 IsOutputOfRun true program markers sweep output = TellsWhatIsKept program markers sweep output
-IsOutputOfRun false program markers sweep output = StandsInOneHistory program markers sweep (output_behind program) output
+IsOutputOfRun false program markers sweep output =
+    StandsInOneHistory program markers sweep (output_behind program) output
 
 abbrev pub IsOutputOf : TextCommand → List Item → List ℕ → Type 0
 IsOutputOf (Run options) program output =
@@ -138,10 +144,26 @@ pub record IsOutputOnSchedule (input output : List ℕ) : Type 0 where
   pub promises : KeepsAllPromises (config_of program 8) (history_of program schedule)
   pub output_is : output ≡ output_behind program (config_of program 8) (history_of program schedule)
 
+-- What is written of a trace that was played: the lines of peaks. Of the history that its playing made they have the
+-- events, the refused ones, the cycles and the most that was held.
+pub record TellsOfPlay (contents : Contents) (output : List ℕ) : Type 0 where
+  pub history : List Event
+  pub played : IsPlayed contents history
+  pub peaks : Peaks
+  pub are_counted : AreCounted contents history peaks
+  pub most_held : IsMostHeld contents history peaks
+  pub output_is : output ≡ peaks_text peaks
+
+-- what `trace` writes on a text that is a trace without fault
+pub record IsOutputOnTrace (input output : List ℕ) : Type 0 where
+  pub contents : Contents
+  pub is_text : trace_of input ≡ Accepted contents
+  pub told : TellsOfPlay contents output
+
 -- what a command writes on an input that it accepts
 abbrev pub IsOutput : TextCommand → List ℕ → List ℕ → Type 0
 IsOutput Replay input output = IsOutputOnSchedule input output
-IsOutput Trace input output = ⊥
+IsOutput Trace input output = IsOutputOnTrace input output
 IsOutput command input output = IsOutputOnProgram command input output
 
 -- An input was read from the source to its end, and this is what the command writes on it. Where the source doesn't
@@ -156,7 +178,7 @@ pub record IsOutputOnSource (command : TextCommand) (old new : Option (List ℕ)
 pub record IsOutputOfRequest (request : Request) (old new : Option (List ℕ)) (output : List ℕ) : Type 0 where
   pub unread : new ≡ old
   pub output_is :
-      let program = generated request.start request.count in
+      let program = generated_program request.start request.count in
       StandsInOneHistory program request.markers false (summary program) output
 
 abbrev pub Answers : Command → Option (List ℕ) → Option (List ℕ) → List ℕ → Type 0

@@ -5,23 +5,24 @@ use lib.Chars.{codes}
 use Rattle.mk_script.specs.declared.faults.TextKind.{TextKind}
 use Rattle.mk_script.specs.declared.faults.TextKind.TheVariants as text
 use Rattle.mk_script.specs.declared.faults.Which.{Which}
-use Rattle.mk_script.specs.declared.faults.Which.TheVariants.{Bytes, Pages, Resident, Scripts, Globals, Types, Words, Pointers, Numbers, Depth}
+use Rattle.mk_script.specs.declared.faults.Which.TheVariants.{Bytes, Pages, Resident, Scripts, Globals, Types, Words}
+use Rattle.mk_script.specs.declared.faults.Which.TheVariants.{Pointers, Numbers, Depth}
 use Rattle.mk_check.specs.declared.typing_faults.TypeKind.{TypeKind}
 use Rattle.mk_check.specs.declared.typing_faults.TypeKind.TheVariants as typing
 use Rattle.markus.specs.declared.statuses.Status.{Status}
-use Rattle.markus.specs.declared.statuses.Status.TheVariants.{Ok, NoMemory, Usage, ReadFault, WriteFault, Text, IllTyped, Limit, NotEnabled, NotBuilt}
+use Rattle.markus.specs.declared.statuses.Status.TheVariants.{Ok, NoMemory, Usage, ReadFault, WriteFault, Text}
+use Rattle.markus.specs.declared.statuses.Status.TheVariants.{IllTyped, Limit, NotEnabled}
 
-abbrev pub number_of : Status → ℕ
-number_of Ok = 0
-number_of NoMemory = 1
-number_of Usage = 2
-number_of ReadFault = 3
-number_of WriteFault = 4
-number_of (Text line kind) = 5
-number_of (IllTyped line fault) = 6
-number_of (Limit line which found) = 7
-number_of (NotEnabled line event condition) = 8
-number_of NotBuilt = 9
+abbrev pub status_number : Status → ℕ
+status_number Ok = 0
+status_number NoMemory = 1
+status_number Usage = 2
+status_number ReadFault = 3
+status_number WriteFault = 4
+status_number (Text line kind) = 5
+status_number (IllTyped line fault) = 6
+status_number (Limit line which found) = 7
+status_number (NotEnabled line event condition) = 8
 
 abbrev pub text_words : TextKind → List ℕ
 text_words text.Header = codes "header"
@@ -73,7 +74,6 @@ status_line (Text line kind) = at_line line (text_words kind)
 status_line (IllTyped line fault) = at_line line (typing_words fault)
 status_line (Limit line which found) = at_line line (limit_words which found)
 status_line (NotEnabled line event condition) = at_line line (not_enabled_words event condition)
-status_line NotBuilt = codes "not built\n"
 
 -- the statuses that come before the first write
 abbrev pub IsBeforeWriting : Status → Type 0
@@ -86,7 +86,6 @@ IsBeforeWriting (Text line kind) = Unit {0}
 IsBeforeWriting (IllTyped line fault) = Unit {0}
 IsBeforeWriting (Limit line which found) = Unit {0}
 IsBeforeWriting (NotEnabled line event condition) = Unit {0}
-IsBeforeWriting NotBuilt = Unit {0}
 
 -- the statuses that a text may have, but for Ok
 abbrev pub IsOfText : Status → Type 0
@@ -99,7 +98,6 @@ IsOfText (Text line kind) = Unit {0}
 IsOfText (IllTyped line fault) = Unit {0}
 IsOfText (Limit line which found) = Unit {0}
 IsOfText (NotEnabled line event condition) = Unit {0}
-IsOfText NotBuilt = Unit {0}
 
 -- the statuses that say what is wrong with a text
 abbrev pub IsRefusal : Status → Type 0
@@ -112,4 +110,3 @@ IsRefusal (Text line kind) = Unit {0}
 IsRefusal (IllTyped line fault) = Unit {0}
 IsRefusal (Limit line which found) = Unit {0}
 IsRefusal (NotEnabled line event condition) = Unit {0}
-IsRefusal NotBuilt = Unit {0}

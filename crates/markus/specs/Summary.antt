@@ -3,16 +3,18 @@ use Rattle.std.specs.Prelude.{ℕ, List, [], ◌++◌, length, count_by, sum_by,
 use Rattle.std.specs.List.{flat_map, range_with_len}
 use Rattle.std.specs.Fmt.{decimal}
 use lib.Chars.{codes}
+use Rattle.mk_check.specs.Feed.{is_refusal}
 use Rattle.mk_core.specs.declared.config.Config.{Config}
 use Rattle.mk_core.specs.declared.events.Event.{Event}
 use Rattle.mk_script.specs.declared.items.Item.{Item}
 use Rattle.mk_script.specs.Scopes.{script_names}
-use Rattle.mk_run.specs.Running.{answers_in, is_refusal}
+use Rattle.mk_run.specs.Running.{answers_in}
 
 -- a script's line: how many calls it made, and how many of them were refused
 abbrev pub script_line : List ℕ → ℕ → ℕ → List ℕ
 script_line name ops refused =
-    codes "script " ++ (name ++ (codes " ops " ++ (decimal ops ++ (codes " refused " ++ (decimal refused ++ codes "\n")))))
+    codes "script " ++ (name ++ (codes " ops " ++ (decimal ops ++
+    (codes " refused " ++ (decimal refused ++ codes "\n")))))
 
 -- the line of all calls
 abbrev pub total_line : ℕ → List ℕ
@@ -22,12 +24,13 @@ total_line ops = codes "total " ++ (decimal ops ++ codes "\n")
 abbrev pub calls_made : Config → List Event → ℕ → ℕ
 calls_made c es k = length (answers_in c k es)
 
-abbrev pub line_of : List Item → Config → List Event → ℕ → List ℕ
-line_of program c es k =
-    script_line (slice_index_or (script_names program) k []) (calls_made c es k) (count_by is_refusal (answers_in c k es))
+abbrev pub line_of_script : List Item → Config → List Event → ℕ → List ℕ
+line_of_script program c es k =
+    script_line (slice_index_or (script_names program) k []) (calls_made c es k)
+    (count_by is_refusal (answers_in c k es))
 
 -- a line for each script, and one for all
 abbrev pub summary : List Item → Config → List Event → List ℕ
 summary program c es =
-    flat_map (line_of program c es) (range_with_len 0 (length (script_names program)))
+    flat_map (line_of_script program c es) (range_with_len 0 (length (script_names program)))
     ++ total_line (sum_by (calls_made c es) (range_with_len 0 (length (script_names program))))

@@ -1,6 +1,6 @@
 //! Generated programs, and what is told of their runs.
 ghost use Rattle.std.specs.Prelude.{◌≡◌, ◌≤◌, ◌⊎◌, ◌++◌, length, string_bytes, IfOk, IfErr, OnOk, false};
-ghost use Rattle.mk_gen.specs.Generated.{generated};
+ghost use Rattle.mk_gen.specs.Generated.{generated_program};
 ghost use Rattle.mk_run.specs.Headline.{StandsInOneHistory};
 ghost use Rattle.markus.specs.Commands.{IsWithin};
 ghost use Rattle.markus.specs.declared.commands.Command.TheVariants as Command;
@@ -27,8 +27,8 @@ pub fn summed<P: Pace + Sync, R: Threads + Wait + Sync>(
     pace: &P,
 ) -> Result<Vec<u8>, Status>
     requires { IsWithin (Command.Gen request) }
-    ensures ok { IfOk result (λ output. StandsInOneHistory (generated request.start request.count) request.markers
-        false (summary (generated request.start request.count)) output.items) }
+    ensures ok { IfOk result (λ output. StandsInOneHistory (generated_program request.start request.count)
+        request.markers false (summary (generated_program request.start request.count)) output.items) }
     ensures refused { IfErr result (λ status. status ≡ Status.NoMemory) }
     ensures of_text { IfErr result (λ status. IsOfText status) }
 {
@@ -46,8 +46,8 @@ fn run<P: Pace + Sync, R: Threads + Wait + Sync>(
     pace: &P,
 ) -> Result<Vec<u8>, NoMemory>
     requires { IsWithin (Command.Gen request) }
-    ensures { IfOk result (λ bytes. StandsInOneHistory (generated request.start request.count) request.markers
-        false (summary (generated request.start request.count)) bytes.items) }
+    ensures { IfOk result (λ bytes. StandsInOneHistory (generated_program request.start request.count)
+        request.markers false (summary (generated_program request.start request.count)) bytes.items) }
 {
     let program = generate(alloc, request.start, request.count)?;
     let outcome = outcome_of(rt, alloc, &program, request.markers, false, pace)?;
@@ -79,18 +79,12 @@ fn push_line(lines: &mut String, number: u64, text: &Text) -> Result<(), NoMemor
 {
     let ops = text.ops;
     let refused = text.refused;
-    match writeln!(lines, "script s{number} ops {ops} refused {refused}") {
-        Ok(()) => Ok(()),
-        Err(_) => Err(NoMemory),
-    }
+    Ok(writeln!(lines, "script s{number} ops {ops} refused {refused}")?)
 }
 
 /// Appends the line of all scripts.
 fn push_total(lines: &mut String, ops: u64) -> Result<(), NoMemory>
     ensures { OnOk result (string_bytes lines.new ≡ string_bytes lines.old ++ total_line ops) }
 {
-    match writeln!(lines, "total {ops}") {
-        Ok(()) => Ok(()),
-        Err(_) => Err(NoMemory),
-    }
+    Ok(writeln!(lines, "total {ops}")?)
 }

@@ -2,9 +2,9 @@
 ghost use Rattle.std.specs.Prelude.{◌≡◌, map, option_map, string_bytes};
 ghost use lib.Chars.{codes};
 ghost use Rattle.markus.specs.Given as spec;
-ghost use Rattle.markus.specs.Given.{behind};
+ghost use Rattle.markus.specs.Given.{bytes_behind};
 
-use mk_script::number;
+use mk_script::parse_number;
 
 /// What words of the command line give, as far as they were read.
 #[derive(Clone, Copy, Debug, PartialEq, Eq)]
@@ -40,7 +40,7 @@ impl Given {
         if self.markers.is_some() {
             return None;
         }
-        let markers = number(digits)?;
+        let markers = parse_number(digits)?;
         Some(Given {
             markers: Some(markers),
             awaits: false,
@@ -72,7 +72,7 @@ impl Given {
     fn with_number(self, digits: &[u8]) -> Option<Given>
         ensures { result ≡ spec.with_number self digits.now }
     {
-        let found = number(digits)?;
+        let found = parse_number(digits)?;
         if self.start.is_none() {
             return Some(Given {
                 start: Some(found),
@@ -120,7 +120,7 @@ impl Given {
 
 /// What stands behind `--markers=`.
 fn behind_markers(word: &[u8]) -> Option<&[u8]>
-    ensures { option_map (λ digits. digits.now) result ≡ behind (codes "--markers=") word.now }
+    ensures { option_map (λ digits. digits.now) result ≡ bytes_behind (codes "--markers=") word.now }
 {
     word.strip_prefix(b"--markers=")
 }
@@ -133,5 +133,5 @@ pub fn given_by(words: &[String]) -> Option<Given>
     for word in words {
         given = given.with_word(word.as_str())?;
     }
-    if given.awaits { None } else { Some(given) }
+    (!given.awaits).then_some(given)
 }

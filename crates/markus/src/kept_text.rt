@@ -46,9 +46,7 @@ fn push_head(alloc: Global, text: &mut Vec<u8>, address: u64, words: u64) -> Res
     ensures { OnOk result (text.new.items
         ≡ text.old.items ++ line_text (codes "kept" ∷ decimal address ∷ decimal words ∷ [])) }
 {
-    let Ok(line) = format!(in alloc; "kept {address} {words}\n") else {
-        return Err(NoMemory);
-    };
+    let line = format!(in alloc; "kept {address} {words}\n")?;
     push(text, line.as_bytes())
 }
 
@@ -98,17 +96,12 @@ fn push_links(alloc: Global, text: &mut Vec<u8>, links: &[u64]) -> Result<(), No
 fn push_link(alloc: Global, text: &mut Vec<u8>, link: u64) -> Result<(), NoMemory>
     ensures { OnOk result (text.new.items ≡ text.old.items ++ line_text (codes "word" ∷ decimal link ∷ [])) }
 {
-    let Ok(line) = format!(in alloc; "word {link}\n") else {
-        return Err(NoMemory);
-    };
+    let line = format!(in alloc; "word {link}\n")?;
     push(text, line.as_bytes())
 }
 
 fn push(text: &mut Vec<u8>, piece: &[u8]) -> Result<(), NoMemory>
     ensures { OnOk result (text.new.items ≡ text.old.items ++ piece.now) }
 {
-    match text.extend_from_slice(piece) {
-        Ok(()) => Ok(()),
-        Err(_) => Err(NoMemory),
-    }
+    Ok(text.extend_from_slice(piece)?)
 }

@@ -4,7 +4,8 @@ ghost use Rattle.mk_io.specs.Bytes.{TakesAll};
 ghost use Rattle.mk_io.specs.Faults.{Rose};
 ghost use Rattle.mk_script.specs.Grammar.{program_of};
 ghost use Rattle.markus.specs.Commands.{AreWithin, IsWithin};
-ghost use Rattle.markus.specs.Outputs.{Answers, IsOutput, IsOutputOf, IsStatusOf, status_on, status_of_program, status_of_text};
+ghost use Rattle.markus.specs.Outputs.{Answers, IsOutput, IsOutputOf, IsStatusOf, status_on, status_of_program};
+ghost use Rattle.markus.specs.Outputs.{status_of_text};
 ghost use Rattle.markus.specs.Statuses.{IsBeforeWriting, IsOfText};
 
 use crate::commands::{Command, Options, TextCommand};
@@ -13,9 +14,9 @@ use crate::refusals::{text_refusal, type_refusal};
 use crate::replays::replayed;
 use crate::running::told;
 use crate::statuses::Status;
-use crate::traces::trace_status;
+use crate::traces::played;
 use mk_check::check;
-use mk_io::{ReadStop, Source, read_all};
+use mk_io::{INPUT_LIMIT, ReadStop, Source, read_all};
 use mk_run::Pace;
 use mk_script::{Program, Which, parse, print};
 use std::alloc::Global;
@@ -33,7 +34,8 @@ pub fn output_of<S: Source, P: Pace + Sync, R: Threads + Wait + Sync>(
     requires { IsWithin command }
     ensures ok { IfOk result (λ output. Answers command (S.left source.old) (S.left source.new) output.items) }
     ensures accepted { OnOk result (IsStatusOf command (S.left source.old) Status.Ok) }
-    ensures refused { IfErr result (λ status. status ≢ Status.ReadFault → IsStatusOf command (S.left source.old) status) }
+    ensures refused { IfErr result (λ status. status ≢ Status.ReadFault
+        → IsStatusOf command (S.left source.old) status) }
     ensures before_writing { IfErr result (λ status. IsBeforeWriting status) }
     ensures not_usage { IfErr result (λ status. status ≢ Status.Usage) }
     ensures read_fault { result ≡ Err Status.ReadFault → Rose (S.faults source.old) (S.faults source.new) }
@@ -65,7 +67,7 @@ fn input_of<S: Source>(alloc: Global, source: &mut S) -> Result<Vec<u8>, Status>
         ReadStop::TooLong => Status::Limit {
             line: 0,
             which: Which::Bytes,
-            found: 1_048_577,
+            found: INPUT_LIMIT as u64 + 1,
         },
         ReadStop::NoMemory => Status::NoMemory,
     })
@@ -90,7 +92,7 @@ fn output_on<P: Pace + Sync, R: Threads + Wait + Sync>(
         TextCommand::Check => accept(alloc, read(alloc, text)?),
         TextCommand::Print => canonical(alloc, read(alloc, text)?),
         TextCommand::Replay => replayed(alloc, text),
-        TextCommand::Trace => Err(trace_status(alloc, text)),
+        TextCommand::Trace => played(rt, alloc, text),
     }
 }
 

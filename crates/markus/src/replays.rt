@@ -20,7 +20,8 @@ use std::alloc::Global;
 /// What `replay` writes on a text, whole.
 pub fn replayed(alloc: Global, text: &[u8]) -> Result<Vec<u8>, Status>
     ensures ok { IfOk result (λ output. IsOutputOnSchedule text.now output.items) }
-    ensures refused { IfErr result (λ status. (status ≡ Status.NoMemory) ⊎ (status ≡ status_on TextCommand.Replay text.now)) }
+    ensures refused { IfErr result (λ status. (status ≡ Status.NoMemory)
+        ⊎ (status ≡ status_on TextCommand.Replay text.now)) }
     ensures of_text { IfErr result (λ status. IsOfText status) }
 {
     match parse_replay(alloc, text) {
@@ -32,11 +33,13 @@ pub fn replayed(alloc: Global, text: &[u8]) -> Result<Vec<u8>, Status>
 /// What the program's scripts have printed behind the schedule.
 #[tactic(auto, using(crate::proofs::PrintedTexts::texts_are_printed))]
 fn run(alloc: Global, program: Program, schedule: &Schedule) -> Result<Vec<u8>, Status>
-    ensures printed { IfOk result (λ bytes. bytes.items ≡ output program (config_of program 8) (history_of program schedule.now)) }
+    ensures printed { IfOk result (λ bytes. bytes.items ≡ output program (config_of program 8)
+        (history_of program schedule.now)) }
     ensures enabled { OnOk result (AreEnabled (config_of program 8) (history_of program schedule.now)) }
     ensures promises { OnOk result (KeepsAllPromises (config_of program 8) (history_of program schedule.now)) }
     ensures accepted { OnOk result (status_of_schedule program schedule.now ≡ Status.Ok) }
-    ensures refused { IfErr result (λ status. (status ≡ Status.NoMemory) ⊎ (status ≡ status_of_schedule program schedule.now)) }
+    ensures refused { IfErr result (λ status. (status ≡ Status.NoMemory)
+        ⊎ (status ≡ status_of_schedule program schedule.now)) }
     ensures of_text { IfErr result (λ status. IsOfText status) }
 {
     let checked = match check(alloc, program) {

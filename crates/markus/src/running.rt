@@ -24,8 +24,8 @@ use std::alloc::Global;
 use std::sync::Wait;
 use std::thread::Threads;
 
-/// The run of a program's scripts, each on a thread of its own. With markers a cycle goes on beside them; without, it is
-/// made in the stop, by tracing or by a sweep.
+/// The run of a program's scripts, each on a thread of its own. With markers a cycle goes on beside them; without, it
+/// is made in the stop, by tracing or by a sweep.
 pub fn outcome_of<P: Pace + Sync, R: Threads + Wait + Sync>(
     rt: &R,
     alloc: Global,

@@ -1,7 +1,8 @@
 //! How the program ends.
 ghost use Rattle.std.specs.Prelude.{◌≡◌, IfOk, string_bytes};
 ghost use Rattle.markus.specs.Statuses as spec;
-ghost use Rattle.markus.specs.Statuses.{number_of, status_line, text_words, typing_words, which_word, limit_words, not_enabled_words};
+ghost use Rattle.markus.specs.Statuses.{status_number, status_line, text_words, typing_words, which_word, limit_words};
+ghost use Rattle.markus.specs.Statuses.{not_enabled_words};
 
 use mk_check::TypeKind;
 use mk_never::NoMemory;
@@ -39,14 +40,12 @@ pub enum Status {
         event: u64,
         condition: u64,
     },
-    /// The text asks for what isn't built yet.
-    NotBuilt,
 }
 
 impl Status {
     /// The number that the program ends with.
     pub fn number(&self) -> u8
-        ensures { result ≡ number_of self.now }
+        ensures { result ≡ status_number self.now }
     {
         match self {
             Status::Ok => 0,
@@ -58,7 +57,6 @@ impl Status {
             Status::IllTyped { .. } => 6,
             Status::Limit { .. } => 7,
             Status::NotEnabled { .. } => 8,
-            Status::NotBuilt => 9,
         }
     }
 
@@ -66,10 +64,7 @@ impl Status {
     pub fn text(&self, alloc: Global) -> Result<Vec<u8>, NoMemory>
         ensures { IfOk result (λ text. text.items ≡ status_line self.now) }
     {
-        match self.line(alloc) {
-            Ok(line) => Ok(line.into_bytes()),
-            Err(_) => Err(NoMemory),
-        }
+        Ok(self.line(alloc)?.into_bytes())
     }
 
     fn line(&self, alloc: Global) -> Result<String, AllocError>
@@ -92,7 +87,6 @@ impl Status {
                 event,
                 condition,
             } => not_enabled_line(alloc, *line, *event, *condition),
-            Status::NotBuilt => String::from_str(alloc, "not built\n"),
         }
     }
 }

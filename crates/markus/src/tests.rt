@@ -23,11 +23,11 @@ use texts::behind;
 const FIRST_RUN: &[u8] = b"heap 1 1\ntype A n*32\nscript s\nptr p A\nnum n\nnew p A\nconst n 7\n\
     setn p 1 n\nconst n 0\ngetn n p 1\nprint n\n";
 
-/// Commands, the lines of a text with `/` for a newline, and what is written, or the line that is told. They are: the first
-/// script; a refused load; a full heap; a loop of two rounds and a branch; a dangling load; a load from a freed run; a second
-/// free; scripts without instructions; options; a script of as many instructions as one may execute; a canonical text; a
-/// schedule with a load of a global before the store and one behind, that ends within a call of `s`; and the smallest generated
-/// program.
+/// Commands, the lines of a text with `/` for a newline, and what is written, or the line that is told. They are: the
+/// first script; a refused load; a full heap; a loop of two rounds and a branch; a dangling load; a load from a freed
+/// run; a second free; scripts without instructions; options; a freed object that a register keeps; a script of as many
+/// instructions as one may execute; a canonical text; a schedule with a load of a global before the store and one
+/// behind, that ends within a call of `s`; and the smallest generated program.
 const RUNS: &str = "\
 run | heap 1 1/type A n*32/script s/ptr p A/num n/new p A/const n 7/setn p 1 n/const n 0/\
     getn n p 1/print n/ -> script s/7/
@@ -44,6 +44,8 @@ run | heap 1 1/script s/script t/ -> script s/script t/
 run --markers 1 | heap 1 1/script s/ -> script s/
 run --sweep | heap 1 1/script s/ -> script s/
 run --markers=0 -- | heap 1 1/script s/ -> script s/
+run --why | heap 1 1/type A n*31 p:A/script s/ptr x A/ptr y A/new x A/new y A/setp x 31 y/free y/ -> \
+    script s/kept 65792 32/register s y/
 check | heap 1 1/type A n/script s/ptr p A/num n/const n 3/new p A/repeat 2/setn p 0 n/const n 0/\
     getn n p 0/if n/print n/else/new p A/end/end/ -> ok/
 check | heap 1 1/script s/num n/print n/repeat 499999/print n/end/ -> ok/
@@ -53,6 +55,9 @@ replay | heap 1 1/type A n*2/global g A/script s/ptr p A/new p A/storeg p g/show
     c1 enter; reg; leave/c0 take; head 0 13; used 0 1; grant; tally held 2; give/\
     c0 enter; reg; setg; leave/c1  enter;  getg; reg; leave /c1 enter; reg; leave/\
     c0 enter; reg -> script s/script t/13: null/0/ptr/
+trace | trace 1 1/slot x 32/a x/f x/c x/a x/a x/ -> events 5/refused 0/held 64/quarantined 32/reserved 0/cycles 2/\
+    age 2 1/
+trace | trace 4 2/slot b 65/a b/f b/c b/a b/ -> events 4/refused 0/held 128/quarantined 128/reserved 128/cycles 0/
 gen 0 48 |  -> script s0 ops 12 refused 0/script s1 ops 12 refused 0/script s2 ops 12 refused 0/\
     script s3 ops 12 refused 0/total 48/
 gen 0 --markers 1 48 |  -> script s0 ops 12 refused 0/script s1 ops 12 refused 0/script s2 ops 12 refused 0/\

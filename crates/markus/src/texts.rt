@@ -12,9 +12,7 @@ pub fn joined(alloc: Global, texts: &[Text]) -> Result<Vec<u8>, NoMemory>
 {
     let mut bytes = Vec::new(alloc);
     for text in texts {
-        if bytes.extend_from_slice(&text.bytes).is_err() {
-            return Err(NoMemory);
-        }
+        bytes.extend_from_slice(&text.bytes)?;
     }
     Ok(bytes)
 }

@@ -16,16 +16,16 @@ use std::sync::Wait;
 use std::thread::Threads;
 
 /// Does all that the program does. With the word `run`, `check`, `print`, `replay` or `trace` it reads a text from the
-/// source, and writes to the sink what its scripts print, the line `ok`, its canonical text, what its scripts have printed
-/// when the schedule behind it ends, or the peaks of its trace. Behind what the scripts print `run --why` tells which freed
-/// objects are kept, and by which pointers. With `gen START COUNT` it reads nothing, runs the program that is generated,
-/// and sums up. The whole output is made before the first write.
+/// source, and writes to the sink what its scripts print, the line `ok`, its canonical text, what its scripts have
+/// printed when the schedule behind it ends, or the peaks of its trace. Behind what the scripts print `run --why` tells
+/// which freed objects are kept, and by which pointers. With `gen START COUNT` it reads nothing, runs the program that
+/// is generated, and sums up. The whole output is made before the first write.
 ///
-/// Each script runs on a thread of its own, and the pace is told of each of its memory instructions. A trace is played on
-/// the calling thread.
+/// Each script runs on a thread of its own, and the pace is told of each of its memory instructions. A trace is played
+/// on the calling thread.
 ///
-/// Where the source doesn't tell its bytes, or the sink what it took, the clauses on these say nothing, as with standard
-/// input and output.
+/// Where the source doesn't tell its bytes, or the sink what it took, the clauses on these say nothing, as with
+/// standard input and output.
 pub fn markus<S: Source, K: Sink, P: Pace + Sync, R: Threads + Wait + Sync>(
     rt: &R,
     alloc: Global,
@@ -34,19 +34,23 @@ pub fn markus<S: Source, K: Sink, P: Pace + Sync, R: Threads + Wait + Sync>(
     sink: &mut K,
     pace: &P,
 ) -> Status
-    // What the command writes was written: on the text that was read to its end, which it accepts, or, with `gen`, of the
-    // program that it generates. With `run` and `gen` the replies of the program's scripts stand in one history of a heap
-    // that never reuses storage, each script's operations there once and in order. With `run --why` the entries are those
-    // of the cycle with which that history ends, and with `trace` the peaks are those of the history that playing makes.
+    // What the command writes was written: on the text that was read to its end, which it accepts, or, with `gen`, of
+    // the program that it generates. With `run` and `gen` the replies of the program's scripts stand in one history of
+    // a heap that never reuses storage, each script's operations there once and in order. With `run --why` the entries
+    // are those of the cycle with which that history ends, and with `trace` the counts and the most that was held are
+    // those of the history that playing makes.
     ensures ok { result ≡ Status.Ok →
-        HasAnswered (map (λ word. string_bytes word) words.now) (S.left source.old) (S.left source.new) (Appends (K.taken sink.old) (K.taken sink.new)) }
+        HasAnswered (map (λ word. string_bytes word) words.now) (S.left source.old) (S.left source.new)
+        (Appends (K.taken sink.old) (K.taken sink.new)) }
     ensures part { result ≡ Status.WriteFault →
-        HasAnswered (map (λ word. string_bytes word) words.now) (S.left source.old) (S.left source.new) (AppendsPart (K.taken sink.old) (K.taken sink.new)) }
+        HasAnswered (map (λ word. string_bytes word) words.now) (S.left source.old) (S.left source.new)
+        (AppendsPart (K.taken sink.old) (K.taken sink.new)) }
 
     // When each refusal comes.
     ensures usage { (result ≡ Status.Usage) ↔ (command_of (map (λ word. string_bytes word) words.now) ≡ None) }
     ensures read_fault { result ≡ Status.ReadFault → Rose (S.faults source.old) (S.faults source.new) }
-    ensures refused { IsRefusal result → IsStatusOn (command_of (map (λ word. string_bytes word) words.now)) (S.left source.old) result }
+    ensures refused { IsRefusal result
+        → IsStatusOn (command_of (map (λ word. string_bytes word) words.now)) (S.left source.old) result }
     ensures write_fault { result ≡ Status.WriteFault → Rose (K.faults sink.old) (K.faults sink.new) }
     ensures read_whole { result ≢ Status.ReadFault → S.faults source.new ≡ S.faults source.old }
     ensures written_whole { result ≢ Status.WriteFault → K.faults sink.new ≡ K.faults sink.old }
@@ -54,7 +58,8 @@ pub fn markus<S: Source, K: Sink, P: Pace + Sync, R: Threads + Wait + Sync>(
     // A source that never fails is read, and a sink that has room for what the command writes takes it.
     ensures sound { result ≡ Status.ReadFault → S.never_fails source.old ≡ false }
     ensures room { result ≡ Status.WriteFault →
-        HasAnswered (map (λ word. string_bytes word) words.now) (S.left source.old) (S.left source.new) (λ output. K.has_room sink.old (length output) ≡ false) }
+        HasAnswered (map (λ word. string_bytes word) words.now) (S.left source.old) (S.left source.new)
+        (λ output. K.has_room sink.old (length output) ≡ false) }
 
     // What a refusal leaves.
     ensures unread { result ≡ Status.Usage → source.new ≡ source.old }

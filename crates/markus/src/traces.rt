@@ -1,21 +1,42 @@
-//! What `trace` answers.
-ghost use Rattle.std.specs.Prelude.{◌≡◌, ◌⊎◌};
-ghost use Rattle.markus.specs.Outputs.{status_on};
+//! What playing a trace comes to.
+ghost use Rattle.std.specs.Prelude.{◌≡◌, ◌⊎◌, IfOk, IfErr, OnOk};
+ghost use Rattle.markus.specs.Outputs.{IsOutputOnTrace, TellsOfPlay, status_on};
 ghost use Rattle.markus.specs.Statuses.{IsOfText};
 
 use crate::commands::TextCommand;
 use crate::refusals::trace_refusal;
 use crate::statuses::Status;
-use mk_trace::parse_trace;
+use mk_never::NoMemory;
+use mk_trace::{Trace, parse_trace, play, print_peaks};
 use std::alloc::Global;
+use std::sync::Wait;
+use std::thread::Threads;
 
-/// The status of a text's trace: that of its first fault, or that traces aren't played yet.
-pub fn trace_status(alloc: Global, text: &[u8]) -> Status
-    ensures status { (result ≡ Status.NoMemory) ⊎ (result ≡ status_on TextCommand.Trace text.now) }
-    ensures of_text { IsOfText result }
+/// What `trace` writes on a text, whole.
+pub fn played<R: Threads + Wait + Sync>(
+    rt: &R,
+    alloc: Global,
+    text: &[u8],
+) -> Result<Vec<u8>, Status>
+    ensures ok { IfOk result (λ output. IsOutputOnTrace text.now output.items) }
+    ensures accepted { OnOk result (status_on TextCommand.Trace text.now ≡ Status.Ok) }
+    ensures refused { IfErr result (λ status. (status ≡ Status.NoMemory)
+        ⊎ (status ≡ status_on TextCommand.Trace text.now)) }
+    ensures of_text { IfErr result (λ status. IsOfText status) }
 {
     match parse_trace(alloc, text) {
-        Ok(_trace) => Status::NotBuilt,
-        Err(stop) => trace_refusal(stop),
+        Ok(trace) => match told(rt, alloc, &trace) {
+            Ok(lines) => Ok(lines),
+            Err(_) => Err(Status::NoMemory),
+        },
+        Err(stop) => Err(trace_refusal(stop)),
     }
+}
+
+/// The lines of the peaks of a trace, which is played.
+fn told<R: Threads + Wait + Sync>(rt: &R, alloc: Global, trace: &Trace) -> Result<Vec<u8>, NoMemory>
+    ensures { IfOk result (λ lines. TellsOfPlay trace.now lines.items) }
+{
+    let peaks = play(rt, alloc, trace)?;
+    print_peaks(alloc, &peaks)
 }

@@ -11,7 +11,7 @@ fn markers_of(given: Given) -> Option<u64>
     ensures { result ≡ spec.markers_of given }
 {
     let markers = given.markers.unwrap_or(0);
-    if markers <= 8 { Some(markers) } else { None }
+    (markers <= 8).then_some(markers)
 }
 
 fn run(given: Given) -> Option<Command>

@@ -268,5 +268,7 @@ module _ (p taken : PassState) (o : Op) (seat : IsCallers p) (own : Has p.seats 
           entry = entry;
           decided = decided_in p o a more whole entry;
           ends = record { turn = turn_of; exact = exact };
+          turn_op = refl;
+          turn_part = refl;
           rest = rests;
         }

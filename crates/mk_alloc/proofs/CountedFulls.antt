@@ -45,6 +45,7 @@ use Rattle.mk_cycle.proofs.CleaningSteps.{calm_keeps}
 use Rattle.mk_cycle.proofs.KeptInParts.{free_then, gates_behind, gates_then, same_config}
 use Rattle.mk_objects.specs.Placing.{IsUnplaced, object_for, place_now_for}
 use Rattle.mk_alloc.specs.Rooms.{AnswersFull, asks_room}
+use Rattle.mk_alloc.specs.TurnCycles.{lets_go}
 use Rattle.mk_alloc.specs.Underway.{IsQuiet}
 use Rattle.mk_alloc.proofs.CalledTurns.{of_others_alone, step_adds_none}
 use Rattle.mk_alloc.proofs.Going.{IsCallers}
@@ -52,6 +53,7 @@ use Rattle.mk_alloc.proofs.Parts.{part_lacks, seen_behind}
 use Rattle.mk_alloc.proofs.PlacedTurns.{none_freed_yet}
 use Rattle.mk_alloc.proofs.QuietTurns.{none_held_kept, same_phase}
 use Rattle.mk_alloc.proofs.RetiredTurns.{given_is_decided}
+use Rattle.mk_alloc.proofs.GrantParts.{calm_last, lets_go_held}
 use Rattle.mk_alloc.proofs.RoomParts.{room_lacks, rooms_held}
 use Rattle.mk_alloc.proofs.SeekingTurns.{new_callers, still_nowhere, unplaced_kept}
 use Rattle.mk_alloc.proofs.StepKinds.{AreApart}
@@ -76,6 +78,12 @@ unfolding counts_full
 counting_no_room step.Begin h = cc
 counting_no_room step.Want h = cc
 counting_no_room _ h = refl
+
+counting_lets_none_go : AreApart counts_full lets_go
+unfolding counts_full
+counting_lets_none_go step.Release h = cc
+counting_lets_none_go (step.Quar p v) h = cc
+counting_lets_none_go _ h = refl
 
 abbrev but_full : Steady → Steady
 but_full s = record s { full = 0 }
@@ -299,6 +307,9 @@ module _ (p p1 p2 : PassState) (n v : ℕ) (t : InTurn p) (quiet : IsQuiet p) (u
             };
             room = room_lacks (object_for p) p q does.more (seen_behind counts_full p q does)
                 (part_lacks counts_full asks_room p q counting_stays rooms_held counting_no_room t does history);
+            none = λ none. cc;
+            last = calm_last p q does.more (seen_behind counts_full p q does)
+                (part_lacks counts_full lets_go p q counting_stays lets_go_held counting_lets_none_go t does history);
           };
           before = es;
           behind = [];

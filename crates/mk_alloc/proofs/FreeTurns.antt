@@ -12,7 +12,7 @@ use Rattle.mk_core.specs.Cycles.{At, BeginsAndEndsIn, BeginsIn, TurnOf, is_begin
 use Rattle.mk_core.specs.History.{left}
 use Rattle.mk_core.specs.Moments.{Moment, flight_of}
 use Rattle.mk_objects.specs.Retiring.{is_freeing, is_loading}
-use Rattle.mk_alloc.specs.TurnCycles.{CycleIsOn, FreeIsExact, IsDueIn, finishes, has_step, is_of_cycle}
+use Rattle.mk_alloc.specs.TurnCycles.{CycleIsOn, FreeIsExact, FreesFirst, IsDueIn, finishes, has_step, is_of_cycle}
 use Rattle.mk_alloc.proofs.CycleParts.{EndsIn}
 use Rattle.mk_alloc.proofs.ListParts.{IsAt, Lacks, SomeKind, cycle_in, lacks_at, none_at, only_at}
 use Rattle.mk_alloc.proofs.StepKinds.{AreApart, IsHolders}
@@ -77,6 +77,7 @@ module _ (on : Bool) (c : Config) (s : Seat) (es : List Event) (t : TurnOf c s e
       let no_begin : BeginsIn t → ⊥ = λ b. none_at is_begin t.behind (begins_none t.behind none) b in
       record {
         begins = ((λ b. absurd (no_begin b)), (λ d. absurd (not_due d)));
+        first = λ d. absurd (not_due d);
         undue = λ n. none;
         stopped = λ off b. absurd (no_begin b);
         goes_on = λ keeps b. absurd (no_begin b);
@@ -87,11 +88,12 @@ module _ (on : Bool) (c : Config) (s : Seat) (es : List Event) (t : TurnOf c s e
   pub due_exact : (xs : List Event) (begin : Event) (ys : List Event) → t.behind ≡ xs ++ begin ∷ ys
       → is_begin begin.step ≡ true
       → Lacks is_begin xs → Lacks is_begin ys → (on ≡ false → EndsIn ys) → (on ≡ true → Lacks finishes ys)
-      → (CycleIsOn t → At is_end xs) → IsDueIn t → FreeIsExact on t
-  due_exact xs begin ys is begins none_before none_behind stopped goes_on older due =
+      → (CycleIsOn t → At is_end xs) → FreesFirst t → FreeIsExact on t
+  due_exact xs begin ys is begins none_before none_behind stopped goes_on older frees =
       record {
-        begins = ((λ b. due), (λ d. record { before = xs; event = begin; behind = ys; is = is; of_kind = begins }));
-        undue = λ n. absurd (n due);
+        begins = ((λ b. frees.due), (λ d. record { before = xs; event = begin; behind = ys; is = is; of_kind = begins }));
+        first = λ d. frees;
+        undue = λ n. absurd (n frees.due);
         stopped = λ off b. ended (stopped off);
         goes_on = λ keeps b.
             subst (λ (l : List Event). has_step finishes l ≡ false) (sym (there b).behind_is) (goes_on keeps);

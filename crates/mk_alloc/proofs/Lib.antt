@@ -18,6 +18,7 @@ pub mod TakenTurns
 pub mod FreedTurns
 pub mod PlacedTurns
 pub mod RoomParts
+pub mod GrantParts
 pub mod SeekingTurns
 pub mod FullTurns
 pub mod CountedFulls

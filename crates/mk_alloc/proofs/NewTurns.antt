@@ -41,10 +41,11 @@ use Rattle.mk_objects.specs.Placing.{IsUnplaced, object_for}
 use Rattle.mk_waiting.specs.Taking.{TakesTurn}
 use Rattle.mk_alloc.specs.Rooms.{AnswersFull, Misfits, Seeks, asks_room}
 use Rattle.mk_alloc.specs.TurnCalls.{CalledInTurn, IsAnsweredFull}
-use Rattle.mk_alloc.specs.TurnCycles.{HasNoPlace, NewIsExact, is_want, within_turn}
+use Rattle.mk_alloc.specs.TurnCycles.{HasNoPlace, NewIsExact, is_grant, is_want, lets_go, within_turn}
 use Rattle.mk_alloc.specs.Underway.{BeginsTurn, IsQuiet}
 use Rattle.mk_alloc.proofs.CalledTurns.{called, taken_same, turn_of, within_is}
 use Rattle.mk_alloc.proofs.Going.{IsCallers}
+use Rattle.mk_alloc.proofs.GrantParts.{grants_held, last_before, lets_go_held}
 use Rattle.mk_alloc.proofs.ListParts.{InFirst, InSecond, SomeKind, lacks_at, stands}
 use Rattle.mk_alloc.proofs.Parts.{others_lack, seen_behind, seen_made}
 use Rattle.mk_alloc.proofs.RoomParts.{rooms_held}
@@ -121,6 +122,11 @@ module _ (flag : Bool) (p taken done q : PassState) (d ty : ℕ) (a : Answer) (s
       record {
         begins = room_at is_begin (λ x h. or_left (is_begin x) (is_want x) h);
         ends = room_at is_want (λ x h. or_right (is_begin x) (is_want x) h);
+        keeps =
+            last_before seeks.on.does.more gives.others
+            (seeks.last seeks.on.does.more (seen_behind turn_stays taken done seeks.on.does))
+            (others_lack is_grant done q step.Give grants_held t_done gives history)
+            (others_lack lets_go done q step.Give lets_go_held t_done gives history);
       }
 
   abbrev pub new_called : CalledInTurn flag p (op.New d ty false) a q

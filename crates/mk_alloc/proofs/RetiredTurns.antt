@@ -34,14 +34,14 @@ use Rattle.mk_objects.specs.Retiring.{is_freeing}
 use Rattle.mk_objects.proofs.JoinedLooks.{does_wider}
 use Rattle.mk_waiting.specs.Taking.{TakesTurn}
 use Rattle.mk_alloc.specs.DueCycles.{RunsIfDue}
-use Rattle.mk_alloc.specs.TurnCycles.{FreeIsExact, IsDueIn, finishes, is_of_cycle, within_turn}
+use Rattle.mk_alloc.specs.TurnCycles.{FreeIsExact, FreesFirst, IsDueIn, finishes, is_of_cycle, within_turn}
 use Rattle.mk_alloc.specs.Underway.{GoesOn}
 use Rattle.mk_alloc.proofs.CalledTurns.{phase_taken, taken_same, turn_of, within_is}
 use Rattle.mk_alloc.proofs.CycleParts.{begins_held, finishes_held}
 use Rattle.mk_alloc.proofs.DueParts.{RunIn, at_behind, ends_before, run_in}
 use Rattle.mk_alloc.proofs.FreeTurns.{cycles_held, due_exact, freeing_no_cycle, is_quar, not_due_without, quars_held, undue_exact}
 use Rattle.mk_alloc.proofs.Going.{IsCallers, then_on}
-use Rattle.mk_alloc.proofs.ListParts.{InFirst, InSecond, Lacks, lacks_append, stands}
+use Rattle.mk_alloc.proofs.ListParts.{InFirst, InSecond, Lacks, lacks_append, lacks_first, stands}
 use Rattle.mk_alloc.proofs.Parts.{others_lack, part_lacks, seen_behind, seen_then}
 use Rattle.mk_alloc.proofs.QuietTurns.{same_phase}
 use Rattle.mk_alloc.proofs.StepKinds.{AreApart}
@@ -176,6 +176,20 @@ module _ (p taken decided done q : PassState) (r : ℕ) (a : Answer) (seat : IsC
           due = due_at due.before due.event due.due;
         }
 
+    -- Before it is due nothing is done with cycles.
+    frees_first : (ys : List Event) → done.seen ≡ decided.seen ++ ys → IsDueSince taken decided → FreesFirst turn
+    unfolding due_in
+    frees_first ys second due =
+        record {
+          due = due_in ys second due;
+          no_cycle =
+              lacks_first is_of_cycle due.before (due.event ∷ due.behind)
+              (subst (λ (l : List Event). Lacks is_of_cycle l)
+              (same_rest taken.seen d.more (due.before ++ due.event ∷ due.behind)
+              (sym (seen_behind kinds taken decided d) ∙ due.is
+              ∙ append_assoc taken.seen due.before (due.event ∷ due.behind))) lacks_cycle);
+        }
+
     lacks_by_others : Lacks is_quar gives.others
     lacks_by_others = others_lack is_quar done q step.Give quars_held t_done gives history
 
@@ -239,4 +253,4 @@ module _ (p taken decided done q : PassState) (r : ℕ) (a : Answer) (seat : IsC
         (λ one. at_behind is_end d.more run.first (run.older
         (phase ∙ sym (phase_taken p taken (op.Free r) seat own takes done q a fresh on gives rests history t.history)
         ∙ one)))
-        (due_in ys run.is due)
+        (frees_first ys run.is due)

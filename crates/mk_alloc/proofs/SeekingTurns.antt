@@ -1,5 +1,5 @@
 -- A New seeks room: the parts of its turn one behind the other.
-use Rattle.std.proofs.Common.{◌≡◌, inl, inr, false, List, ◌∙◌, ap, subst}
+use Rattle.std.proofs.Common.{◌≡◌, inl, inr, false, List, refl, ◌∙◌, ap, subst}
 use Rattle.std.specs.Prelude.{Option, Some, None, ◌==◌}
 use Rattle.std.proofs.lemmas.Bool.{eqb-false}
 use Rattle.mk_never.specs.declared.operations.Op.{Op}
@@ -17,6 +17,7 @@ use Rattle.mk_core.specs.Placement.{place_for}
 use Rattle.mk_core.specs.Words.{phase_of}
 use Rattle.mk_words.specs.States.{PassState, call_of, now_of, world_of}
 use Rattle.mk_words.specs.TurnSteps.{turn_stays}
+use Rattle.mk_turns.specs.Doing.{Does}
 use Rattle.mk_cycle.specs.BeginCycle.{BeginsCycle}
 use Rattle.mk_cycle.specs.EngineLaw.{IsAtPhase}
 use Rattle.mk_cycle.specs.FinishCycle.{FinishesCycle}
@@ -26,13 +27,20 @@ use Rattle.mk_objects.proofs.JoinedLooks.{looks_left, looks_object, looks_unplac
 use Rattle.mk_objects.proofs.Looks.{acting_caller}
 use Rattle.mk_objects.proofs.MayAct.{new_is_acting}
 use Rattle.mk_caller.proofs.OneStep.{own_seat}
-use Rattle.mk_alloc.specs.Rooms.{AsksRoom, Misfits, MisfitsIdly, Seeks}
+use Rattle.mk_alloc.specs.Rooms.{AsksRoom, GrantsNone, Misfits, MisfitsIdly, Seeks}
+use Rattle.mk_alloc.specs.TurnCycles.{is_grant, lets_go}
 use Rattle.mk_alloc.specs.Underway.{GoesOn, IsQuiet, Looks}
+use Rattle.mk_alloc.proofs.CalmStretches.{cycles_in_turn, is_of_cycles}
+use Rattle.mk_alloc.proofs.CycleParts.{begin_does, finish_does}
+use Rattle.mk_alloc.proofs.GrantParts.{calm_last, cycles_no_grant, grants_held, grants_none, last_behind, lets_go_held}
+use Rattle.mk_alloc.proofs.GrantParts.{looks_no_grant, none_last, none_then, places_let_none_go}
 use Rattle.mk_alloc.proofs.Going.{IsCallers, begun_on, finished_on, looked_on, on_then}
 use Rattle.mk_alloc.proofs.Parts.{part_lacks, seen_behind}
 use Rattle.mk_alloc.proofs.PlacedTurns.{look_stays, looked_beside, placed_on, placing_stays}
 use Rattle.mk_alloc.proofs.QuietTurns.{same_phase}
 use Rattle.mk_alloc.proofs.RoomParts.{begin_none, begin_room, finish_room, looks_no_room, no_place, nowhere_then, places_no_room, room_lacks, room_then, rooms_held}
+use Rattle.mk_alloc.proofs.StepKinds.{AreApart}
+use Rattle.mk_alloc.proofs.Stretches.{AreOfTurn, SomeKinds}
 use Rattle.mk_core.specs.Effects.{cycle_ended}
 
 -- An undecided New is a caller's.
@@ -54,7 +62,25 @@ seeks_then a p q r x y =
       room = room_then (object_for p) p q r x.on.does.more y.on.does.more (seen_behind turn_stays p q x.on.does)
           (seen_behind turn_stays q r y.on.does) (ap (λ (z : PassState). z.table.config) x.on.does.is) x.room
           (subst (λ (o : Object). AsksRoom o q r) (same_object None p q x.on) y.room);
+      none = λ none. none_then p q r x.on.does.more y.on.does.more (seen_behind turn_stays p q x.on.does)
+          (seen_behind turn_stays q r y.on.does) (x.none refl) (y.none none);
+      last = last_behind p q r x.on.does.more y.on.does.more (seen_behind turn_stays p q x.on.does)
+          (seen_behind turn_stays q r y.on.does) (x.none refl) y.last;
     }
+
+-- a part of such steps as grant nothing
+grants_none_by : (kinds : SomeKinds) (p q : PassState) → AreOfTurn kinds → AreApart kinds is_grant → InTurn p
+    → Does kinds p q → IsHistory q.table.config q.seen → GrantsNone p q
+grants_none_by kinds p q stays apart t d history =
+    grants_none p q d.more (seen_behind kinds p q d)
+    (part_lacks kinds is_grant p q stays grants_held apart t d history)
+
+looks_grant_none : (p q : PassState) → InTurn p → Does is_look p q → IsHistory q.table.config q.seen → GrantsNone p q
+looks_grant_none p q t d history = grants_none_by is_look p q look_stays looks_no_grant t d history
+
+cycles_grant_none : (p q : PassState) → InTurn p → Does is_of_cycles p q → IsHistory q.table.config q.seen
+    → GrantsNone p q
+cycles_grant_none p q t d history = grants_none_by is_of_cycles p q cycles_in_turn cycles_no_grant t d history
 
 -- Where an object is granted, or only looks were made, no room is asked for.
 
@@ -66,6 +92,9 @@ seeks_placed p q t u quiet placed history =
       on = placed_on p q t u quiet placed history;
       room = room_lacks (object_for p) p q placed.granted.does.more (seen_behind is_placing p q placed.granted.does)
           (part_lacks is_placing _ p q placing_stays rooms_held places_no_room t placed.granted.does history);
+      none = λ none. cc;
+      last = calm_last p q placed.granted.does.more (seen_behind is_placing p q placed.granted.does)
+          (part_lacks is_placing lets_go p q placing_stays lets_go_held places_let_none_go t placed.granted.does history);
     }
 
 pub seeks_looked : (p q : PassState) → InTurn p → IsUnplaced p → IsQuiet p → OnlyLooks p q
@@ -76,6 +105,8 @@ seeks_looked p q t u quiet looks history =
       on = looked_beside p q t u quiet looks history;
       room = room_lacks (object_for p) p q looks.does.more (seen_behind is_look p q looks.does)
           (part_lacks is_look _ p q look_stays rooms_held looks_no_room t looks.does history);
+      none = λ none. looks_grant_none p q t looks.does history;
+      last = none_last p q (looks_grant_none p q t looks.does history);
     }
 
 pub still_nowhere : (p q : PassState) → (world_of q).allocations ≡ (world_of p).allocations → q.table.config
@@ -109,6 +140,8 @@ seeks_begun p q t u quiet none b history =
       on = begun_on p q t (new_callers p u) quiet b history;
       room = begin_room (object_for p) p q t (new_callers p u) quiet.free.decided history
           (no_place p.table.config p.seen (object_for p) none) b;
+      none = λ undecided. cycles_grant_none p q t (begin_does p q t.own b) history;
+      last = none_last p q (cycles_grant_none p q t (begin_does p q t.own b) history);
     }
 
 pub seeks_finished : (p q : PassState) → InTurn p → IsUnplaced p → IsQuiet p → place_now_for p ≡ None
@@ -119,6 +152,8 @@ seeks_finished p q t u quiet none f history =
       on = finished_on p q t (new_callers p u) quiet f history;
       room = finish_room (object_for p) p q t (new_callers p u) quiet.free.decided history
           (no_place p.table.config p.seen (object_for p) none) f;
+      none = λ undecided. cycles_grant_none p q t (finish_does p q t.own f) history;
+      last = none_last p q (cycles_grant_none p q t (finish_does p q t.own f) history);
     }
 
 -- It is still unplaced then.
@@ -203,6 +238,8 @@ misfits_seen p q r m t quiet k history =
         on = on;
         room = room_lacks (object_for q) q r k.does.more (seen_behind is_look q r k.does)
             (part_lacks is_look _ q r look_stays rooms_held looks_no_room t k.does history);
+        none = λ none. looks_grant_none q r t k.does history;
+        last = none_last q r (looks_grant_none q r t k.does history);
       });
       unplaced = look_kept q r m.unplaced k;
       nowhere = still_nowhere q r (ap (λ (s : Steady). s.allocations) k.keeps.steady)

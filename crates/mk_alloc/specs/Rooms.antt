@@ -1,5 +1,5 @@
 -- A New asks for room: it begins and ends cycles only where its object has no place.
-use Rattle.std.specs.Prelude.{◌≡◌, Bool, true, ◌||◌, List, ◌∷◌, ◌++◌, Option, Some, None}
+use Rattle.std.specs.Prelude.{◌≡◌, Bool, true, false, ◌||◌, List, ◌∷◌, ◌++◌, Option, Some, None}
 use Rattle.mk_core.specs.declared.events.Answer.{Answer}
 use Rattle.mk_core.specs.declared.events.Answer.TheVariants as answer
 use Rattle.mk_core.specs.declared.events.Event.{Event}
@@ -7,11 +7,11 @@ use Rattle.mk_core.specs.declared.events.Step.{Step}
 use Rattle.mk_core.specs.declared.events.Step.TheVariants as step
 use Rattle.mk_core.specs.declared.seats.Object.{Object}
 use Rattle.mk_core.specs.declared.seats.OwnCycle.TheVariants.{Ended}
-use Rattle.mk_core.specs.Cycles.{is_begin}
+use Rattle.mk_core.specs.Cycles.{At, is_begin}
 use Rattle.mk_words.specs.States.{PassState, event_of, now_of, world_of}
 use Rattle.mk_cycle.specs.EngineLaw.{IsAtPhase}
 use Rattle.mk_objects.specs.Placing.{IsUnplaced, object_for, place_now_for}
-use Rattle.mk_alloc.specs.TurnCycles.{HasNoPlace, is_want}
+use Rattle.mk_alloc.specs.TurnCycles.{HasNoPlace, has_step, is_grant, is_want, lets_go}
 use Rattle.mk_alloc.specs.Underway.{GoesOn}
 
 -- the steps that begin a cycle, or its end
@@ -25,10 +25,22 @@ AsksRoom o p q =
     ≡ true
     → HasNoPlace p.table.config o (p.seen ++ part)
 
--- The turn of a New went on, and asked for room so.
+-- No grant was seen since.
+abbrev pub GrantsNone : PassState → PassState → Type 0
+GrantsNone p q = (more : List Event) → q.seen ≡ p.seen ++ more → has_step is_grant more ≡ false
+
+-- Behind each grant that was seen since nothing lets storage go.
+abbrev pub GrantsLast : PassState → PassState → Type 0
+GrantsLast p q =
+    (more : List Event) → q.seen ≡ p.seen ++ more → (g : At is_grant more) → has_step lets_go g.behind ≡ false
+
+-- The turn of a New went on, and asked for room so. Until it is answered it is granted nothing, and then it lets nothing
+-- go.
 pub record Seeks (a : Option Answer) (p q : PassState) : Type 0 where
   pub on : GoesOn a p q
   pub room : AsksRoom (object_for p) p q
+  pub none : a ≡ None → GrantsNone p q
+  pub last : GrantsLast p q
 
 -- It isn't decided, and its object has no place now.
 pub record Misfits (p q : PassState) : Type 0 where

@@ -22,7 +22,8 @@ use Rattle.mk_alloc.specs.TurnCycles.{EndsExactly, IsDueIn}
 use Rattle.mk_objects.specs.Retiring.{is_loading}
 
 -- The pass waited for the turn, did this operation, was answered so, and gave the turn back. What it has seen begins
--- with what it had seen. Its caller has one entry more, and no call in flight.
+-- with what it had seen, and its turn is what stands between its `take` and its `give`. Its caller has one entry more,
+-- and no call in flight.
 pub record CalledInTurn (on : Bool) (p : PassState) (o : Op) (a : Answer) (q : PassState) : Type 0 where
   pub taken : PassState
   pub done : PassState
@@ -34,6 +35,8 @@ pub record CalledInTurn (on : Bool) (p : PassState) (o : Op) (a : Answer) (q : P
   pub entry : own_calls p (p.seen ++ more) ≡ own_calls p p.seen ++ entry_of (number_of p) o (Some a)
   pub decided : IsDecidedIn p (flagged o a) a more
   pub ends : EndsExactly on p.table.config p.seat (done.seen ++ gives.others)
+  pub turn_op : ends.turn.op ≡ Some o
+  pub turn_part : ends.turn.behind ≡ acts.more ++ gives.others
   pub rest : call_of q ≡ at_rest
 
 -- No place was left, though a cycle was begun and ended in the call; the counts are those of that moment.

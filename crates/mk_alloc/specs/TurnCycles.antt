@@ -33,6 +33,16 @@ finishes _ = false
 abbrev pub is_of_cycle : Step → Bool
 is_of_cycle s = is_begin s || finishes s
 
+abbrev pub is_grant : Step → Bool
+is_grant step.Grant = true
+is_grant _ = false
+
+-- what frees and releases are made by: a store to a quarantine word, and a `release`
+abbrev pub lets_go : Step → Bool
+lets_go step.Release = true
+lets_go (step.Quar p v) = true
+lets_go _ = false
+
 abbrev pub has_step : (Step → Bool) → List Event → Bool
 has_step kind es = list_any (λ (e : Event). kind e.step) es
 
@@ -51,10 +61,16 @@ pub record IsDueIn {c : Config} {s : Seat} {es : List Event} (t : TurnOf c s es)
 abbrev pub CycleIsOn : {c : Config} {s : Seat} {es : List Event} → TurnOf c s es → Type 0
 CycleIsOn {c = c} t = phase_of (left c t.before).now.words ≡ 1
 
--- A Free begins a cycle exactly where it is due, and else does nothing with cycles. An engine that keeps on leaves that
--- cycle on, and has ended the one that was on before; one that doesn't ends it in the call.
+-- A free is due in the turn, before it does anything with cycles.
+pub record FreesFirst {c : Config} {s : Seat} {es : List Event} (t : TurnOf c s es) : Type 0 where
+  pub due : IsDueIn t
+  pub no_cycle : has_step is_of_cycle due.before ≡ false
+
+-- A Free begins a cycle exactly where it is due, behind the event that frees, and else does nothing with cycles. An engine
+-- that keeps on leaves that cycle on, and has ended the one that was on before; one that doesn't ends it in the call.
 pub record FreeIsExact (on : Bool) {c : Config} {s : Seat} {es : List Event} (t : TurnOf c s es) : Type 0 where
   pub begins : BeginsIn t ↔ IsDueIn t
+  pub first : IsDueIn t → FreesFirst t
   pub undue : (IsDueIn t → ⊥) → has_step is_of_cycle t.behind ≡ false
   pub stopped : on ≡ false → BeginsIn t → BeginsAndEndsIn t
   pub goes_on : on ≡ true → (b : BeginsIn t) → has_step finishes b.behind ≡ false
@@ -64,10 +80,12 @@ pub record FreeIsExact (on : Bool) {c : Config} {s : Seat} {es : List Event} (t 
 abbrev pub HasNoPlace : Config → Object → List Event → Type 0
 HasNoPlace c o es = FitsAmongAllocations c o.words o.leaf (left c es).allocations → ⊥
 
--- A New begins a cycle, and ends one, only where its object has no place.
+-- A New begins a cycle, and ends one, only where its object has no place. Behind the grant of its object it lets nothing
+-- go.
 pub record NewIsExact {c : Config} {s : Seat} {es : List Event} (t : TurnOf c s es) (o : Object) : Type 0 where
   pub begins : (b : BeginsIn t) → HasNoPlace c o (within_turn t b.before)
   pub ends : (w : At is_want t.behind) → HasNoPlace c o (within_turn t w.before)
+  pub keeps : (g : At is_grant t.behind) → has_step lets_go g.behind ≡ false
 
 abbrev pub CallIsExact : Bool → {c : Config} {s : Seat} {es : List Event} → TurnOf c s es → Option Op → Type 0
 CallIsExact on {c = c} t (Some (op.New d ty full)) = NewIsExact t (object_made c (op.New d ty full))

@@ -21,7 +21,7 @@ use Rattle.mk_script.specs.declared.items.Item.TheVariants.{New}
 use Rattle.mk_script.specs.Scopes.{pointer_names, script_names}
 use Rattle.mk_check.specs.Blocks.{Blocks, Done, Line, Rounds, Choice, AllPlaced, blocks_from, script_of}
 use Rattle.mk_check.specs.Declarations.{place_of, types_of, globals_of}
-use Rattle.mk_check.specs.Feed.{Scope, Fed, op_of, note, with_answer, run, take_answer, take_answers, begun, started, scope_of, feed}
+use Rattle.mk_check.specs.Feed.{Scope, Fed, op_of, note, with_answer, run, take_answer, take_answers, fed_before_lines, fed_before_answers, scope_of, feed}
 use Rattle.mk_check.specs.Feeding.{script_scope, next_op}
 use Rattle.mk_check.specs.Laws.{IsChecked, IsScript, ops_of_caller, AreNotedBy, AnswersAreNoted, OthersAreIgnored, heap_of, AreAdmittedFor, NextIsAdmitted, AreOfScripts}
 use Rattle.mk_check.specs.NamesInScope.{HasFew}
@@ -165,9 +165,9 @@ module _ (program script : List Item) (few : HasFew (scope_of program script)) w
 abbrev lines_of : List Item → ℕ → List Item
 lines_of program k = (script_of program k).items
 
-started_ops : (program : List Item) (k : ℕ) → (started (script_scope program k) (script_of program k)).ops ≡ []
+started_ops : (program : List Item) (k : ℕ) → (fed_before_answers (script_scope program k) (script_of program k)).ops ≡ []
 started_ops program k =
-    (run_agrees (script_scope program k) (blocks_from (script_of program k).line (lines_of program k)) (begun (script_scope program k) (script_of program k))).answers
+    (run_agrees (script_scope program k) (blocks_from (script_of program k).line (lines_of program k)) (fed_before_lines (script_scope program k) (script_of program k))).answers
 
 pub first_are_noted : (program : List Item) (k : ℕ) → AreNotedBy program k [] []
 first_are_noted program k = sym (started_ops program k)
@@ -211,8 +211,8 @@ feed_asked program k answers checked =
     let script = script_of program k in
     let scope = script_scope program k in
     let P = λ (line : ℕ) (item : Item). Says program script.items item in
-    takes_asked program script.items (text_has_few program k checked.of_some_text) answers (started scope script)
-    (AllPlaced-run P scope (blocks_from script.line script.items) (placed_of_script P script.line script.items (script_says program k checked.well_typed)) (begun scope script))
+    takes_asked program script.items (text_has_few program k checked.of_some_text) answers (fed_before_answers scope script)
+    (AllPlaced-run P scope (blocks_from script.line script.items) (placed_of_script P script.line script.items (script_says program k checked.well_typed)) (fed_before_lines scope script))
     (subst (All (IsAsked program script.items)) (sym (started_ops program k)) (All-nil (IsAsked program script.items)))
 
 -- the caller's operations are asked for, where its script notes them

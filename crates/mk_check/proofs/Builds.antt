@@ -11,7 +11,7 @@ use Rattle.mk_check.specs.declared.feeding.tree.Node.TheVariants as node
 use Rattle.mk_check.specs.declared.feeding.building.Part.{Part}
 use Rattle.mk_check.specs.Steps.{Steps, Done}
 use Rattle.mk_check.specs.Trees.{steps_at, steps_from, with_node, trees}
-use Rattle.mk_check.specs.Building.{StepPart, with_element, Built, part_at, parts_at, parts_in, PartsAreWithin, IsSound, with_part, grown, Adds}
+use Rattle.mk_check.specs.Building.{StepPart, with_element, Built, part_at, parts_at, parts_in, PartsAreWithin, IsSound, with_part, with_node_and_part, AddsLine}
 use Rattle.mk_check.proofs.Moves.{trees_push}
 
 length-fold_with_node : (built : List Steps) (nodes : List Node) → length (fold with_node built nodes) ≡ length built + length nodes
@@ -73,7 +73,7 @@ popped b part parts sound was =
     )
 
 -- one more node, which begins a part
-grown_sound : (b : Built) (n : Node) (second : ℕ) → IsSound b → second < length b.nodes → IsSound (grown b n second)
+grown_sound : (b : Built) (n : Node) (second : ℕ) → IsSound b → second < length b.nodes → IsSound (with_node_and_part b n second)
 grown_sound b n second sound h =
     let longer = length_push b.nodes n in
     let some = sound.some in
@@ -85,7 +85,7 @@ grown_sound b n second sound h =
     }
 
 grown_parts : (b : Built) (n : Node) (second : ℕ) → IsSound b → second < length b.nodes
-    → parts_in (grown b n second) ≡ record { steps = steps_from (trees b.nodes) n; second = steps_at (trees b.nodes) second } ∷ parts_in b
+    → parts_in (with_node_and_part b n second) ≡ record { steps = steps_from (trees b.nodes) n; second = steps_at (trees b.nodes) second } ∷ parts_in b
 grown_parts b n second sound h =
     let f = steps_at_last b.nodes n in
     let g = steps_at_push b.nodes n second h in
@@ -97,7 +97,7 @@ grown_parts b n second sound h =
     ∙ ap (λ (ps : List StepPart). record { steps = steps_from (trees b.nodes) n; second = steps_at (trees b.nodes) second } ∷ ps) k)
 
 pub line_added : (b : Built) (parts : List Part) (part : Part) (line : ℕ) (instruction : Instruction) → IsSound b → b.parts ≡ parts ++ part ∷ []
-    → Adds line (element.Line instruction) b (grown (record b { parts = parts }) (node.Line line instruction part.steps) part.second)
+    → AddsLine line (element.Line instruction) b (with_node_and_part (record b { parts = parts }) (node.Line line instruction part.steps) part.second)
 line_added b parts part line instruction sound was =
     let p = popped b part parts sound was in
     record {
@@ -107,7 +107,7 @@ line_added b parts part line instruction sound was =
     }
 
 pub repeat_added : (b : Built) (parts : List Part) (part body : Part) (line rounds : ℕ) → IsSound b → b.parts ≡ (parts ++ part ∷ []) ++ body ∷ []
-    → Adds line (element.Repeat rounds) b (grown (record b { parts = parts }) (node.Rounds rounds body.steps part.steps) part.second)
+    → AddsLine line (element.Repeat rounds) b (with_node_and_part (record b { parts = parts }) (node.Rounds rounds body.steps part.steps) part.second)
 repeat_added b parts part body line rounds sound was =
     let p = popped b body (parts ++ part ∷ []) sound was in
     let q = popped (record b { parts = parts ++ part ∷ [] }) part parts p.0 refl in
@@ -118,7 +118,7 @@ repeat_added b parts part body line rounds sound was =
     }
 
 pub if_added : (b : Built) (parts : List Part) (part branches : Part) (line number : ℕ) → IsSound b → b.parts ≡ (parts ++ part ∷ []) ++ branches ∷ []
-    → Adds line (element.If number) b (grown (record b { parts = parts }) (node.Choice number branches.steps branches.second part.steps) part.second)
+    → AddsLine line (element.If number) b (with_node_and_part (record b { parts = parts }) (node.Choice number branches.steps branches.second part.steps) part.second)
 if_added b parts part branches line number sound was =
     let p = popped b branches (parts ++ part ∷ []) sound was in
     let q = popped (record b { parts = parts ++ part ∷ [] }) part parts p.0 refl in
@@ -135,7 +135,7 @@ put_parts b second sound =
     ∙ ap (λ (s : Steps). let p : StepPart = record { steps = s; second = steps_at (trees b.nodes) second } in p ∷ parts_in b) sound.first
 
 pub else_added : (b : Built) (parts : List Part) (part : Part) (line : ℕ) → IsSound b → b.parts ≡ parts ++ part ∷ []
-    → Adds line element.Else b (with_part (record b { parts = parts }) 0 part.steps)
+    → AddsLine line element.Else b (with_part (record b { parts = parts }) 0 part.steps)
 else_added b parts part line sound was =
     let p = popped b part parts sound was in
     record {
@@ -143,21 +143,21 @@ else_added b parts part line sound was =
       parts = put_parts (record b { parts = parts }) part.steps p.0 ∙ sym (ap (with_element line element.Else) p.3);
     }
 
-pub end_added : (b : Built) (line : ℕ) → IsSound b → Adds line element.End b (with_part b 0 0)
+pub end_added : (b : Built) (line : ℕ) → IsSound b → AddsLine line element.End b (with_part b 0 0)
 end_added b line sound = record {
   sound = record { some = sound.some; first = sound.first; parts = PartsAreWithin_push (length b.nodes) b.parts (record { steps = 0; second = 0 }) sound.parts sound.some sound.some };
   parts = put_parts b 0 sound ∙ ap (λ (s : Steps). let p : StepPart = record { steps = Done; second = s } in p ∷ parts_in b) sound.first;
 }
 
 -- no part is open, or one
-pub none_added : (b c : Built) (line : ℕ) (e : Element) → IsSound b → b.parts ≡ [] → c ≡ b → with_element line e [] ≡ [] → Adds line e b c
+pub none_added : (b c : Built) (line : ℕ) (e : Element) → IsSound b → b.parts ≡ [] → c ≡ b → with_element line e [] ≡ [] → AddsLine line e b c
 none_added b c line e sound none same nothing =
     let f : parts_in b ≡ [] = ap (parts_at (trees b.nodes)) none in
-    subst (λ (x : Built). Adds line e b x) (sym same) (record { sound = sound; parts = f ∙ sym (ap (with_element line e) f ∙ nothing) })
+    subst (λ (x : Built). AddsLine line e b x) (sym same) (record { sound = sound; parts = f ∙ sym (ap (with_element line e) f ∙ nothing) })
 
 pub one_added : (b c : Built) (part : Part) (line : ℕ) (e : Element) → IsSound b → b.parts ≡ part ∷ [] → c ≡ record b { parts = [] }
-    → ((p : StepPart) → with_element line e (p ∷ []) ≡ []) → Adds line e b c
+    → ((p : StepPart) → with_element line e (p ∷ []) ≡ []) → AddsLine line e b c
 one_added b c part line e sound one same nothing =
     let f : parts_in b ≡ part_at (trees b.nodes) part ∷ [] = ap (parts_at (trees b.nodes)) one in
-    subst (λ (x : Built). Adds line e b x) (sym same)
+    subst (λ (x : Built). AddsLine line e b x) (sym same)
     (record { sound = record { some = sound.some; first = sound.first; parts = tt }; parts = sym (ap (with_element line e) f ∙ nothing (part_at (trees b.nodes) part)) })

@@ -20,9 +20,9 @@ use Rattle.mk_script.specs.declared.faults.Which.TheVariants as which
 use Rattle.mk_check.specs.declared.typing_faults.TypeKind.{TypeKind}
 use Rattle.mk_check.specs.declared.typing_faults.TypeKind.TheVariants as kind
 use Rattle.mk_check.specs.Declarations.{config_of, place_of, kind_of, kinds_among, types_of, globals_among, globals_of, pages_of, resident_of}
-use Rattle.mk_check.specs.Typing.{Around, TypingFault, ◌or◌, unless, at_line, typing_fault, fault_from, type_words, word_among, word_at, is_type, is_inside, pointers_have_types, pointers_are_inside, IsWellTyped}
+use Rattle.mk_check.specs.Typing.{Around, TypingFault, ◌or◌, unless, at_line, typing_fault, fault_from, type_words, word_among, word_at, type_fault, inside_fault, pointers_fault, offsets_fault, IsWellTyped}
 use Rattle.mk_script.proofs.PassedLines.{ArePassed, IsWhole}
-use Rattle.mk_check.proofs.GrammarLemmas.{Some≢None, at_most-None, or_else-None, heap_within, length-script_names, length-type_names, length-global_names}
+use Rattle.mk_check.proofs.GrammarLemmas.{Some≢None, at_most-None, option_or-None, heap_within, length-script_names, length-type_names, length-global_names}
 use Rattle.mk_core.specs.declared.config.Config.{Config}
 use Rattle.mk_check.proofs.FormLemmas.{line_item-word}
 use Rattle.mk_check.proofs.NumberLemmas.{length-kinds_among, length-globals_among}
@@ -85,8 +85,8 @@ has_value (Some x) h = record { value = x; is = refl }
 
 module _ (program : List Item) (script : List Item) where
   -- the place of a type that is declared
-  pub is_type-within : (name : List ℕ) → is_type (record { program = program; script = script }) name ≡ None → place_of name (type_names program) < length (types_of program)
-  is_type-within name h =
+  pub type_fault-within : (name : List ℕ) → type_fault (record { program = program; script = script }) name ≡ None → place_of name (type_names program) < length (types_of program)
+  type_fault-within name h =
       let found = has_value (type_words name program) (unless-None (is_some (type_words name program)) kind.NoType h) in
       (type_words-IsAt (type_names program) name program found.value found.is).within
 
@@ -99,16 +99,16 @@ module _ (program : List Item) (script : List Item) where
       (type'.within, omega (arith, ap length type'.kinds, length-map words (kind_of (type_names program)), slice_get_within words at.offset word.value word.is))
 
   -- a place that is inside its type
-  is_inside-IsAmong : (at : At) → is_inside (record { program = program; script = script }) (Some at) ≡ None → IsAmong (types_of program) (kind_of (type_names program) (Pointer at))
-  is_inside-IsAmong at h =
+  inside_fault-IsAmong : (at : At) → inside_fault (record { program = program; script = script }) (Some at) ≡ None → IsAmong (types_of program) (kind_of (type_names program) (Pointer at))
+  inside_fault-IsAmong at h =
       word_within at (type_words at.name program) refl (unless-None (is_some (word_at (record { program = program; script = script }) (Some at))) kind.Offset h)
 
-  words_among : (words : List TypeWord) → pointers_are_inside (record { program = program; script = script }) words ≡ None → All (IsAmong (types_of program)) (map (kind_of (type_names program)) words)
+  words_among : (words : List TypeWord) → offsets_fault (record { program = program; script = script }) words ≡ None → All (IsAmong (types_of program)) (map (kind_of (type_names program)) words)
   words_among [] h = All-nil (IsAmong (types_of program))
   words_among (Number ∷ words) h = All-cons (IsAmong (types_of program)) _ _ tt (words_among words h)
   words_among (Pointer at ∷ words) h =
-      let both = or-None (is_inside (record { program = program; script = script }) (Some at)) (pointers_are_inside (record { program = program; script = script }) words) h in
-      All-cons (IsAmong (types_of program)) _ _ (is_inside-IsAmong at both.0) (words_among words both.1)
+      let both = or-None (inside_fault (record { program = program; script = script }) (Some at)) (offsets_fault (record { program = program; script = script }) words) h in
+      All-cons (IsAmong (types_of program)) _ _ (inside_fault-IsAmong at both.0) (words_among words both.1)
 
 -- the types that lines behind these declare
 pub types-within : (program : List Item) (line : ℕ) (before items : List Item) → ArePassed before items → fault_from program line before items ≡ None
@@ -117,8 +117,8 @@ types-within program line before [] lines h = All-nil (IsTypeAmong (types_of pro
 types-within program line before (TypeLine name words ∷ items) lines h =
     let a : Around = record { program = program; script = this_script before } in
     let both = at_line-None line (typing_fault a line items (TypeLine name words)) (fault_from program (line + 1) (before ++ TypeLine name words ∷ []) items) h in
-    let pointers = or-None (pointers_have_types a words) (pointers_are_inside a words) both.0 in
-    let limits = or_else-None (at_most (length (type_names before) + 1) 64 which.Types) (at_most (length words) 4096 which.Words) lines.0.within in
+    let pointers = or-None (pointers_fault a words) (offsets_fault a words) both.0 in
+    let limits = option_or-None (at_most (length (type_names before) + 1) 64 which.Types) (at_most (length words) 4096 which.Words) lines.0.within in
     let size = length-map words (kind_of (type_names program)) in
     All-cons (IsTypeAmong (types_of program)) _ _ (
       (omega (arith, size, line_item-word before lines.0.words name words lines.0.says), omega (arith, size, at_most-None (length words) 4096 which.Words limits.1)),
@@ -134,8 +134,8 @@ pub globals-within : (program : List Item) (line : ℕ) (before items : List Ite
     → All (λ ty. ty < length (types_of program)) (globals_among (type_names program) items)
 globals-within program line before [] h = All-nil (λ ty. ty < length (types_of program))
 globals-within program line before (Global name ty ∷ items) h =
-    let both = at_line-None line (is_type (record { program = program; script = this_script before }) ty) (fault_from program (line + 1) (before ++ Global name ty ∷ []) items) h in
-    All-cons (λ t. t < length (types_of program)) _ _ (is_type-within program (this_script before) ty both.0) (globals-within program (line + 1) (before ++ Global name ty ∷ []) items both.1)
+    let both = at_line-None line (type_fault (record { program = program; script = this_script before }) ty) (fault_from program (line + 1) (before ++ Global name ty ∷ []) items) h in
+    All-cons (λ t. t < length (types_of program)) _ _ (type_fault-within program (this_script before) ty both.0) (globals-within program (line + 1) (before ++ Global name ty ∷ []) items both.1)
 globals-within program line before (item ∷ items) h =
     globals-within program (line + 1) (before ++ item ∷ []) items
     (at_line-None line (typing_fault (record { program = program; script = this_script before }) line items item) (fault_from program (line + 1) (before ++ item ∷ []) items) h).1

@@ -8,35 +8,35 @@ use Rattle.mk_script.specs.declared.items.Item.{Item}
 use Rattle.mk_script.specs.declared.items.Item.TheVariants.{Script, Repeat, If, Else, End}
 use Rattle.mk_script.specs.Scopes.{is_script, is_instruction}
 use Rattle.mk_check.specs.declared.lengths.PartCount.{PartCount}
-use Rattle.mk_check.specs.Blocks.{Part, with_item, branch, outermost, before_next_script}
+use Rattle.mk_check.specs.Blocks.{Part, with_item, branch, outermost_blocks, before_next_script}
 use Rattle.mk_check.specs.Lengths.{length_of}
-use Rattle.mk_check.specs.Counts.{saturated, counts_of, counts_with, innermost, with_count, with_innermost}
+use Rattle.mk_check.specs.Counts.{saturated_count, counts_of, counts_with, innermost_count, with_count, with_innermost}
 
-saturated-add : (n m : ℕ) → saturated (n + m) ≡ saturated (saturated m + n)
-saturated-add n m = omega arith
+saturated_count-add : (n m : ℕ) → saturated_count (n + m) ≡ saturated_count (saturated_count m + n)
+saturated_count-add n m = omega arith
 
-saturated-rounds : (rounds body : ℕ) → saturated (1 + rounds * (1 + body)) ≡ saturated (1 + rounds * (1 + saturated body))
-saturated-rounds zero body = omega arith
-saturated-rounds (suc rounds) body =
+saturated_count-rounds : (rounds body : ℕ) → saturated_count (1 + rounds * (1 + body)) ≡ saturated_count (1 + rounds * (1 + saturated_count body))
+saturated_count-rounds zero body = omega arith
+saturated_count-rounds (suc rounds) body =
     ⊎_elim
-    (λ (small : body < 2 ^ 64 - 1). let same : saturated body ≡ body = omega arith in rw same refl)
+    (λ (small : body < 2 ^ 64 - 1). let same : saturated_count body ≡ body = omega arith in rw same refl)
     (λ (great : 2 ^ 64 - 1 ≤ body). omega arith)
     (cases_lt body (2 ^ 64 - 1))
 
-saturated-repeat : (rounds body rest : ℕ) → saturated (1 + rounds * (1 + body) + rest) ≡ saturated (saturated rest + saturated (1 + rounds * (1 + saturated body)))
-saturated-repeat rounds body rest = omega (arith, saturated-rounds rounds body)
+saturated_count-repeat : (rounds body rest : ℕ) → saturated_count (1 + rounds * (1 + body) + rest) ≡ saturated_count (saturated_count rest + saturated_count (1 + rounds * (1 + saturated_count body)))
+saturated_count-repeat rounds body rest = omega (arith, saturated_count-rounds rounds body)
 
-saturated-if : (first second rest : ℕ) → saturated (1 + max first second + rest) ≡ saturated (saturated rest + saturated (1 + max (saturated first) (saturated second)))
-saturated-if first second rest = omega arith
+saturated_count-if : (first second rest : ℕ) → saturated_count (1 + max first second + rest) ≡ saturated_count (saturated_count rest + saturated_count (1 + max (saturated_count first) (saturated_count second)))
+saturated_count-if first second rest = omega arith
 
 with_lines : Part → List Part → ℕ → List PartCount
-with_lines part parts n = record { lines = n; second = saturated (length_of (branch part.second)) } ∷ counts_of parts
+with_lines part parts n = record { lines = n; second = saturated_count (length_of (branch part.second)) } ∷ counts_of parts
 
 counts-with_line : (instruction : Bool) (part : Part) (parts : List Part)
-    → with_lines part parts (saturated ((if instruction then 1 else 0) + length_of part.blocks)) ≡ (if instruction then with_count 1 (counts_of (part ∷ parts)) else counts_of (part ∷ parts))
+    → with_lines part parts (saturated_count ((if instruction then 1 else 0) + length_of part.blocks)) ≡ (if instruction then with_count 1 (counts_of (part ∷ parts)) else counts_of (part ∷ parts))
 unfolding with_lines
-counts-with_line true part parts = ap (with_lines part parts) (saturated-add 1 (length_of part.blocks))
-counts-with_line false part parts = ap (with_lines part parts) (ap saturated (omega arith))
+counts-with_line true part parts = ap (with_lines part parts) (saturated_count-add 1 (length_of part.blocks))
+counts-with_line false part parts = ap (with_lines part parts) (ap saturated_count (omega arith))
 
 -- what is kept of the open parts is what is kept of them with an item before
 pub counts-with_item : (line : ℕ) (item : Item) (parts : List Part) → counts_of (with_item line item parts) ≡ counts_with item (counts_of parts)
@@ -44,11 +44,11 @@ unfolding with_lines
 counts-with_item line (Repeat rounds) [] = refl
 counts-with_item line (Repeat rounds) (body ∷ []) = refl
 counts-with_item line (Repeat rounds) (body ∷ part ∷ parts) =
-    ap (with_lines part parts) (saturated-repeat rounds (length_of body.blocks) (length_of part.blocks))
+    ap (with_lines part parts) (saturated_count-repeat rounds (length_of body.blocks) (length_of part.blocks))
 counts-with_item line (If number) [] = refl
 counts-with_item line (If number) (first ∷ []) = refl
 counts-with_item line (If number) (first ∷ part ∷ parts) =
-    ap (with_lines part parts) (saturated-if (length_of first.blocks) (length_of (branch first.second)) (length_of part.blocks))
+    ap (with_lines part parts) (saturated_count-if (length_of first.blocks) (length_of (branch first.second)) (length_of part.blocks))
 counts-with_item line Else [] = refl
 counts-with_item line Else (second ∷ parts) = refl
 counts-with_item line End parts = refl
@@ -86,7 +86,7 @@ pub reverse-none : (f : PartCount → PartCount) (xs : List PartCount) (n : ℕ)
 reverse-none f [] n counted none = refl
 reverse-none f (x ∷ xs) n counted none = absurd (omega arith)
 
-pub lines-innermost : (parts : List Part) → (innermost (counts_of parts)).lines ≡ saturated (length_of (outermost parts))
+pub lines-innermost : (parts : List Part) → (innermost_count (counts_of parts)).lines ≡ saturated_count (length_of (outermost_blocks parts))
 lines-innermost [] = refl
 lines-innermost (part ∷ parts) = refl
 

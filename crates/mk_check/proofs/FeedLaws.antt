@@ -6,7 +6,7 @@ use Rattle.mk_core.specs.declared.events.Answer.{Answer}
 use Rattle.mk_core.specs.Decided.{flagged}
 use Rattle.mk_script.specs.declared.items.Item.{Item}
 use Rattle.mk_check.specs.Blocks.{Blocks, Done, Line, Rounds, Choice, is_done, script_of}
-use Rattle.mk_check.specs.Feed.{Scope, Fed, op_of, with_answer, note, take_answer, take_answers, started, feed, has_ended}
+use Rattle.mk_check.specs.Feed.{Scope, Fed, op_of, with_answer, note, take_answer, take_answers, fed_before_answers, feed, has_ended}
 use Rattle.mk_check.specs.Feeding.{FeedState, FeedStandsFor, IsWaiting, first_op, script_scope, next_op}
 use Rattle.mk_check.proofs.Numbered.{run_agrees, ops-with_answer}
 
@@ -17,7 +17,7 @@ take_answers_push scope fed (b ∷ answers) a = take_answers_push scope (take_an
 
 pub feed_push : (program : List Item) (k : ℕ) (answers : List Answer) (a : Answer)
     → feed program k (answers ++ a ∷ []) ≡ take_answer (script_scope program k) (feed program k answers) (feed program k answers).left a
-feed_push program k answers a = take_answers_push (script_scope program k) (started (script_scope program k) (script_of program k)) answers a
+feed_push program k answers a = take_answers_push (script_scope program k) (fed_before_answers (script_scope program k) (script_of program k)) answers a
 
 taken_at_end : (scope : Scope) (fed : Fed) (left : Blocks) (a : Answer) → is_done left ≡ true → take_answer scope fed left a ≡ fed
 taken_at_end scope fed Done a h = refl

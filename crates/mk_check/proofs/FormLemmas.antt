@@ -4,6 +4,7 @@ use Rattle.std.specs.Prelude.{if◌then◌else◌, nat_le, ◌&&◌, ◌==◌, i
 use Rattle.std.proofs.lemmas.List.{length-append, length-replicate}
 use Rattle.std.proofs.lemmas.Bool.{false≢true, leb-true}
 use Rattle.std.specs.List.{list_all}
+use Rattle.std.specs.Result.{result_ok}
 use Rattle.mk_script.specs.declared.items.At.{At}
 use Rattle.mk_script.specs.declared.items.TypeWord.{TypeWord}
 use Rattle.mk_script.specs.declared.items.TypeWord.TheVariants.{Number, Pointer}
@@ -14,9 +15,9 @@ use Rattle.mk_script.specs.declared.keywords.Keyword.TheVariants.{Heap, TypeLine
 use Rattle.mk_script.specs.declared.faults.LineFault.{LineFault}
 use Rattle.mk_script.specs.declared.faults.LineFault.TheVariants.{Text}
 use Rattle.mk_script.specs.declared.faults.TextKind.TheVariants as kind
-use Rattle.mk_script.specs.Names.{number_of}
+use Rattle.mk_script.specs.Names.{number_of_word}
 use Rattle.mk_script.specs.Keywords.{keyword_of, has_operands}
-use Rattle.mk_script.specs.Operands.{◌>>=◌, name, at, number, numbers, starred, pointed, field_of, fields_of, have_form, item_from, ok_part}
+use Rattle.mk_script.specs.Operands.{◌>>=◌, name, at, number, numbers, number_field, pointer_field, field_of, fields_of, have_form, item_from}
 use Rattle.mk_script.specs.Lines.{line_item, other_line, placed_item, is_placed}
 use Rattle.mk_check.proofs.GrammarLemmas.{Err≢Ok, and-true, heap_line-item}
 
@@ -40,23 +41,23 @@ counted-HasWord : (count : Option ℕ) → HasWord (option_and_then numbers coun
 counted-HasWord None = none-HasWord
 counted-HasWord (Some count) = replicate-HasWord count (nat_le 1 count) refl
 
-starred-HasWord : (bytes : List ℕ) → HasWord (starred bytes)
-starred-HasWord [] = λ some. omega arith
-starred-HasWord (star ∷ digits) = if-HasWord (star == 42) (option_and_then numbers (number_of digits)) None (counted-HasWord (number_of digits)) none-HasWord
+number_field-HasWord : (bytes : List ℕ) → HasWord (number_field bytes)
+number_field-HasWord [] = λ some. omega arith
+number_field-HasWord (star ∷ digits) = if-HasWord (star == 42) (option_and_then numbers (number_of_word digits)) None (counted-HasWord (number_of_word digits)) none-HasWord
 
 pointer-HasWord : (place : Option At) → HasWord (option_map (λ a. Pointer a ∷ []) place)
 pointer-HasWord None some = absurd (false≢true some)
 pointer-HasWord (Some place) some = omega arith
 
-pointed-HasWord : (bytes : List ℕ) → HasWord (pointed bytes)
-pointed-HasWord [] = none-HasWord
-pointed-HasWord (colon ∷ place) = if-HasWord (colon == 58) (option_map (λ a. Pointer a ∷ []) (ok_part (at place))) None (pointer-HasWord (ok_part (at place))) none-HasWord
+pointer_field-HasWord : (bytes : List ℕ) → HasWord (pointer_field bytes)
+pointer_field-HasWord [] = none-HasWord
+pointer_field-HasWord (colon ∷ place) = if-HasWord (colon == 58) (option_map (λ a. Pointer a ∷ []) (result_ok (at place))) None (pointer-HasWord (result_ok (at place))) none-HasWord
 
 field-HasWord : (field : List ℕ) → HasWord (field_of field)
 field-HasWord [] = none-HasWord
 field-HasWord (letter ∷ rest) =
-    if-HasWord (letter == 110) (starred rest) (if letter == 112 then pointed rest else None) (starred-HasWord rest)
-    (if-HasWord (letter == 112) (pointed rest) None (pointed-HasWord rest) none-HasWord)
+    if-HasWord (letter == 110) (number_field rest) (if letter == 112 then pointer_field rest else None) (number_field-HasWord rest)
+    (if-HasWord (letter == 112) (pointer_field rest) None (pointer_field-HasWord rest) none-HasWord)
 
 fields-word : (fields : List (List ℕ)) → nat_le 2 (suc (length fields)) ≡ true → list_all (λ field. is_some (field_of field)) fields ≡ true → 1 ≤ length (fields_of fields)
 fields-word [] two forms = absurd (omega (arith, leb-true 2 1 two))

@@ -3,6 +3,7 @@ use Rattle.std.proofs.Common.{◌≡◌, ℕ, ◌+◌, ◌-◌, ◌^◌, ◌≤�
 use Rattle.std.specs.Prelude.{if◌then◌else◌, nat_le, is_ok, is_some, ◌&&◌}
 use Rattle.std.proofs.lemmas.List.{append_assoc, append-nil, length-append}
 use Rattle.std.proofs.lemmas.Bool.{false≢true, leb-true}
+use Rattle.std.specs.Option.{option_or}
 use Rattle.mk_script.specs.declared.items.Item.{Item}
 use Rattle.mk_script.specs.declared.items.Item.TheVariants.{Global, Heap, TypeLine, Script}
 use Rattle.mk_script.specs.declared.faults.TextKind.TheVariants.{Header}
@@ -16,7 +17,7 @@ use Rattle.mk_script.specs.declared.keywords.Keyword.TheVariants as keyword
 use Rattle.mk_script.specs.Operands.{◌>>=◌, item_from, number}
 use Rattle.mk_script.specs.Scopes.{global_names, type_names, script_names}
 use Rattle.mk_script.proofs.PassedLines.{ArePassed, IsWhole}
-use Rattle.mk_script.specs.Lines.{or_else, at_most, within, limit_fault, heap_line, has_script}
+use Rattle.mk_script.specs.Lines.{at_most, within, limit_fault, heap_line, has_script}
 use Rattle.mk_core.specs.Config.{IsBetween}
 use Rattle.mk_check.specs.Declarations.{pages_of, resident_of}
 use Rattle.mk_check.proofs.NumberLemmas.{length-global_names-append, type_names-append}
@@ -60,9 +61,9 @@ bound count most keeps before (item ∷ rest) lines h =
 pub at_most-None : (found greatest : ℕ) (which' : Which) → at_most found greatest which' ≡ None → found ≤ greatest
 at_most-None found greatest which' h = leb-true found greatest (if-None (nat_le found greatest) (Limit which' (min found (2 ^ 64 - 1))) h)
 
-pub or_else-None : (fault other : Option LineFault) → or_else fault other ≡ None → (fault ≡ None) × (other ≡ None)
-or_else-None None other h = (refl, h)
-or_else-None (Some fault) other h = absurd (Some≢None fault h)
+pub option_or-None : (fault other : Option LineFault) → option_or fault other ≡ None → (fault ≡ None) × (other ≡ None)
+option_or-None None other h = (refl, h)
+option_or-None (Some fault) other h = absurd (Some≢None fault h)
 
 globals-keep : (before : List Item) (item : Item) → limit_fault before item ≡ None → length (global_names before) ≤ 64 → length (global_names (before ++ item ∷ [])) ≤ 64
 globals-keep before (Global name ty) within h = omega (arith, length-global_names-append before (Global name ty ∷ []), at_most-None (length (global_names before) + 1) 64 which.Globals within)
@@ -73,7 +74,7 @@ length-global_names items program = bound (λ xs. length (global_names xs)) 64 g
 
 types-keep : (before : List Item) (item : Item) → limit_fault before item ≡ None → length (type_names before) ≤ 64 → length (type_names (before ++ item ∷ [])) ≤ 64
 types-keep before (TypeLine name words) within h =
-    let most = at_most-None (length (type_names before) + 1) 64 which.Types (or_else-None (at_most (length (type_names before) + 1) 64 which.Types) (at_most (length words) 4096 which.Words) within).0 in
+    let most = at_most-None (length (type_names before) + 1) 64 which.Types (option_or-None (at_most (length (type_names before) + 1) 64 which.Types) (at_most (length words) 4096 which.Words) within).0 in
     omega (arith, ap length (type_names-append before (TypeLine name words ∷ [])), length-append (type_names before) (name ∷ []), most)
 types-keep before item within h =
     omega (arith, ap length (type_names-append before (item ∷ [])), length-append (type_names before) [])
@@ -131,7 +132,7 @@ pub record IsHeapWithin (items : List Item) : Type 0 where
 
 heap_first : (item : Item) (items : List Item) → limit_fault [] item ≡ None → IsHeapLine item → IsHeapWithin (item ∷ items)
 heap_first item items h heap =
-    let both = or_else-None (within 1 heap.pages 4096 which.Pages) (within 1 heap.resident heap.pages which.Resident) (ap (limit_fault []) (sym heap.is) ∙ h) in
+    let both = option_or-None (within 1 heap.pages 4096 which.Pages) (within 1 heap.resident heap.pages which.Resident) (ap (limit_fault []) (sym heap.is) ∙ h) in
     subst (λ first. IsHeapWithin (first ∷ items)) (sym heap.is)
     (record { pages = within-None 1 heap.pages 4096 which.Pages both.0; resident = within-None 1 heap.resident heap.pages which.Resident both.1 })
 

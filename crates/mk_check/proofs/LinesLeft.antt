@@ -7,8 +7,8 @@ use Rattle.mk_never.specs.declared.operations.Op.{Op}
 use Rattle.mk_core.specs.declared.events.Answer.{Answer}
 use Rattle.mk_script.specs.declared.items.Item.{Item}
 use Rattle.mk_script.specs.declared.items.Item.TheVariants.{Repeat, If, Else, End}
-use Rattle.mk_check.specs.Blocks.{Blocks, Done, Line, Rounds, Choice, followed_by, is_done, AllPlaced, AllLines, AllFrom, Part, branch, with_line, with_item, parts_from, outermost, blocks_from, ScriptText, script_of}
-use Rattle.mk_check.specs.Feed.{Scope, Fed, number_in, op_of, run_line, then_run, run_rounds, run, with_answer, note, take_answer, take_answers, begun, started, feed}
+use Rattle.mk_check.specs.Blocks.{Blocks, Done, Line, Rounds, Choice, followed_by, is_done, AllPlaced, AllLines, AllFrom, Part, branch, with_line, with_item, parts_from, outermost_blocks, blocks_from, ScriptText, script_of}
+use Rattle.mk_check.specs.Feed.{Scope, Fed, number_in, op_of, run_line, then_run, run_rounds, run, with_answer, note, take_answer, take_answers, fed_before_lines, fed_before_answers, feed}
 use Rattle.mk_check.specs.Feeding.{first_op, script_scope, next_op}
 
 module _ (P : ℕ → Item → Type 0) where
@@ -42,13 +42,13 @@ module _ (P : ℕ → Item → Type 0) where
   AllPlacedParts-parts_from line (item ∷ items) h =
       AllPlacedParts-with_item line item (parts_from (line + 1) items) h.0 (AllPlacedParts-parts_from (line + 1) items h.1)
 
-  AllPlaced-outermost : (parts : List Part) → AllPlacedParts parts → AllPlaced P (outermost parts)
+  AllPlaced-outermost_blocks : (parts : List Part) → AllPlacedParts parts → AllPlaced P (outermost_blocks parts)
   unfolding AllPlacedParts
-  AllPlaced-outermost [] h = tt
-  AllPlaced-outermost (part ∷ parts) h = h.0
+  AllPlaced-outermost_blocks [] h = tt
+  AllPlaced-outermost_blocks (part ∷ parts) h = h.0
 
   pub placed_of_script : (line : ℕ) (items : List Item) → AllFrom P line items → AllPlaced P (blocks_from line items)
-  placed_of_script line items h = AllPlaced-outermost (parts_from line items) (AllPlacedParts-parts_from line items h)
+  placed_of_script line items h = AllPlaced-outermost_blocks (parts_from line items) (AllPlacedParts-parts_from line items h)
 
   -- What a run leaves.
 
@@ -114,8 +114,8 @@ module _ (P : ℕ → Item → Type 0) where
   placed_left program k answers h =
       let script = script_of program k in
       let scope = script_scope program k in
-      AllPlaced-take_answers scope answers (started scope script)
-      (AllPlaced-run scope (blocks_from script.line script.items) (placed_of_script script.line script.items h) (begun scope script))
+      AllPlaced-take_answers scope answers (fed_before_answers scope script)
+      (AllPlaced-run scope (blocks_from script.line script.items) (placed_of_script script.line script.items h) (fed_before_lines scope script))
 
 -- a script stands at a line, which P holds of, and waits for its operation's answer
 pub record IsAtLine (P : ℕ → Item → Type 0) (scope : Scope) (fed : Fed) (o : Op) : Type 0 where

@@ -9,9 +9,9 @@ use Rattle.mk_check.specs.declared.feeding.tree.Node.{Node}
 use Rattle.mk_check.specs.declared.feeding.tree.Node.TheVariants as node
 use Rattle.mk_check.specs.declared.feeding.tree.Frame.{Frame}
 use Rattle.mk_check.specs.declared.feeding.tree.Frame.TheVariants as frame
-use Rattle.mk_check.specs.Steps.{Steps, Done, Line, Rounds, Choice, then_steps, Kept, Stopped, asked, after_line, ran}
-use Rattle.mk_check.specs.Trees.{steps_at, steps_from, with_node, trees, IsBelow, node_at, IsTree, Place, frame_steps, behind_frames, left_in, kept_in, with_kept, FrameIsWithin, FramesAreWithin, IsWithin, StopsAt, entered, left_block, branched, LeavesBlock, work_of, work_in, GoesOn, HasStopped}
-use Rattle.mk_check.proofs.StepLaws.{ran-round, ran-choice_zero, ran-choice_other}
+use Rattle.mk_check.specs.Steps.{Steps, Done, Line, Rounds, Choice, then_steps, Kept, Stopped, op_asked, after_line, stop_of}
+use Rattle.mk_check.specs.Trees.{steps_at, steps_from, with_node, trees, IsBelow, node_at, IsTree, Place, frame_steps, behind_frames, left_in, kept_in, with_kept, FrameIsWithin, FramesAreWithin, IsWithin, StopsAt, place_in_rounds, place_behind_block, place_in_branch, LeavesBlock, work_of, work_in, MovesOn, HasStopped}
+use Rattle.mk_check.proofs.StepLaws.{stop_of-round, stop_of-choice_zero, stop_of-choice_other}
 
 -- The steps from a node are those that it names.
 
@@ -96,16 +96,16 @@ work_of-then_steps (Choice number first second rest) b = omega (arith, work_of-t
 module _ (nodes : List Node) where
   -- the steps that are left once a `repeat` is entered
   entered_runs : (p : Place) (rounds body next : ℕ) (k : Kept)
-      → ran (left_in nodes (entered p rounds body next)) k
-      ≡ ran (Rounds rounds (steps_at (trees nodes) body) (then_steps (steps_at (trees nodes) next) (behind_frames (trees nodes) p.frames))) k
+      → stop_of (left_in nodes (place_in_rounds p rounds body next)) k
+      ≡ stop_of (Rounds rounds (steps_at (trees nodes) body) (then_steps (steps_at (trees nodes) next) (behind_frames (trees nodes) p.frames))) k
   entered_runs p zero body next k = refl
   entered_runs p (suc more) body next k =
       let rest = then_steps (steps_at (trees nodes) next) (behind_frames (trees nodes) p.frames) in
-      ap (λ (s : Steps). ran (then_steps (steps_at (trees nodes) body) s) k) (behind_frames_push (trees nodes) p.frames (frame.Rounds more body next))
-      ∙ sym (ran-round more (steps_at (trees nodes) body) rest k)
+      ap (λ (s : Steps). stop_of (then_steps (steps_at (trees nodes) body) s) k) (behind_frames_push (trees nodes) p.frames (frame.Rounds more body next))
+      ∙ sym (stop_of-round more (steps_at (trees nodes) body) rest k)
 
   entered_nearer : (p : Place) (rounds body next : ℕ)
-      → work_in nodes (entered p rounds body next)
+      → work_in nodes (place_in_rounds p rounds body next)
       < 2 * work_of (Rounds rounds (steps_at (trees nodes) body) (then_steps (steps_at (trees nodes) next) (behind_frames (trees nodes) p.frames))) + length p.frames
   entered_nearer p zero body next = omega arith
   entered_nearer p (suc more) body next =
@@ -115,7 +115,7 @@ module _ (nodes : List Node) where
       omega (arith, e, f, length_push p.frames (frame.Rounds more body next))
 
   entered_within : (p : Place) (rounds body next : ℕ) → FramesAreWithin (length nodes) p.frames → body < length nodes → next < length nodes
-      → IsWithin (length nodes) (entered p rounds body next)
+      → IsWithin (length nodes) (place_in_rounds p rounds body next)
   entered_within p zero body next w b n = record { at = n; frames = w }
   entered_within p (suc more) body next w b n =
       record { at = b; frames = FramesAreWithin_push (length nodes) p.frames (frame.Rounds more body next) w (b, n) }
@@ -138,35 +138,35 @@ module _ (nodes : List Node) where
   below_length p n tree w e = subst (λ (m : Node). IsBelow (length nodes) m) e (IsBelow-more p.at (length nodes) (node_at nodes p.at) (let h = w.at in omega arith) (tree p.at w.at))
 
   pub line_goes_on : (p : Place) (line : ℕ) (instruction : Instruction) (next : ℕ) → IsTree nodes → IsWithin (length nodes) p
-      → node_at nodes p.at ≡ node.Line line instruction next → is_some (asked p.numbers instruction) ≡ false
-      → GoesOn nodes p (with_kept (record p { at = next }) (after_line instruction (kept_in p)))
+      → node_at nodes p.at ≡ node.Line line instruction next → is_some (op_asked p.numbers instruction) ≡ false
+      → MovesOn nodes p (with_kept (record p { at = next }) (after_line instruction (kept_in p)))
   line_goes_on p line instruction next tree w e none =
       let here = unfolded p (node.Line line instruction next) tree w e in
       let rest = then_steps (steps_at (trees nodes) next) (behind_frames (trees nodes) p.frames) in
       let stop : Stopped = record { left = Line line instruction rest; kept = kept_in p } in
       record {
         within = record { at = below_length p (node.Line line instruction next) tree w e; frames = w.frames };
-        run = sym (ap (λ (s : Steps). ran s (kept_in p)) here ∙ ap (λ (b : Bool). if b then stop else ran rest (after_line instruction (kept_in p))) none);
+        run = sym (ap (λ (s : Steps). stop_of s (kept_in p)) here ∙ ap (λ (b : Bool). if b then stop else stop_of rest (after_line instruction (kept_in p))) none);
         nearer = omega (arith, ap work_of here);
       }
 
   pub rounds_go_on : (p : Place) (rounds body next : ℕ) → IsTree nodes → IsWithin (length nodes) p
-      → node_at nodes p.at ≡ node.Rounds rounds body next → GoesOn nodes p (entered p rounds body next)
+      → node_at nodes p.at ≡ node.Rounds rounds body next → MovesOn nodes p (place_in_rounds p rounds body next)
   rounds_go_on p rounds body next tree w e =
       let here = unfolded p (node.Rounds rounds body next) tree w e in
       let below = below_length p (node.Rounds rounds body next) tree w e in
       record {
         within = entered_within p rounds body next w.frames below.0 below.1;
-        run = kept rounds ∙ (entered_runs p rounds body next (kept_in p) ∙ sym (ap (λ (s : Steps). ran s (kept_in p)) here));
+        run = kept rounds ∙ (entered_runs p rounds body next (kept_in p) ∙ sym (ap (λ (s : Steps). stop_of s (kept_in p)) here));
         nearer = omega (arith, ap work_of here, entered_nearer p rounds body next);
       }
     where
-      kept : (r : ℕ) → ran (left_in nodes (entered p r body next)) (kept_in (entered p r body next)) ≡ ran (left_in nodes (entered p r body next)) (kept_in p)
+      kept : (r : ℕ) → stop_of (left_in nodes (place_in_rounds p r body next)) (kept_in (place_in_rounds p r body next)) ≡ stop_of (left_in nodes (place_in_rounds p r body next)) (kept_in p)
       kept zero = refl
       kept (suc m) = refl
 
   pub choice_goes_on : (p : Place) (number first second next : ℕ) → IsTree nodes → IsWithin (length nodes) p
-      → node_at nodes p.at ≡ node.Choice number first second next → GoesOn nodes p (branched p number first second next)
+      → node_at nodes p.at ≡ node.Choice number first second next → MovesOn nodes p (place_in_branch p number first second next)
   choice_goes_on p number first second next tree w e =
       let n = node.Choice number first second next in
       by_test (slice_index p.numbers number == 0) refl (unfolded p n tree w e) (below_length p n tree w e)
@@ -177,12 +177,12 @@ module _ (nodes : List Node) where
       by_test : (b : Bool) → (slice_index p.numbers number == 0) ≡ b
           → left_in nodes p ≡ Choice number (steps_at (trees nodes) first) (steps_at (trees nodes) second) (then_steps (steps_at (trees nodes) next) (behind_frames (trees nodes) p.frames))
           → IsBelow (length nodes) (node.Choice number first second next)
-          → GoesOn nodes p (record p { at = if b then second else first; frames = p.frames ++ frame.Branch next ∷ [] })
+          → MovesOn nodes p (record p { at = if b then second else first; frames = p.frames ++ frame.Branch next ∷ [] })
       by_test true t here below = record {
         within = record { at = below.1; frames = FramesAreWithin_push (length nodes) p.frames (frame.Branch next) w.frames below.2 };
-        run = ap (λ (s : Steps). ran (then_steps (steps_at (trees nodes) second) s) (kept_in p)) (behind_frames_push (trees nodes) p.frames (frame.Branch next))
-            ∙ (sym (ran-choice_zero number (steps_at (trees nodes) first) (steps_at (trees nodes) second) (then_steps (steps_at (trees nodes) next) (behind_frames (trees nodes) p.frames)) (kept_in p) t)
-            ∙ sym (ap (λ (s : Steps). ran s (kept_in p)) here));
+        run = ap (λ (s : Steps). stop_of (then_steps (steps_at (trees nodes) second) s) (kept_in p)) (behind_frames_push (trees nodes) p.frames (frame.Branch next))
+            ∙ (sym (stop_of-choice_zero number (steps_at (trees nodes) first) (steps_at (trees nodes) second) (then_steps (steps_at (trees nodes) next) (behind_frames (trees nodes) p.frames)) (kept_in p) t)
+            ∙ sym (ap (λ (s : Steps). stop_of s (kept_in p)) here));
         nearer = omega (
           arith,
           ap work_of here,
@@ -193,9 +193,9 @@ module _ (nodes : List Node) where
       }
       by_test false t here below = record {
         within = record { at = below.0; frames = FramesAreWithin_push (length nodes) p.frames (frame.Branch next) w.frames below.2 };
-        run = ap (λ (s : Steps). ran (then_steps (steps_at (trees nodes) first) s) (kept_in p)) (behind_frames_push (trees nodes) p.frames (frame.Branch next))
-            ∙ (sym (ran-choice_other number (steps_at (trees nodes) first) (steps_at (trees nodes) second) (then_steps (steps_at (trees nodes) next) (behind_frames (trees nodes) p.frames)) (kept_in p) t)
-            ∙ sym (ap (λ (s : Steps). ran s (kept_in p)) here));
+        run = ap (λ (s : Steps). stop_of (then_steps (steps_at (trees nodes) first) s) (kept_in p)) (behind_frames_push (trees nodes) p.frames (frame.Branch next))
+            ∙ (sym (stop_of-choice_other number (steps_at (trees nodes) first) (steps_at (trees nodes) second) (then_steps (steps_at (trees nodes) next) (behind_frames (trees nodes) p.frames)) (kept_in p) t)
+            ∙ sym (ap (λ (s : Steps). stop_of s (kept_in p)) here));
         nearer = omega (
           arith,
           ap work_of here,
@@ -208,36 +208,36 @@ module _ (nodes : List Node) where
   -- the end of an open block
   block_goes_on : (p : Place) (frames : List Frame) (f : Frame) → p.frames ≡ frames ++ f ∷ [] → left_in nodes p ≡ frame_steps (trees nodes) (behind_frames (trees nodes) frames) f
       → FramesAreWithin (length nodes) frames × FrameIsWithin (length nodes) f
-      → GoesOn nodes p (left_block (record p { frames = frames }) f)
+      → MovesOn nodes p (place_behind_block (record p { frames = frames }) f)
   block_goes_on p frames (frame.Branch next) was here w = record {
     within = record { at = w.1; frames = w.0 };
-    run = sym (ap (λ (s : Steps). ran s (kept_in p)) here);
+    run = sym (ap (λ (s : Steps). stop_of s (kept_in p)) here);
     nearer = omega (arith, ap work_of here, ap (λ (fs : List Frame). length fs) was, length_push frames (frame.Branch next));
   }
   block_goes_on p frames (frame.Rounds rounds body next) was here w = record {
     within = entered_within (record p { frames = frames }) rounds body next w.0 w.1.0 w.1.1;
-    run = kept rounds ∙ (entered_runs (record p { frames = frames }) rounds body next (kept_in p) ∙ sym (ap (λ (s : Steps). ran s (kept_in p)) here));
+    run = kept rounds ∙ (entered_runs (record p { frames = frames }) rounds body next (kept_in p) ∙ sym (ap (λ (s : Steps). stop_of s (kept_in p)) here));
     nearer = omega (arith, ap work_of here, ap (λ (fs : List Frame). length fs) was, length_push frames (frame.Rounds rounds body next), entered_nearer (record p { frames = frames }) rounds body next);
   }
     where
-      kept : (r : ℕ) → ran (left_in nodes (entered (record p { frames = frames }) r body next)) (kept_in (entered (record p { frames = frames }) r body next))
-          ≡ ran (left_in nodes (entered (record p { frames = frames }) r body next)) (kept_in p)
+      kept : (r : ℕ) → stop_of (left_in nodes (place_in_rounds (record p { frames = frames }) r body next)) (kept_in (place_in_rounds (record p { frames = frames }) r body next))
+          ≡ stop_of (left_in nodes (place_in_rounds (record p { frames = frames }) r body next)) (kept_in p)
       kept zero = refl
       kept (suc m) = refl
 
-  pub end_goes_on : (p q : Place) → IsTree nodes → IsWithin (length nodes) p → node_at nodes p.at ≡ node.Done → LeavesBlock p q → GoesOn nodes p q
+  pub end_goes_on : (p q : Place) → IsTree nodes → IsWithin (length nodes) p → node_at nodes p.at ≡ node.Done → LeavesBlock p q → MovesOn nodes p q
   end_goes_on p q tree w e leaves =
       let here : left_in nodes p ≡ frame_steps (trees nodes) (behind_frames (trees nodes) leaves.frames) leaves.frame =
       unfolded p node.Done tree w e ∙ (ap (behind_frames (trees nodes)) leaves.was ∙ behind_frames_push (trees nodes) leaves.frames leaves.frame) in
       let fs = FramesAreWithin_pop (length nodes) leaves.frames leaves.frame (subst (λ (xs : List Frame). FramesAreWithin (length nodes) xs) leaves.was w.frames) in
-      subst (λ (x : Place). GoesOn nodes p x) (sym leaves.is) (block_goes_on p leaves.frames leaves.frame leaves.was here fs)
+      subst (λ (x : Place). MovesOn nodes p x) (sym leaves.is) (block_goes_on p leaves.frames leaves.frame leaves.was here fs)
 
   -- A place where the steps stop.
 
   pub ends_at : (p : Place) → IsTree nodes → IsWithin (length nodes) p → node_at nodes p.at ≡ node.Done → p.frames ≡ [] → HasStopped nodes p p
   ends_at p tree w e none =
       let here : left_in nodes p ≡ Done = unfolded p node.Done tree w e ∙ ap (behind_frames (trees nodes)) none in
-      let at : (s : Steps) → s ≡ Done → record { left = s; kept = kept_in p } ≡ ran s (kept_in p) = λ s d. subst (λ (x : Steps). record { left = x; kept = kept_in p } ≡ ran x (kept_in p)) (sym d) refl in
+      let at : (s : Steps) → s ≡ Done → record { left = s; kept = kept_in p } ≡ stop_of s (kept_in p) = λ s d. subst (λ (x : Steps). record { left = x; kept = kept_in p } ≡ stop_of x (kept_in p)) (sym d) refl in
       record {
         within = w;
         at = subst (λ (m : Node). StopsAt m p) (sym e) none;
@@ -245,7 +245,7 @@ module _ (nodes : List Node) where
       }
 
   pub asks_at : (p : Place) (line : ℕ) (instruction : Instruction) (next : ℕ) → IsTree nodes → IsWithin (length nodes) p
-      → node_at nodes p.at ≡ node.Line line instruction next → is_some (asked p.numbers instruction) ≡ true → HasStopped nodes p p
+      → node_at nodes p.at ≡ node.Line line instruction next → is_some (op_asked p.numbers instruction) ≡ true → HasStopped nodes p p
   asks_at p line instruction next tree w e some =
       let rest = then_steps (steps_at (trees nodes) next) (behind_frames (trees nodes) p.frames) in
       let stop : Stopped = record { left = Line line instruction rest; kept = kept_in p } in
@@ -254,5 +254,5 @@ module _ (nodes : List Node) where
         within = w;
         at = subst (λ (m : Node). StopsAt m p) (sym e) some;
         run = ap (λ (s : Steps). let at : Stopped = record { left = s; kept = kept_in p } in at) here
-            ∙ sym (ap (λ (s : Steps). ran s (kept_in p)) here ∙ ap (λ (b : Bool). if b then stop else ran rest (after_line instruction (kept_in p))) some);
+            ∙ sym (ap (λ (s : Steps). stop_of s (kept_in p)) here ∙ ap (λ (b : Bool). if b then stop else stop_of rest (after_line instruction (kept_in p))) some);
       }

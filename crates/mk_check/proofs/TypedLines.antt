@@ -12,7 +12,7 @@ use Rattle.mk_script.specs.declared.items.Item.{Item}
 use Rattle.mk_script.specs.declared.items.Item.TheVariants.{New, Free, Getn, Setn, Getp, Setp, Casp, Lea, Move, Clear, Loadg, Storeg, Same, Isnull, Show}
 use Rattle.mk_check.specs.declared.typing_faults.TypeKind.{TypeKind}
 use Rattle.mk_check.specs.declared.typing_faults.TypeKind.TheVariants as kind
-use Rattle.mk_check.specs.Typing.{Around, type_words, global_type, pointer_at, ◌or◌, unless, is_type, is_pointer, same_at, moved_by, place_behind, word_among, word_at, is_inside, is_number_word, word_points, base_of, is_base, global_at, same_kind, holds_number, points_as, typing_fault}
+use Rattle.mk_check.specs.Typing.{Around, type_words, global_type, pointer_at, ◌or◌, unless, type_fault, pointer_fault, same_at, moved_by, place_behind, word_among, word_at, inside_fault, is_number_word, pointed_place, base_of, is_base, global_at, kind_fault, number_word_fault, pointer_word_fault, typing_fault}
 
 -- The register points to a place from which this word is i words on.
 pub record PointsBefore (program script : List Item) (pointer : List ℕ) (i : ℕ) (word : TypeWord) : Type 0 where
@@ -120,13 +120,13 @@ number_word (Some Number) e = refl
 number_word (Some (Pointer at)) e = absurd (false≢true e)
 number_word None e = absurd (false≢true e)
 
-pointer_word : (word : Option TypeWord) (at : At) → word_points word ≡ Some at → word ≡ Some (Pointer at)
+pointer_word : (word : Option TypeWord) (at : At) → pointed_place word ≡ Some at → word ≡ Some (Pointer at)
 pointer_word (Some (Pointer at')) at e = ap (λ (t : At). Some (Pointer t)) (same_Some at' at e)
 pointer_word (Some Number) at e = cc
 pointer_word None at e = cc
 
 module _ (a : Around) (script : List Item) (stays : (name : List ℕ) (at : At) → pointer_at name a.script ≡ Some at → pointer_at name script ≡ Some at) where
-  declared : (pointer : List ℕ) → is_pointer a pointer ≡ None → IsDeclared script pointer
+  declared : (pointer : List ℕ) → pointer_fault a pointer ≡ None → IsDeclared script pointer
   declared pointer e =
       let found = is_some_one (pointer_at pointer a.script) (unless_none _ kind.NoRegister e) in
       record { at = found.value; declared = stays pointer found.value found.is }
@@ -138,20 +138,20 @@ module _ (a : Around) (script : List Item) (stays : (name : List ℕ) (at : At) 
       by_place None is f = cc
       by_place (Some at) is f = record { at = at; declared = stays pointer at is; is = f }
 
-  before_number : (pointer : List ℕ) (i : ℕ) → holds_number a pointer i ≡ None → PointsBefore a.program script pointer i Number
+  before_number : (pointer : List ℕ) (i : ℕ) → number_word_fault a pointer i ≡ None → PointsBefore a.program script pointer i Number
   before_number pointer i e = before pointer i Number (number_word _ (unless_none _ kind.Kind e))
 
-  before_one : (pointer : List ℕ) (i : ℕ) (register : List ℕ) → points_as a pointer i register ≡ None → PointsBeforeOne a.program script pointer i register
+  before_one : (pointer : List ℕ) (i : ℕ) (register : List ℕ) → pointer_word_fault a pointer i register ≡ None → PointsBeforeOne a.program script pointer i register
   before_one pointer i register e =
-      let one = are_one (word_points (word_at a (place_behind a pointer i))) (pointer_at register a.script) (unless_none _ kind.Kind e) in
+      let one = are_one (pointed_place (word_at a (place_behind a pointer i))) (pointer_at register a.script) (unless_none _ kind.Kind e) in
       record {
         at = one.at;
         word = before pointer i (Pointer one.at) (pointer_word _ one.at one.first);
         declared = stays register one.at one.second;
       }
 
-  behind : (pointer : List ℕ) (i : ℕ) (register : List ℕ) → is_inside a (place_behind a pointer i) ≡ None
-      → same_kind (pointer_at register a.script) (place_behind a pointer i) ≡ None → PointsBehind a.program script pointer i register
+  behind : (pointer : List ℕ) (i : ℕ) (register : List ℕ) → inside_fault a (place_behind a pointer i) ≡ None
+      → kind_fault (pointer_at register a.script) (place_behind a pointer i) ≡ None → PointsBehind a.program script pointer i register
   behind pointer i register inside alike =
       by_place (pointer_at pointer a.script) refl (is_some_one _ (unless_none _ kind.Offset inside)) (are_one _ _ (unless_none _ kind.Kind alike))
     where
@@ -166,12 +166,12 @@ module _ (a : Around) (script : List Item) (stays : (name : List ℕ) (at : At) 
             declared = stays register (moved_by i at) (one.first ∙ ap Some same);
           }
 
-  alike : (first second : List ℕ) → same_kind (pointer_at first a.script) (pointer_at second a.script) ≡ None → AreAlike script first second
+  alike : (first second : List ℕ) → kind_fault (pointer_at first a.script) (pointer_at second a.script) ≡ None → AreAlike script first second
   alike first second e =
       let one = are_one (pointer_at first a.script) (pointer_at second a.script) (unless_none _ kind.Kind e) in
       record { at = one.at; first_is = stays first one.at one.first; second_is = stays second one.at one.second }
 
-  to_type : (pointer ty : List ℕ) → is_type a ty ≡ None → same_kind (pointer_at pointer a.script) (Some (base_of ty)) ≡ None → PointsToType a.program script pointer ty
+  to_type : (pointer ty : List ℕ) → type_fault a ty ≡ None → kind_fault (pointer_at pointer a.script) (Some (base_of ty)) ≡ None → PointsToType a.program script pointer ty
   to_type pointer ty e f =
       let found = is_some_one (type_words ty a.program) (unless_none _ kind.NoType e) in
       let one = are_one (pointer_at pointer a.script) (Some (base_of ty)) (unless_none _ kind.Kind f) in
@@ -181,7 +181,7 @@ module _ (a : Around) (script : List Item) (stays : (name : List ℕ) (at : At) 
         declared = stays pointer (base_of ty) (one.first ∙ sym one.second);
       }
 
-  to_global : (pointer global : List ℕ) → same_kind (pointer_at pointer a.script) (global_at a global) ≡ None → PointsToGlobal a.program script pointer global
+  to_global : (pointer global : List ℕ) → kind_fault (pointer_at pointer a.script) (global_at a global) ≡ None → PointsToGlobal a.program script pointer global
   to_global pointer global e = by_type (global_type global a.program) refl (are_one (pointer_at pointer a.script) (global_at a global) (unless_none _ kind.Kind e))
     where
       by_type : (ty : Option (List ℕ)) → global_type global a.program ≡ ty → AreOne (pointer_at pointer a.script) (option_map base_of ty)
@@ -199,8 +199,8 @@ module _ (a : Around) (script : List Item) (stays : (name : List ℕ) (at : At) 
   -- a well-typed line
   pub says : (line : ℕ) (after : List Item) (item : Item) → typing_fault a line after item ≡ None → Says a.program script item
   says line after (New pointer ty) e =
-      let last = or_none _ _ e in to_type pointer ty (or_none (is_pointer a pointer) _ last.0).1 last.1
-  says line after (Free pointer) e = to_base pointer (or_none (is_pointer a pointer) _ e).1
+      let last = or_none _ _ e in to_type pointer ty (or_none (pointer_fault a pointer) _ last.0).1 last.1
+  says line after (Free pointer) e = to_base pointer (or_none (pointer_fault a pointer) _ e).1
   says line after (Getn number pointer index) e = before_number pointer index (or_none _ _ e).1
   says line after (Setn pointer index number) e = before_number pointer index (or_none _ _ e).1
   says line after (Getp loaded pointer index) e = before_one pointer index loaded (or_none _ _ e).1

@@ -5,7 +5,7 @@ use Rattle.std.proofs.lemmas.List.{length-append}
 use Rattle.mk_script.specs.declared.items.Item.{Item}
 use Rattle.mk_script.specs.declared.items.Item.TheVariants.{Script, Repeat, If, Else, End}
 use Rattle.mk_script.proofs.ClosedBlocks.{Closes, program_closes}
-use Rattle.mk_check.specs.Blocks.{Blocks, Done, Line, Rounds, Choice, Part, branch, with_line, with_repeat, with_if, with_else, no_lines, parts_from, outermost, before_next_script, script_from, script_of}
+use Rattle.mk_check.specs.Blocks.{Blocks, Done, Line, Rounds, Choice, Part, branch, with_line, with_repeat, with_if, with_else, no_lines, parts_from, outermost_blocks, before_next_script, script_from, script_of}
 use Rattle.mk_check.specs.WrittenBlocks.{is_plain, IsSecondBranch, AreWritten, ScriptsAreTheirLines}
 
 -- what stands behind the `else` of a part, which may be one that has none
@@ -173,7 +173,7 @@ stands line [] (Script name ∷ items) h =
 stands line (block ∷ blocks) (Script name ∷ items) h = absurd h
 stands line blocks (item ∷ items) h = plain_stands line item blocks (parts_from (line + 1) items) items refl (stands (line + 1) blocks items h)
 
-outermost_written : (line : ℕ) (parts : List Part) (items : List Item) → Stands line [] parts items → AreWritten line (outermost parts) items
+outermost_written : (line : ℕ) (parts : List Part) (items : List Item) → Stands line [] parts items → AreWritten line (outermost_blocks parts) items
 outermost_written line [] items h = absurd h
 outermost_written line (part ∷ []) items (none, written) = written
 outermost_written line (part ∷ next ∷ parts) items h = absurd h

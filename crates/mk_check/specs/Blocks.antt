@@ -87,13 +87,13 @@ abbrev pub parts_from : ℕ → List Item → List Part
 parts_from line [] = no_lines ∷ []
 parts_from line (item ∷ items) = with_item line item (parts_from (line + 1) items)
 
-abbrev pub outermost : List Part → Blocks
-outermost [] = Done
-outermost (part ∷ parts) = part.blocks
+abbrev pub outermost_blocks : List Part → Blocks
+outermost_blocks [] = Done
+outermost_blocks (part ∷ parts) = part.blocks
 
 -- the blocks of a script's items, the first of which stands at this line
 abbrev pub blocks_from : ℕ → List Item → Blocks
-blocks_from line items = outermost (parts_from line items)
+blocks_from line items = outermost_blocks (parts_from line items)
 
 -- A script: its name, and its items, the first of which stands at this line.
 pub record ScriptText : Type 0 where

@@ -69,10 +69,10 @@ abbrev pub with_part : Built → ℕ → ℕ → Built
 with_part b steps second = record b { parts = b.parts ++ record { steps = steps; second = second } ∷ [] }
 
 -- one more node, which begins a part
-abbrev pub grown : Built → Node → ℕ → Built
-grown b n second = with_part (record b { nodes = b.nodes ++ n ∷ [] }) (length b.nodes) second
+abbrev pub with_node_and_part : Built → Node → ℕ → Built
+with_node_and_part b n second = with_part (record b { nodes = b.nodes ++ n ∷ [] }) (length b.nodes) second
 
 -- the new nodes and parts have the line before those that were there
-pub record Adds (line : ℕ) (e : Element) (old new : Built) : Type 0 where
+pub record AddsLine (line : ℕ) (e : Element) (old new : Built) : Type 0 where
   pub sound : IsSound new
   pub parts : parts_in new ≡ with_element line e (parts_in old)

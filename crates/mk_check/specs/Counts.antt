@@ -9,13 +9,16 @@ use Rattle.mk_check.specs.declared.lengths.PartCount.{PartCount}
 use Rattle.mk_check.specs.Blocks.{Part, branch}
 use Rattle.mk_check.specs.Lengths.{length_of}
 
-abbrev pub saturated : ℕ → ℕ
-saturated n = min n (2 ^ 64 - 1)
+abbrev pub saturated_count : ℕ → ℕ
+saturated_count n = min n (2 ^ 64 - 1)
 
 -- the counts of a part's lines and of its second branch
 abbrev pub count_of : Part → PartCount
 count_of part =
-    record { lines = saturated (length_of part.blocks); second = saturated (length_of (branch part.second)) }
+    record {
+      lines = saturated_count (length_of part.blocks);
+      second = saturated_count (length_of (branch part.second));
+    }
 
 abbrev pub counts_of : List Part → List PartCount
 counts_of parts = map count_of parts
@@ -23,13 +26,13 @@ counts_of parts = map count_of parts
 abbrev pub no_count : PartCount
 no_count = record { lines = 0; second = 0 }
 
-abbrev pub innermost : List PartCount → PartCount
-innermost [] = no_count
-innermost (count ∷ counts) = count
+abbrev pub innermost_count : List PartCount → PartCount
+innermost_count [] = no_count
+innermost_count (count ∷ counts) = count
 
-abbrev pub outer : List PartCount → List PartCount
-outer [] = []
-outer (count ∷ counts) = counts
+abbrev pub outer_counts : List PartCount → List PartCount
+outer_counts [] = []
+outer_counts (count ∷ counts) = counts
 
 -- the innermost part's counts changed so
 abbrev pub with_innermost : (PartCount → PartCount) → List PartCount → List PartCount
@@ -38,7 +41,7 @@ with_innermost f (count ∷ counts) = f count ∷ counts
 
 -- as many instructions before the innermost part
 abbrev pub with_count : ℕ → List PartCount → List PartCount
-with_count n counts = with_innermost (λ count. record count { lines = saturated (count.lines + n) }) counts
+with_count n counts = with_innermost (λ count. record count { lines = saturated_count (count.lines + n) }) counts
 
 -- the innermost part was a second branch
 abbrev pub with_second : List PartCount → List PartCount
@@ -46,15 +49,15 @@ with_second counts = with_innermost (λ count. record { lines = 0; second = coun
 
 -- what an `if` of these branches counts, and a `repeat` of this body
 abbrev pub if_count : PartCount → ℕ
-if_count branches = saturated (1 + max branches.lines branches.second)
+if_count branches = saturated_count (1 + max branches.lines branches.second)
 
 abbrev pub repeat_count : ℕ → PartCount → ℕ
-repeat_count rounds body = saturated (1 + rounds * (1 + body.lines))
+repeat_count rounds body = saturated_count (1 + rounds * (1 + body.lines))
 
 -- the counts with an item before them
 abbrev pub counts_with : Item → List PartCount → List PartCount
-counts_with (Repeat rounds) counts = with_count (repeat_count rounds (innermost counts)) (outer counts)
-counts_with (If number) counts = with_count (if_count (innermost counts)) (outer counts)
+counts_with (Repeat rounds) counts = with_count (repeat_count rounds (innermost_count counts)) (outer_counts counts)
+counts_with (If number) counts = with_count (if_count (innermost_count counts)) (outer_counts counts)
 counts_with Else counts = with_second counts
 counts_with End counts = no_count ∷ counts
 counts_with item counts = if is_instruction item then with_count 1 counts else counts

@@ -1,5 +1,6 @@
 -- A script fed with answers: the operations that it asks for, and its text.
-use Rattle.std.specs.Prelude.{ℕ, zero, suc, ◌+◌, ◌-◌, ◌%◌, ◌^◌, Bool, false, List, [], ◌∷◌, ◌++◌, length, replicate, slice_index, slice_set, ◌==◌, if◌then◌else◌, Option, Some, None, is_some}
+use Rattle.std.specs.Prelude.{ℕ, zero, suc, ◌+◌, ◌-◌, ◌%◌, ◌^◌, Bool, true, false, List, [], ◌∷◌, ◌++◌, length, replicate}
+use Rattle.std.specs.Prelude.{slice_index, slice_set, ◌==◌, if◌then◌else◌, Option, Some, None, is_some}
 use Rattle.std.specs.Fmt.{decimal}
 use lib.Chars.{codes}
 use Rattle.mk_never.specs.declared.operations.Op.{Op}
@@ -8,10 +9,14 @@ use Rattle.mk_core.specs.declared.events.Answer.{Answer}
 use Rattle.mk_core.specs.declared.events.Answer.TheVariants as answer
 use Rattle.mk_core.specs.Decided.{flagged}
 use Rattle.mk_script.specs.declared.items.Item.{Item}
-use Rattle.mk_script.specs.declared.items.Item.TheVariants.{Heap, TypeLine, Global, Script, Ptr, Num, New, Free, Getn, Setn, Getp, Setp, Casp, Lea, Move, Clear, Loadg, Storeg, Same, Isnull, Show, Const, Add, Sub, Print, Repeat, If, Else, End}
+use Rattle.mk_script.specs.declared.items.Item.TheVariants.{Heap, TypeLine, Global, Script, Ptr, Num, New, Free, Getn}
+use Rattle.mk_script.specs.declared.items.Item.TheVariants.{Setn, Getp, Setp, Casp, Lea, Move, Clear, Loadg, Storeg}
+use Rattle.mk_script.specs.declared.items.Item.TheVariants.{Same, Isnull, Show, Const, Add, Sub, Print, Repeat, If}
+use Rattle.mk_script.specs.declared.items.Item.TheVariants.{Else, End}
 use Rattle.mk_script.specs.Scopes.{type_names, global_names, pointer_names, number_names}
 use Rattle.mk_check.specs.Declarations.{place_of}
-use Rattle.mk_check.specs.Blocks.{Blocks, Done, Line, Rounds, Choice, followed_by, is_done, blocks_from, ScriptText, script_of}
+use Rattle.mk_check.specs.Blocks.{Blocks, Done, Line, Rounds, Choice, followed_by, is_done, blocks_from, ScriptText}
+use Rattle.mk_check.specs.Blocks.{script_of}
 
 -- the names that a script may use
 pub record Scope : Type 0 where
@@ -119,27 +124,37 @@ refusal_text answer.Fault = codes "fault"
 refusal_text answer.Null = codes "null"
 refusal_text answer.Double = codes "double"
 
+-- whether it refuses it
+abbrev pub is_refusal : Answer → Bool
+is_refusal answer.Done = false
+is_refusal (answer.Num n) = false
+is_refusal (answer.Word w) = false
+is_refusal answer.Full = true
+is_refusal answer.Fault = true
+is_refusal answer.Null = true
+is_refusal answer.Double = true
+
 abbrev pub refusal_line : ℕ → List ℕ → List ℕ
 refusal_line line [] = []
 refusal_line line (byte ∷ bytes) = decimal line ++ (codes ": " ++ (byte ∷ bytes ++ newline))
 
 -- the number that is answered, and 0 where there is none
-abbrev pub number_of : Answer → ℕ
-number_of (answer.Num n) = n
-number_of a = 0
+abbrev pub answered_number : Answer → ℕ
+answered_number (answer.Num n) = n
+answered_number a = 0
 
 -- what `show` prints of a register that is null, or isn't
-abbrev pub shown : ℕ → List ℕ
-shown zero = codes "ptr\n"
-shown (suc n) = codes "null\n"
+abbrev pub show_text : ℕ → List ℕ
+show_text zero = codes "ptr\n"
+show_text (suc n) = codes "null\n"
 
 -- the instruction takes its answer
 abbrev pub with_answer : Scope → Fed → Item → Answer → Fed
-with_answer scope fed (Getn number pointer index) a = with_number scope fed number (number_of a)
-with_answer scope fed (Casp number pointer index expected stored) a = with_number scope fed number (number_of a)
-with_answer scope fed (Same number first second) a = with_number scope fed number (number_of a)
-with_answer scope fed (Isnull number pointer) a = with_number scope fed number (number_of a)
-with_answer scope fed (Show pointer) a = record fed { text = fed.text ++ shown (number_of a) }
+with_answer scope fed (Getn number pointer index) a = with_number scope fed number (answered_number a)
+with_answer scope fed (Casp number pointer index expected stored) a = with_number scope fed number (answered_number a)
+with_answer scope fed (Same number first second) a = with_number scope fed number (answered_number a)
+with_answer scope fed (Isnull number pointer) a = with_number scope fed number (answered_number a)
+with_answer scope fed (Show pointer) a = record fed { text = fed.text ++ show_text (answered_number a) }
 with_answer scope fed item a = fed
 
 abbrev pub note : Fed → Option Op → ℕ → Answer → Fed
@@ -167,8 +182,8 @@ scope_of program script = record {
 }
 
 -- a script before its first line: all number registers are 0, and its name is printed
-abbrev pub begun : Scope → ScriptText → Fed
-begun scope script =
+abbrev pub fed_before_lines : Scope → ScriptText → Fed
+fed_before_lines scope script =
     record {
       left = Done;
       numbers = replicate (length scope.numbers) 0;
@@ -177,11 +192,11 @@ begun scope script =
     }
 
 -- a script that has run to its first operation
-abbrev pub started : Scope → ScriptText → Fed
-started scope script = run scope (blocks_from script.line script.items) (begun scope script)
+abbrev pub fed_before_answers : Scope → ScriptText → Fed
+fed_before_answers scope script = run scope (blocks_from script.line script.items) (fed_before_lines scope script)
 
 abbrev pub feed_script : Scope → ScriptText → List Answer → Fed
-feed_script scope script answers = take_answers scope (started scope script) answers
+feed_script scope script answers = take_answers scope (fed_before_answers scope script) answers
 
 -- Script k of a program, fed with answers: it stops before the first operation that has no answer left.
 abbrev pub feed : List Item → ℕ → List Answer → Fed

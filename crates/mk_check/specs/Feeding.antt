@@ -7,7 +7,7 @@ use Rattle.mk_check.specs.declared.feeding.tree.Node.{Node}
 use Rattle.mk_check.specs.declared.feeding.tree.Node.TheVariants as node
 use Rattle.mk_check.specs.Blocks.{Blocks, Done, Line, Rounds, Choice, script_of}
 use Rattle.mk_check.specs.Feed.{Scope, Fed, op_of, scope_of, feed, has_ended}
-use Rattle.mk_check.specs.Steps.{asked, steps_of}
+use Rattle.mk_check.specs.Steps.{op_asked, steps_of}
 use Rattle.mk_check.specs.Trees.{Place, left_in, node_at, IsWithin, StopsAt, work_of}
 
 -- the nodes of a script, and where it is
@@ -23,7 +23,7 @@ pub record IsAtStop (s : FeedState) : Type 0 where
 -- the operation that a node asks for
 abbrev pub op_of_node : List ℕ → Node → Option Op
 op_of_node numbers node.Done = None
-op_of_node numbers (node.Line line instruction next) = asked numbers instruction
+op_of_node numbers (node.Line line instruction next) = op_asked numbers instruction
 op_of_node numbers (node.Rounds rounds body next) = None
 op_of_node numbers (node.Choice number first second next) = None
 

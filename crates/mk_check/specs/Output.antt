@@ -1,5 +1,6 @@
 -- What a program's scripts print of a history: each is fed with the answers of its calls that ended.
-use Rattle.std.specs.Prelude.{◌≡◌, ℕ, Bool, true, false, ◌&&◌, ◌==◌, List, length, map, filter, take, count_by, slice_get, Option}
+use Rattle.std.specs.Prelude.{◌≡◌, ℕ, Bool, true, false, ◌&&◌, ◌==◌, List, length, map, filter, take, count_by}
+use Rattle.std.specs.Prelude.{slice_get, Option}
 use Rattle.std.specs.List.{flat_map, range_with_len}
 use Rattle.mk_core.specs.declared.config.Config.{Config}
 use Rattle.mk_core.specs.declared.events.Seat.TheVariants.{Caller}

@@ -1,7 +1,8 @@
 -- A script with numbers for its names, and what it does. It is the script of the definitions in Feed, with less to
 -- look up.
 -- Private functions cite these words, and public clauses only by what a `Feed` stands for.
-use Rattle.std.specs.Prelude.{ℕ, zero, suc, ◌+◌, ◌-◌, ◌%◌, ◌^◌, Bool, true, false, List, ◌++◌, slice_index, slice_set, ◌==◌, if◌then◌else◌, Option, Some, None, is_some, unwrap_or}
+use Rattle.std.specs.Prelude.{ℕ, zero, suc, ◌+◌, ◌-◌, ◌%◌, ◌^◌, Bool, true, false, List, ◌++◌, slice_index, slice_set}
+use Rattle.std.specs.Prelude.{◌==◌, if◌then◌else◌, Option, Some, None, is_some, unwrap_or}
 use Rattle.std.specs.Option.{option_or}
 use Rattle.std.specs.Fmt.{decimal}
 use Rattle.mk_never.specs.declared.operations.Op.{Op}
@@ -10,13 +11,14 @@ use Rattle.mk_core.specs.declared.events.Answer.{Answer}
 use Rattle.mk_script.specs.declared.items.Item.{Item}
 use Rattle.mk_script.specs.declared.items.Item.TheVariants as item
 use Rattle.mk_check.specs.declared.feeding.instructions.Instruction.{Instruction}
-use Rattle.mk_check.specs.declared.feeding.instructions.Instruction.TheVariants.{Nothing, Const, Add, Sub, Print, Ask, Store, Load, Show}
+use Rattle.mk_check.specs.declared.feeding.instructions.Instruction.TheVariants.{Nothing, Const, Add, Sub, Print, Ask}
+use Rattle.mk_check.specs.declared.feeding.instructions.Instruction.TheVariants.{Store, Load, Show}
 use Rattle.mk_check.specs.declared.feeding.instructions.Element.{Element}
 use Rattle.mk_check.specs.declared.feeding.instructions.Element.TheVariants as element
 use Rattle.mk_check.specs.Declarations.{place_of}
 use Rattle.mk_check.specs.Blocks.{Blocks}
 use Rattle.mk_check.specs.Blocks as blocks
-use Rattle.mk_check.specs.Feed.{Scope, pointer_place, newline, refusal_line, refusal_text, number_of, shown}
+use Rattle.mk_check.specs.Feed.{Scope, pointer_place, newline, refusal_line, refusal_text, answered_number, show_text}
 
 -- Lines to run, as Blocks has them.
 pub data Steps : Type 0 where
@@ -132,16 +134,16 @@ pub record Stopped : Type 0 where
   pub kept : Kept
 
 -- the operation that an instruction asks for
-abbrev pub asked : List ℕ → Instruction → Option Op
-asked numbers Nothing = None
-asked numbers (Const number value) = None
-asked numbers (Add number left right) = None
-asked numbers (Sub number left right) = None
-asked numbers (Print number) = None
-asked numbers (Ask o) = Some o
-asked numbers (Store q i number) = Some (op.SetNum q i (slice_index numbers number))
-asked numbers (Load number o) = Some o
-asked numbers (Show p) = Some (op.IsNull p)
+abbrev pub op_asked : List ℕ → Instruction → Option Op
+op_asked numbers Nothing = None
+op_asked numbers (Const number value) = None
+op_asked numbers (Add number left right) = None
+op_asked numbers (Sub number left right) = None
+op_asked numbers (Print number) = None
+op_asked numbers (Ask o) = Some o
+op_asked numbers (Store q i number) = Some (op.SetNum q i (slice_index numbers number))
+op_asked numbers (Load number o) = Some o
+op_asked numbers (Show p) = Some (op.IsNull p)
 
 abbrev pub with_value : Kept → ℕ → ℕ → Kept
 with_value kept number value = record kept { numbers = slice_set kept.numbers number value }
@@ -164,42 +166,44 @@ after_line (Load number o) kept = kept
 after_line (Show p) kept = kept
 
 -- what runs behind a part that may have stopped at an operation
-abbrev pub then_ran : Stopped → (Kept → Stopped) → Steps → Stopped
-then_ran stopped go rest =
+abbrev pub stop_behind : Stopped → (Kept → Stopped) → Steps → Stopped
+stop_behind stopped go rest =
     if none_left stopped.left then go stopped.kept else record stopped { left = then_steps stopped.left rest }
 
 -- rounds of a body
-abbrev pub ran_rounds : ℕ → Steps → (Kept → Stopped) → Kept → Stopped
-ran_rounds zero body go kept = record { left = Done; kept = kept }
-ran_rounds (suc more) body go kept = then_ran (go kept) (ran_rounds more body go) (Rounds more body Done)
+abbrev pub stop_of_rounds : ℕ → Steps → (Kept → Stopped) → Kept → Stopped
+stop_of_rounds zero body go kept = record { left = Done; kept = kept }
+stop_of_rounds (suc more) body go kept = stop_behind (go kept) (stop_of_rounds more body go) (Rounds more body Done)
 
 -- where the steps stop: at the first operation, or at their end
-abbrev pub ran : Steps → Kept → Stopped
-ran Done kept = record { left = Done; kept = kept }
-ran (Line line instruction rest) kept =
-    if is_some (asked kept.numbers instruction)
+abbrev pub stop_of : Steps → Kept → Stopped
+stop_of Done kept = record { left = Done; kept = kept }
+stop_of (Line line instruction rest) kept =
+    if is_some (op_asked kept.numbers instruction)
     then record { left = Line line instruction rest; kept = kept }
-    else ran rest (after_line instruction kept)
-ran (Rounds rounds body rest) kept = then_ran (ran_rounds rounds body (ran body) kept) (ran rest) rest
-ran (Choice number first second rest) kept =
-    then_ran (if slice_index kept.numbers number == 0 then ran second kept else ran first kept) (ran rest) rest
+    else stop_of rest (after_line instruction kept)
+stop_of (Rounds rounds body rest) kept =
+    stop_behind (stop_of_rounds rounds body (stop_of body) kept) (stop_of rest) rest
+stop_of (Choice number first second rest) kept =
+    stop_behind (if slice_index kept.numbers number == 0 then stop_of second kept else stop_of first kept)
+    (stop_of rest) rest
 
 -- the instruction takes its answer
-abbrev pub answered : Instruction → Answer → Kept → Kept
-answered Nothing a kept = kept
-answered (Const number value) a kept = kept
-answered (Add number left right) a kept = kept
-answered (Sub number left right) a kept = kept
-answered (Print number) a kept = kept
-answered (Ask o) a kept = kept
-answered (Store q i number) a kept = kept
-answered (Load number o) a kept = with_value kept number (number_of a)
-answered (Show p) a kept = with_text kept (shown (number_of a))
+abbrev pub after_answer : Instruction → Answer → Kept → Kept
+after_answer Nothing a kept = kept
+after_answer (Const number value) a kept = kept
+after_answer (Add number left right) a kept = kept
+after_answer (Sub number left right) a kept = kept
+after_answer (Print number) a kept = kept
+after_answer (Ask o) a kept = kept
+after_answer (Store q i number) a kept = kept
+after_answer (Load number o) a kept = with_value kept number (answered_number a)
+after_answer (Show p) a kept = with_text kept (show_text (answered_number a))
 
 -- where the steps stop that begin with an instruction which is answered
-abbrev pub ran_on : Steps → Answer → Kept → Stopped
-ran_on Done a kept = record { left = Done; kept = kept }
-ran_on (Line line instruction rest) a kept =
-    ran rest (answered instruction a (with_text kept (refusal_line line (refusal_text a))))
-ran_on (Rounds rounds body rest) a kept = record { left = Rounds rounds body rest; kept = kept }
-ran_on (Choice number first second rest) a kept = record { left = Choice number first second rest; kept = kept }
+abbrev pub stop_on_answer : Steps → Answer → Kept → Stopped
+stop_on_answer Done a kept = record { left = Done; kept = kept }
+stop_on_answer (Line line instruction rest) a kept =
+    stop_of rest (after_answer instruction a (with_text kept (refusal_line line (refusal_text a))))
+stop_on_answer (Rounds rounds body rest) a kept = record { left = Rounds rounds body rest; kept = kept }
+stop_on_answer (Choice number first second rest) a kept = record { left = Choice number first second rest; kept = kept }

@@ -1,11 +1,12 @@
 -- What the nodes of a tree stand for, and where a script is in it.
 -- Private functions cite these words, and public clauses only by what a `Feed` stands for.
-use Rattle.std.specs.Prelude.{◌≡◌, ℕ, zero, suc, ◌+◌, ◌*◌, ◌<◌, ◌++◌, ◌==◌, max, true, List, [], ◌∷◌, length, fold, slice_index, slice_index_or, if◌then◌else◌, is_some}
+use Rattle.std.specs.Prelude.{◌≡◌, ℕ, zero, suc, ◌+◌, ◌*◌, ◌<◌, ◌++◌, ◌==◌, max, true, List, [], ◌∷◌, length, fold}
+use Rattle.std.specs.Prelude.{slice_index, slice_index_or, if◌then◌else◌, is_some}
 use Rattle.mk_check.specs.declared.feeding.tree.Node.{Node}
 use Rattle.mk_check.specs.declared.feeding.tree.Node.TheVariants as node
 use Rattle.mk_check.specs.declared.feeding.tree.Frame.{Frame}
 use Rattle.mk_check.specs.declared.feeding.tree.Frame.TheVariants as frame
-use Rattle.mk_check.specs.Steps.{Steps, Done, Line, Rounds, Choice, then_steps, Kept, Stopped, asked, ran}
+use Rattle.mk_check.specs.Steps.{Steps, Done, Line, Rounds, Choice, then_steps, Kept, Stopped, op_asked, stop_of}
 
 -- the steps from a node; from one that isn't there, none
 abbrev pub steps_at : List Steps → ℕ → Steps
@@ -87,23 +88,23 @@ pub record IsWithin (count : ℕ) (p : Place) : Type 0 where
 -- the script stops at the node: at an operation, or at its end
 abbrev pub StopsAt : Node → Place → Type 0
 StopsAt node.Done p = p.frames ≡ []
-StopsAt (node.Line line instruction next) p = is_some (asked p.numbers instruction) ≡ true
+StopsAt (node.Line line instruction next) p = is_some (op_asked p.numbers instruction) ≡ true
 StopsAt (node.Rounds rounds body next) p = ⊥
 StopsAt (node.Choice number first second next) p = ⊥
 
 -- a `repeat` begins, or goes on, with so many rounds left
-abbrev pub entered : Place → ℕ → ℕ → ℕ → Place
-entered p zero body next = record p { at = next }
-entered p (suc more) body next = record p { at = body; frames = p.frames ++ frame.Rounds more body next ∷ [] }
+abbrev pub place_in_rounds : Place → ℕ → ℕ → ℕ → Place
+place_in_rounds p zero body next = record p { at = next }
+place_in_rounds p (suc more) body next = record p { at = body; frames = p.frames ++ frame.Rounds more body next ∷ [] }
 
 -- an open block ends, which is no longer among the frames
-abbrev pub left_block : Place → Frame → Place
-left_block p (frame.Rounds rounds body next) = entered p rounds body next
-left_block p (frame.Branch next) = record p { at = next }
+abbrev pub place_behind_block : Place → Frame → Place
+place_behind_block p (frame.Rounds rounds body next) = place_in_rounds p rounds body next
+place_behind_block p (frame.Branch next) = record p { at = next }
 
 -- an `if` begins
-abbrev pub branched : Place → ℕ → ℕ → ℕ → ℕ → Place
-branched p number first second next =
+abbrev pub place_in_branch : Place → ℕ → ℕ → ℕ → ℕ → Place
+place_in_branch p number first second next =
     record p
     { at = if slice_index p.numbers number == 0 then second else first; frames = p.frames ++ frame.Branch next ∷ [] }
 
@@ -112,7 +113,7 @@ pub record LeavesBlock (old new : Place) : Type 0 where
   pub frame : Frame
   pub frames : List Frame
   pub was : old.frames ≡ frames ++ frame ∷ []
-  pub is : new ≡ left_block (record old { frames = frames }) frame
+  pub is : new ≡ place_behind_block (record old { frames = frames }) frame
 
 -- no fewer than the moves that are left
 abbrev pub work_of : Steps → ℕ
@@ -125,13 +126,13 @@ abbrev pub work_in : List Node → Place → ℕ
 work_in nodes p = 2 * work_of (left_in nodes p) + length p.frames
 
 -- The place moves on, and stops where it would have stopped.
-pub record GoesOn (nodes : List Node) (old new : Place) : Type 0 where
+pub record MovesOn (nodes : List Node) (old new : Place) : Type 0 where
   pub within : IsWithin (length nodes) new
-  pub run : ran (left_in nodes new) (kept_in new) ≡ ran (left_in nodes old) (kept_in old)
+  pub run : stop_of (left_in nodes new) (kept_in new) ≡ stop_of (left_in nodes old) (kept_in old)
   pub nearer : work_in nodes new < work_in nodes old
 
 -- The place is where the steps stop.
 pub record HasStopped (nodes : List Node) (old new : Place) : Type 0 where
   pub within : IsWithin (length nodes) new
   pub at : StopsAt (node_at nodes new.at) new
-  pub run : stopped_in nodes new ≡ ran (left_in nodes old) (kept_in old)
+  pub run : stopped_in nodes new ≡ stop_of (left_in nodes old) (kept_in old)

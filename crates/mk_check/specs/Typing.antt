@@ -1,5 +1,6 @@
 -- Which programs are well typed, line by line.
-use Rattle.std.specs.Prelude.{◌≡◌, ⊤, ℕ, ◌+◌, ◌-◌, ◌^◌, min, Bool, true, false, ◌&&◌, ◌==◌, nat_le, if◌then◌else◌, List, [], ◌∷◌, ◌++◌, Option, Some, None, is_some, option_map, slice_get}
+use Rattle.std.specs.Prelude.{◌≡◌, ⊤, ℕ, ◌+◌, ◌-◌, ◌^◌, min, Bool, true, false, ◌&&◌, ◌==◌, nat_le, if◌then◌else◌, List}
+use Rattle.std.specs.Prelude.{[], ◌∷◌, ◌++◌, Option, Some, None, is_some, option_map, slice_get}
 use Rattle.std.specs.List.{list_any}
 use Rattle.std.specs.Option.{option_or}
 use Rattle.std.specs.Str.{bytes_eq}
@@ -7,7 +8,10 @@ use Rattle.mk_script.specs.declared.items.At.{At}
 use Rattle.mk_script.specs.declared.items.TypeWord.{TypeWord}
 use Rattle.mk_script.specs.declared.items.TypeWord.TheVariants.{Number, Pointer}
 use Rattle.mk_script.specs.declared.items.Item.{Item}
-use Rattle.mk_script.specs.declared.items.Item.TheVariants.{Heap, TypeLine, Global, Script, Ptr, Num, New, Free, Getn, Setn, Getp, Setp, Casp, Lea, Move, Clear, Loadg, Storeg, Same, Isnull, Show, Const, Add, Sub, Print, Repeat, If, Else, End}
+use Rattle.mk_script.specs.declared.items.Item.TheVariants.{Heap, TypeLine, Global, Script, Ptr, Num, New, Free, Getn}
+use Rattle.mk_script.specs.declared.items.Item.TheVariants.{Setn, Getp, Setp, Casp, Lea, Move, Clear, Loadg, Storeg}
+use Rattle.mk_script.specs.declared.items.Item.TheVariants.{Same, Isnull, Show, Const, Add, Sub, Print, Repeat, If}
+use Rattle.mk_script.specs.declared.items.Item.TheVariants.{Else, End}
 use Rattle.mk_script.specs.Scopes.{this_script, number_names}
 use Rattle.mk_check.specs.declared.typing_faults.TypeKind.{TypeKind}
 use Rattle.mk_check.specs.declared.typing_faults.TypeKind.TheVariants as kind
@@ -49,17 +53,17 @@ abbrev pub unless : Bool → TypeKind → Option TypeKind
 unless true k = None
 unless false k = Some k
 
-abbrev pub is_type : Around → List ℕ → Option TypeKind
-is_type a name = unless (is_some (type_words name a.program)) kind.NoType
+abbrev pub type_fault : Around → List ℕ → Option TypeKind
+type_fault a name = unless (is_some (type_words name a.program)) kind.NoType
 
-abbrev pub is_global : Around → List ℕ → Option TypeKind
-is_global a name = unless (is_some (global_type name a.program)) kind.NoGlobal
+abbrev pub global_fault : Around → List ℕ → Option TypeKind
+global_fault a name = unless (is_some (global_type name a.program)) kind.NoGlobal
 
-abbrev pub is_pointer : Around → List ℕ → Option TypeKind
-is_pointer a name = unless (is_some (pointer_at name a.script)) kind.NoRegister
+abbrev pub pointer_fault : Around → List ℕ → Option TypeKind
+pointer_fault a name = unless (is_some (pointer_at name a.script)) kind.NoRegister
 
-abbrev pub is_number : Around → List ℕ → Option TypeKind
-is_number a name = unless (list_any (bytes_eq name) (number_names a.script)) kind.NoRegister
+abbrev pub number_fault : Around → List ℕ → Option TypeKind
+number_fault a name = unless (list_any (bytes_eq name) (number_names a.script)) kind.NoRegister
 
 abbrev pub same_at : Option At → Option At → Bool
 same_at (Some s) (Some t) = bytes_eq s.name t.name && (s.offset == t.offset)
@@ -81,17 +85,17 @@ abbrev pub word_at : Around → Option At → Option TypeWord
 word_at a None = None
 word_at a (Some at) = word_among (type_words at.name a.program) at.offset
 
-abbrev pub is_inside : Around → Option At → Option TypeKind
-is_inside a place = unless (is_some (word_at a place)) kind.Offset
+abbrev pub inside_fault : Around → Option At → Option TypeKind
+inside_fault a place = unless (is_some (word_at a place)) kind.Offset
 
 abbrev pub is_number_word : Option TypeWord → Bool
 is_number_word (Some Number) = true
 is_number_word word = false
 
 -- where a pointer word points
-abbrev pub word_points : Option TypeWord → Option At
-word_points (Some (Pointer at)) = Some at
-word_points word = None
+abbrev pub pointed_place : Option TypeWord → Option At
+pointed_place (Some (Pointer at)) = Some at
+pointed_place word = None
 
 -- a type's first word
 abbrev pub base_of : List ℕ → At
@@ -102,84 +106,87 @@ is_base (Some at) = at.offset == 0
 is_base None = false
 
 -- the pointer words of a type: all names first, and then all offsets
-abbrev pub pointers_have_types : Around → List TypeWord → Option TypeKind
-pointers_have_types a [] = None
-pointers_have_types a (Number ∷ words) = pointers_have_types a words
-pointers_have_types a (Pointer at ∷ words) = is_type a at.name or pointers_have_types a words
+abbrev pub pointers_fault : Around → List TypeWord → Option TypeKind
+pointers_fault a [] = None
+pointers_fault a (Number ∷ words) = pointers_fault a words
+pointers_fault a (Pointer at ∷ words) = type_fault a at.name or pointers_fault a words
 
-abbrev pub pointers_are_inside : Around → List TypeWord → Option TypeKind
-pointers_are_inside a [] = None
-pointers_are_inside a (Number ∷ words) = pointers_are_inside a words
-pointers_are_inside a (Pointer at ∷ words) = is_inside a (Some at) or pointers_are_inside a words
+abbrev pub offsets_fault : Around → List TypeWord → Option TypeKind
+offsets_fault a [] = None
+offsets_fault a (Number ∷ words) = offsets_fault a words
+offsets_fault a (Pointer at ∷ words) = inside_fault a (Some at) or offsets_fault a words
 
 -- a script's length
-abbrev pub is_short : ℕ → Option TypeKind
-is_short count = unless (nat_le count 1000000) (kind.TooLong (min count (2 ^ 64 - 1)))
+abbrev pub length_fault : ℕ → Option TypeKind
+length_fault count = unless (nat_le count 1000000) (kind.TooLong (min count (2 ^ 64 - 1)))
 
 abbrev pub global_at : Around → List ℕ → Option At
 global_at a name = option_map base_of (global_type name a.program)
 
-abbrev pub same_kind : Option At → Option At → Option TypeKind
-same_kind s t = unless (same_at s t) kind.Kind
+abbrev pub kind_fault : Option At → Option At → Option TypeKind
+kind_fault s t = unless (same_at s t) kind.Kind
 
 -- a word behind a register holds a number, or points to where another register does
-abbrev pub holds_number : Around → List ℕ → ℕ → Option TypeKind
-holds_number a pointer index = unless (is_number_word (word_at a (place_behind a pointer index))) kind.Kind
+abbrev pub number_word_fault : Around → List ℕ → ℕ → Option TypeKind
+number_word_fault a pointer index = unless (is_number_word (word_at a (place_behind a pointer index))) kind.Kind
 
-abbrev pub points_as : Around → List ℕ → ℕ → List ℕ → Option TypeKind
-points_as a pointer index register =
-    same_kind (word_points (word_at a (place_behind a pointer index))) (pointer_at register a.script)
+abbrev pub pointer_word_fault : Around → List ℕ → ℕ → List ℕ → Option TypeKind
+pointer_word_fault a pointer index register =
+    kind_fault (pointed_place (word_at a (place_behind a pointer index))) (pointer_at register a.script)
 
 -- What is wrong with a line that stands behind these of its script, and before those behind it: the names from left to
 -- right, then offsets, then kinds, then an interior pointer that is freed.
 abbrev pub typing_fault : Around → ℕ → List Item → Item → Option TypeKind
 typing_fault a line behind (Heap pages resident) = None
-typing_fault a line behind (TypeLine name words) = pointers_have_types a words or pointers_are_inside a words
-typing_fault a line behind (Global name ty) = is_type a ty
+typing_fault a line behind (TypeLine name words) = pointers_fault a words or offsets_fault a words
+typing_fault a line behind (Global name ty) = type_fault a ty
 typing_fault a line behind (Script name) =
-    is_short (script_length (record { name = name; line = line + 1; items = before_next_script behind }))
-typing_fault a line behind (Ptr name at) = is_type a at.name or is_inside a (Some at)
+    length_fault (script_length (record { name = name; line = line + 1; items = before_next_script behind }))
+typing_fault a line behind (Ptr name at) = type_fault a at.name or inside_fault a (Some at)
 typing_fault a line behind (Num name) = None
 typing_fault a line behind (New pointer ty) =
-    is_pointer a pointer or is_type a ty or same_kind (pointer_at pointer a.script) (Some (base_of ty))
+    pointer_fault a pointer or type_fault a ty or kind_fault (pointer_at pointer a.script) (Some (base_of ty))
 typing_fault a line behind (Free pointer) =
-    is_pointer a pointer or unless (is_base (pointer_at pointer a.script)) kind.InteriorFree
+    pointer_fault a pointer or unless (is_base (pointer_at pointer a.script)) kind.InteriorFree
 typing_fault a line behind (Getn number pointer index) =
-    is_number a number or is_pointer a pointer or is_inside a (place_behind a pointer index)
-    or holds_number a pointer index
+    number_fault a number or pointer_fault a pointer or inside_fault a (place_behind a pointer index)
+    or number_word_fault a pointer index
 typing_fault a line behind (Setn pointer index number) =
-    is_pointer a pointer or is_number a number or is_inside a (place_behind a pointer index)
-    or holds_number a pointer index
+    pointer_fault a pointer or number_fault a number or inside_fault a (place_behind a pointer index)
+    or number_word_fault a pointer index
 typing_fault a line behind (Getp loaded pointer index) =
-    is_pointer a loaded or is_pointer a pointer or is_inside a (place_behind a pointer index)
-    or points_as a pointer index loaded
+    pointer_fault a loaded or pointer_fault a pointer or inside_fault a (place_behind a pointer index)
+    or pointer_word_fault a pointer index loaded
 typing_fault a line behind (Setp pointer index stored) =
-    is_pointer a pointer or is_pointer a stored or is_inside a (place_behind a pointer index)
-    or points_as a pointer index stored
+    pointer_fault a pointer or pointer_fault a stored or inside_fault a (place_behind a pointer index)
+    or pointer_word_fault a pointer index stored
 typing_fault a line behind (Casp number pointer index expected stored) =
-    is_number a number or is_pointer a pointer or is_pointer a expected or is_pointer a stored
-    or is_inside a (place_behind a pointer index) or points_as a pointer index expected
-    or points_as a pointer index stored
+    number_fault a number or pointer_fault a pointer or pointer_fault a expected or pointer_fault a stored
+    or inside_fault a (place_behind a pointer index) or pointer_word_fault a pointer index expected
+    or pointer_word_fault a pointer index stored
 typing_fault a line behind (Lea moved pointer index) =
-    is_pointer a moved or is_pointer a pointer or is_inside a (place_behind a pointer index)
-    or same_kind (pointer_at moved a.script) (place_behind a pointer index)
+    pointer_fault a moved or pointer_fault a pointer or inside_fault a (place_behind a pointer index)
+    or kind_fault (pointer_at moved a.script) (place_behind a pointer index)
 typing_fault a line behind (Move copied pointer) =
-    is_pointer a copied or is_pointer a pointer
-    or same_kind (pointer_at copied a.script) (pointer_at pointer a.script)
-typing_fault a line behind (Clear pointer) = is_pointer a pointer
+    pointer_fault a copied or pointer_fault a pointer
+    or kind_fault (pointer_at copied a.script) (pointer_at pointer a.script)
+typing_fault a line behind (Clear pointer) = pointer_fault a pointer
 typing_fault a line behind (Loadg loaded global) =
-    is_pointer a loaded or is_global a global or same_kind (pointer_at loaded a.script) (global_at a global)
+    pointer_fault a loaded or global_fault a global or kind_fault (pointer_at loaded a.script) (global_at a global)
 typing_fault a line behind (Storeg stored global) =
-    is_pointer a stored or is_global a global or same_kind (pointer_at stored a.script) (global_at a global)
-typing_fault a line behind (Same number first second) = is_number a number or is_pointer a first or is_pointer a second
-typing_fault a line behind (Isnull number pointer) = is_number a number or is_pointer a pointer
-typing_fault a line behind (Show pointer) = is_pointer a pointer
-typing_fault a line behind (Const number value) = is_number a number
-typing_fault a line behind (Add number left right) = is_number a number or is_number a left or is_number a right
-typing_fault a line behind (Sub number left right) = is_number a number or is_number a left or is_number a right
-typing_fault a line behind (Print number) = is_number a number
+    pointer_fault a stored or global_fault a global or kind_fault (pointer_at stored a.script) (global_at a global)
+typing_fault a line behind (Same number first second) =
+    number_fault a number or pointer_fault a first or pointer_fault a second
+typing_fault a line behind (Isnull number pointer) = number_fault a number or pointer_fault a pointer
+typing_fault a line behind (Show pointer) = pointer_fault a pointer
+typing_fault a line behind (Const number value) = number_fault a number
+typing_fault a line behind (Add number left right) =
+    number_fault a number or number_fault a left or number_fault a right
+typing_fault a line behind (Sub number left right) =
+    number_fault a number or number_fault a left or number_fault a right
+typing_fault a line behind (Print number) = number_fault a number
 typing_fault a line behind (Repeat rounds) = None
-typing_fault a line behind (If number) = is_number a number
+typing_fault a line behind (If number) = number_fault a number
 typing_fault a line behind Else = None
 typing_fault a line behind End = None
 

@@ -17,7 +17,8 @@ const MOST_INSTRUCTIONS: u64 = 1_000_000;
 
 /// What is wrong with a line that begins a script, before the lines behind it.
 fn length_fault(alloc: Global, behind: &[Item]) -> Result<Option<TypeKind>, NoMemory>
-    ensures { IfOk result (λ fault. (a : Around) (line : ℕ) (name : List ℕ) → fault ≡ typing_fault a line behind.now (Script name)) }
+    ensures { IfOk result (λ fault. (a : Around) (line : ℕ) (name : List ℕ)
+        → fault ≡ typing_fault a line behind.now (Script name)) }
 {
     let count = script_length(alloc, items_of_script(behind))?;
     Ok(unless(count <= MOST_INSTRUCTIONS, TypeKind::TooLong { count }))

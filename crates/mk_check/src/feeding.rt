@@ -27,6 +27,8 @@ use tree::{Node, Tree};
 pub struct Feed {
     tree: Tree,
     running: Running,
+    /// Runs on in place of the script, so that no memory leaves that as it was.
+    ahead: Running,
 }
 
 impl Model for Feed {
@@ -65,7 +67,11 @@ impl Feed {
         let (tree, at) = tree_of(alloc, &names, lines.line, lines.items)?;
         let mut running = Running::begin(alloc, at, names.numbers(), lines.name)?;
         running.run(alloc, &tree)?;
-        Ok(Feed { tree, running })
+        Ok(Feed {
+            tree,
+            running,
+            ahead: Running::empty(alloc),
+        })
     }
 
     /// The operation that waits for its answer, with `full` false in a `New`; none at the end.
@@ -97,12 +103,11 @@ impl Feed {
         else {
             unreachable!()
         };
-        // A copy runs on, so that no memory leaves the script as it was.
-        let mut later = self.running.copy_at(alloc, next)?;
-        later.print_refusal(alloc, line, answer)?;
-        later.take(instruction, answer)?;
-        later.run(alloc, &self.tree)?;
-        self.running.follow(later)
+        self.ahead.copy_at(&self.running, next)?;
+        self.ahead.print_refusal(alloc, line, answer)?;
+        self.ahead.take(instruction, answer)?;
+        self.ahead.run(alloc, &self.tree)?;
+        self.running.follow(&mut self.ahead)
     }
 
     /// The text so far.

@@ -4,7 +4,8 @@ ghost use Rattle.mk_never.specs.NeverHeap.{Call};
 ghost use Rattle.mk_core.specs.declared.events.Answer.{Answer};
 ghost use Rattle.mk_script.specs.declared.items.Item.{Item};
 ghost use Rattle.mk_script.specs.Scopes.{script_names};
-ghost use Rattle.mk_check.specs.Laws.{IsChecked, IsScript, AreNotedBy, AnswersAreNoted, OthersAreIgnored, AreAdmittedFor, NextIsAdmitted, AreOfScripts};
+ghost use Rattle.mk_check.specs.Laws.{IsChecked, IsScript, AreNotedBy, AnswersAreNoted, OthersAreIgnored};
+ghost use Rattle.mk_check.specs.Laws.{AreAdmittedFor, NextIsAdmitted, AreOfScripts};
 ghost use Rattle.mk_check.specs.Output.{EndedCallsAreAnswered};
 ghost use Rattle.mk_check.specs.WrittenBlocks.{ScriptsAreTheirLines};
 
@@ -13,8 +14,9 @@ ghost use Rattle.mk_check.specs.WrittenBlocks.{ScriptsAreTheirLines};
 #[tactic(auto, using(crate::proofs::AdmittedScripts::next_is_admitted))]
 pub fn the_next_operation_is_admitted()
     ensures { (program : List Item) (callers : ℕ) (calls : List Call) (k : ℕ) (answers : List Answer)
-        → IsChecked program → length (script_names program) ≤ callers → IsScript program k → AreAdmittedFor program callers calls
-        → AreNotedBy program k answers calls → NextIsAdmitted program callers calls k answers }
+        → IsChecked program → length (script_names program) ≤ callers → IsScript program k
+        → AreAdmittedFor program callers calls → AreNotedBy program k answers calls
+        → NextIsAdmitted program callers calls k answers }
 {}
 
 /// A caller's operations are those that its script notes: before any call, and still with one call more, whether
@@ -32,7 +34,8 @@ pub fn what_scripts_ask_is_noted()
 #[tactic(auto, using(crate::proofs::AdmittedScripts::scripts_are_admitted))]
 pub fn what_scripts_ask_is_admitted()
     ensures { (program : List Item) (callers : ℕ) (calls : List Call)
-        → IsChecked program → length (script_names program) ≤ callers → AreOfScripts program calls → AreAdmittedFor program callers calls }
+        → IsChecked program → length (script_names program) ≤ callers → AreOfScripts program calls
+        → AreAdmittedFor program callers calls }
 {}
 
 /// A script's blocks, written out as lines again with their `else` and `end`, are its lines.

@@ -54,7 +54,8 @@ impl Model for OpenParts {
 }
 
 impl OpenParts {
-    ghost use Rattle.mk_check.specs.Counts.{no_count, innermost, outer, with_count, with_second, counts_with};
+    ghost use Rattle.mk_check.specs.Counts.{no_count, innermost_count, outer_counts, with_count, with_second};
+    ghost use Rattle.mk_check.specs.Counts.{counts_with};
 
     fn new(alloc: Global) -> OpenParts
         ensures { result ≡ [] }
@@ -68,18 +69,18 @@ impl OpenParts {
     fn open(&mut self) -> Result<(), NoMemory>
         ensures { OnOk result (self.new ≡ no_count ∷ self.old) }
     {
-        self.outermost_first
-            .push(PartCount {
+        Ok(
+            self.outermost_first.push(PartCount {
                 lines: 0,
                 second: 0,
-            })
-            .map_err(|_| NoMemory)
+            })?,
+        )
     }
 
     /// Takes the innermost part away.
     fn close(&mut self) -> PartCount
-        ensures count { result ≡ innermost self.old }
-        ensures left { self.new ≡ outer self.old }
+        ensures count { result ≡ innermost_count self.old }
+        ensures left { self.new ≡ outer_counts self.old }
     {
         self.outermost_first.pop().unwrap_or(PartCount {
             lines: 0,

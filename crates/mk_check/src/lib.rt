@@ -15,5 +15,5 @@ mod typing_faults;
 
 pub use checked::{Checked, check};
 pub use feeding::Feed;
-pub use text::Text;
+pub use text::{Text, is_refusal};
 pub use typing_faults::{TypeKind, TypeStop};

@@ -25,9 +25,7 @@ pub fn add_first<'a, V: Copy>(
 {
     let key = name.as_bytes();
     if !names.contains_key(&key) {
-        let Ok(_) = names.insert(key, value) else {
-            return Err(NoMemory);
-        };
+        names.insert(key, value)?;
     }
     Ok(())
 }
@@ -52,7 +50,8 @@ impl<'a> Declarations<'a> {
     }
 
     fn add(&mut self, item: &'a Item) -> Result<(), NoMemory>
-        ensures { OnOk result ((items : List Item) → AreDeclared self.old items → AreDeclared self.new (items ++ item.now ∷ [])) }
+        ensures { OnOk result ((items : List Item) → AreDeclared self.old items
+            → AreDeclared self.new (items ++ item.now ∷ [])) }
     {
         match item {
             Item::TypeLine { name, words } => add_first(&mut self.types, name, words.as_slice()),
@@ -92,8 +91,10 @@ impl<'a> Registers<'a> {
     }
 
     fn add(&mut self, item: &'a Item) -> Result<(), NoMemory>
-        ensures added { OnOk result ((lines : List Item) → AreRegisters self.old lines → AreRegisters self.new (lines_behind lines item.now)) }
-        ensures unchanged { OnErr result ((lines : List Item) → AreRegisters self.old lines → AreRegisters self.new lines) }
+        ensures added { OnOk result ((lines : List Item) → AreRegisters self.old lines
+            → AreRegisters self.new (lines_behind lines item.now)) }
+        ensures unchanged { OnErr result ((lines : List Item) → AreRegisters self.old lines
+            → AreRegisters self.new lines) }
     {
         match item {
             Item::Script { .. } => {
@@ -102,10 +103,10 @@ impl<'a> Registers<'a> {
                 Ok(())
             }
             Item::Ptr { name, at } => add_first(&mut self.pointers, name, at),
-            Item::Num { name } => match self.numbers.insert(name.as_bytes()) {
-                Ok(_) => Ok(()),
-                Err(_) => Err(NoMemory),
-            },
+            Item::Num { name } => {
+                self.numbers.insert(name.as_bytes())?;
+                Ok(())
+            }
             _ => Ok(()),
         }
     }
@@ -129,7 +130,8 @@ impl<'a> Model for Lookups<'a> {
 
     ghost view = { λ l. record { program = l.program.now; count = l.count } };
 
-    ghost invariant = { λ l. (l.count ≤ length l.program.now) × AreDeclared l.declarations l.program.now × AreRegisters l.registers (this_script (take l.count l.program.now)) };
+    ghost invariant = { λ l. (l.count ≤ length l.program.now) × AreDeclared l.declarations l.program.now
+        × AreRegisters l.registers (this_script (take l.count l.program.now)) };
 }
 
 impl<'a> Lookups<'a> {

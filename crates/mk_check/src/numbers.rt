@@ -76,14 +76,7 @@ impl<'a> TypeNumbers<'a> {
     fn kinds(&self, alloc: Global, words: &[TypeWord]) -> Result<Vec<Kind>, NoMemory>
         ensures { IfOk result (λ kinds. kinds.items ≡ map (kind_of (type_names self.now)) words.now) }
     {
-        let Ok(kinds) = words
-            .iter()
-            .map(|word| self.kind(word))
-            .collect::<Vec<Kind>>(alloc)
-        else {
-            return Err(NoMemory);
-        };
-        Ok(kinds)
+        Ok(words.iter().map(|word| self.kind(word)).collect(alloc)?)
     }
 
     pub fn types(&self, alloc: Global) -> Result<TypeTable, NoMemory>

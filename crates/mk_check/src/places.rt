@@ -2,7 +2,7 @@
 ghost use Rattle.std.specs.Prelude.{◌≡◌, Some, option_map};
 ghost use Rattle.std.specs.Option.{option_copied};
 ghost use Rattle.mk_check.specs.Rules.{at_of};
-ghost use Rattle.mk_check.specs.Typing.{base_of, moved_by, same_at, word_points};
+ghost use Rattle.mk_check.specs.Typing.{base_of, moved_by, same_at, pointed_place};
 
 use mk_script::{At, Name, TypeWord};
 
@@ -52,7 +52,7 @@ impl<'a> Place<'a> {
 
 /// Where a word points, if it is a pointer.
 pub fn place_in<'a>(word: Option<&'a TypeWord>) -> Option<Place<'a>>
-    ensures { option_map at_of result ≡ word_points (option_copied word.entry) }
+    ensures { option_map at_of result ≡ pointed_place (option_copied word.entry) }
 {
     match word {
         Some(TypeWord::Pointer(at)) => Some(Place::new(at)),

@@ -4,7 +4,8 @@ ghost use Rattle.std.specs.Option.{option_copied};
 ghost use Rattle.mk_script.specs.declared.items.Item.{Item};
 ghost use Rattle.mk_script.specs.Scopes.{is_script};
 ghost use Rattle.mk_check.specs.Lookups.{around};
-ghost use Rattle.mk_check.specs.Rules.{at_of, fault_of_sort, is_declaration, is_number_access, is_pointer_access, is_pointer_line, is_number_line};
+ghost use Rattle.mk_check.specs.Rules.{at_of, fault_of_sort, is_declaration, is_number_access, is_pointer_access};
+ghost use Rattle.mk_check.specs.Rules.{is_pointer_line, is_number_line};
 ghost use Rattle.mk_check.specs.Typing as rule;
 ghost use Rattle.mk_check.specs.declared.typing_faults.TypeKind.TheVariants as kind;
 
@@ -19,8 +20,8 @@ pub fn unless(holds: bool, kind: TypeKind) -> Option<TypeKind>
     if holds { None } else { Some(kind) }
 }
 
-fn same_kind(first: Option<Place>, second: Option<Place>) -> Option<TypeKind>
-    ensures { result ≡ rule.same_kind (option_map at_of first.entry) (option_map at_of second.entry) }
+fn kind_fault(first: Option<Place>, second: Option<Place>) -> Option<TypeKind>
+    ensures { result ≡ rule.kind_fault (option_map at_of first.entry) (option_map at_of second.entry) }
 {
     match (first, second) {
         (Some(first), Some(second)) => unless(first.is(second), TypeKind::Kind),
@@ -30,25 +31,25 @@ fn same_kind(first: Option<Place>, second: Option<Place>) -> Option<TypeKind>
 
 impl<'a> Lookups<'a> {
     fn type_fault(&self, name: &Name) -> Option<TypeKind>
-        ensures { result ≡ rule.is_type (around self.now) name.now }
+        ensures { result ≡ rule.type_fault (around self.now) name.now }
     {
         unless(self.type_words(name).is_some(), TypeKind::NoType)
     }
 
     fn global_fault(&self, name: &Name) -> Option<TypeKind>
-        ensures { result ≡ rule.is_global (around self.now) name.now }
+        ensures { result ≡ rule.global_fault (around self.now) name.now }
     {
         unless(self.global_type(name).is_some(), TypeKind::NoGlobal)
     }
 
     fn pointer_fault(&self, name: &Name) -> Option<TypeKind>
-        ensures { result ≡ rule.is_pointer (around self.now) name.now }
+        ensures { result ≡ rule.pointer_fault (around self.now) name.now }
     {
         unless(self.pointer_at(name).is_some(), TypeKind::NoRegister)
     }
 
     fn number_fault(&self, name: &Name) -> Option<TypeKind>
-        ensures { result ≡ rule.is_number (around self.now) name.now }
+        ensures { result ≡ rule.number_fault (around self.now) name.now }
     {
         unless(self.has_number(name), TypeKind::NoRegister)
     }
@@ -78,20 +79,21 @@ impl<'a> Lookups<'a> {
     }
 
     fn word_behind(&self, pointer: &Name, index: u64) -> Option<&'a TypeWord>
-        ensures { option_copied result ≡ rule.word_at (around self.now) (rule.place_behind (around self.now) pointer.now index) }
+        ensures { option_copied result ≡ rule.word_at (around self.now)
+            (rule.place_behind (around self.now) pointer.now index) }
     {
         self.word_at(self.place_behind(pointer, index)?)
     }
 
     /// A word inside its type.
     fn inside_fault(&self, at: &At) -> Option<TypeKind>
-        ensures { result ≡ rule.is_inside (around self.now) (Some at.now) }
+        ensures { result ≡ rule.inside_fault (around self.now) (Some at.now) }
     {
         unless(self.word_at(Place::new(at)).is_some(), TypeKind::Offset)
     }
 
     fn pointers_fault(&self, words: &[TypeWord]) -> Option<TypeKind>
-        ensures { result ≡ rule.pointers_have_types (around self.now) words.now }
+        ensures { result ≡ rule.pointers_fault (around self.now) words.now }
     {
         for word in words {
             let TypeWord::Pointer(at) = word else {
@@ -105,7 +107,7 @@ impl<'a> Lookups<'a> {
     }
 
     fn offsets_fault(&self, words: &[TypeWord]) -> Option<TypeKind>
-        ensures { result ≡ rule.pointers_are_inside (around self.now) words.now }
+        ensures { result ≡ rule.offsets_fault (around self.now) words.now }
     {
         for word in words {
             let TypeWord::Pointer(at) = word else {
@@ -126,7 +128,8 @@ impl<'a> Lookups<'a> {
     }
 
     fn base_fault(&self, pointer: &Name) -> Option<TypeKind>
-        ensures { result ≡ rule.unless (rule.is_base (rule.pointer_at pointer.now (around self.now).script)) kind.InteriorFree }
+        ensures { result ≡ rule.unless (rule.is_base (rule.pointer_at pointer.now (around self.now).script))
+            kind.InteriorFree }
     {
         let at = self.pointer_at(pointer);
         unless(
@@ -136,23 +139,23 @@ impl<'a> Lookups<'a> {
     }
 
     fn offset_fault(&self, pointer: &Name, index: u64) -> Option<TypeKind>
-        ensures { result ≡ rule.is_inside (around self.now) (rule.place_behind (around self.now) pointer.now index) }
+        ensures { result ≡ rule.inside_fault (around self.now) (rule.place_behind (around self.now) pointer.now index) }
     {
         unless(self.word_behind(pointer, index).is_some(), TypeKind::Offset)
     }
 
     fn number_word_fault(&self, pointer: &Name, index: u64) -> Option<TypeKind>
-        ensures { result ≡ rule.holds_number (around self.now) pointer.now index }
+        ensures { result ≡ rule.number_word_fault (around self.now) pointer.now index }
     {
         let word = self.word_behind(pointer, index);
         unless(matches!(word, Some(TypeWord::Number)), TypeKind::Kind)
     }
 
     fn pointer_word_fault(&self, pointer: &Name, index: u64, register: &Name) -> Option<TypeKind>
-        ensures { result ≡ rule.points_as (around self.now) pointer.now index register.now }
+        ensures { result ≡ rule.pointer_word_fault (around self.now) pointer.now index register.now }
     {
         let word = self.word_behind(pointer, index);
-        same_kind(place_in(word), self.place_of(register))
+        kind_fault(place_in(word), self.place_of(register))
     }
 
     fn declaration_fault(&self, item: &Item) -> Option<TypeKind>
@@ -241,7 +244,7 @@ impl<'a> Lookups<'a> {
             Item::New { pointer, ty } => self
                 .pointer_fault(pointer)
                 .or(self.type_fault(ty))
-                .or(same_kind(self.place_of(pointer), Some(Place::base(ty)))),
+                .or(kind_fault(self.place_of(pointer), Some(Place::base(ty)))),
             Item::Free { pointer } => self.pointer_fault(pointer).or(self.base_fault(pointer)),
             Item::Lea {
                 moved,
@@ -251,11 +254,11 @@ impl<'a> Lookups<'a> {
                 .pointer_fault(moved)
                 .or(self.pointer_fault(pointer))
                 .or(self.offset_fault(pointer, *index))
-                .or(same_kind(self.place_of(moved), self.place_behind(pointer, *index))),
+                .or(kind_fault(self.place_of(moved), self.place_behind(pointer, *index))),
             Item::Move { copied, pointer } => self
                 .pointer_fault(copied)
                 .or(self.pointer_fault(pointer))
-                .or(same_kind(self.place_of(copied), self.place_of(pointer))),
+                .or(kind_fault(self.place_of(copied), self.place_of(pointer))),
             Item::Clear { pointer } => self.pointer_fault(pointer),
             Item::Loadg {
                 loaded: register,
@@ -267,7 +270,7 @@ impl<'a> Lookups<'a> {
             } => self
                 .pointer_fault(register)
                 .or(self.global_fault(global))
-                .or(same_kind(self.place_of(register), self.place_of_global(global))),
+                .or(kind_fault(self.place_of(register), self.place_of_global(global))),
             _ => None,
         }
     }

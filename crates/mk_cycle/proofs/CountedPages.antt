@@ -8,7 +8,7 @@ use Rattle.mk_core.specs.Cells.{header_in, words_under}
 use Rattle.mk_core.specs.Words.{Words, header_at, quarantine_word}
 use Rattle.mk_words.specs.States.{PassState, now_of}
 use Rattle.mk_cycle.specs.declared.finishing.Released.{Released}
-use Rattle.mk_cycle.specs.Freeing.{FreesNone, PageState}
+use Rattle.mk_cycle.specs.Freeing.{FreesNone, PageState, SamePage}
 use Rattle.mk_cycle.specs.ReleasedPages.{released_below, released_on}
 use Rattle.mk_cycle.specs.TurnKeeps.{InTurn}
 use Rattle.mk_cycle.proofs.CleaningSteps.{halves}
@@ -81,16 +81,20 @@ nothing_on w page none =
     (times ∙ ap (λ (n : ℕ). n * size) (ones ∙ ap count_ones (sym left)))
     (ones ∙ ap count_ones (sym common))
 
--- the same page, where nothing was given back since
-pub told_alike : (p q : PassState) (page : ℕ) → FreesNone p q
+-- the same page, where it is as it was
+pub told_same : (p q : PassState) (page : ℕ) → (now_of q).words.marks ≡ (now_of p).words.marks → SamePage p q page
     → released_on (now_of q).words page ≡ released_on (now_of p).words page
-told_alike p q page k =
+told_same p q page marks same =
     let v : Words = (now_of q).words in
     let w : Words = (now_of p).words in
     told_by (slice_index v.snapshot page) (slice_index v.marks page) (header_at v page)
     (slice_index w.snapshot page) (slice_index w.marks page) (header_at w page) (released_on v page)
-    (ap (λ (x : PageState). x.snapshot) (k.same page))
-    (ap (λ (ms : List ℕ). slice_index ms page) k.frees.marks) (same_header p q page (k.same page)) refl refl refl
+    (ap (λ (x : PageState). x.snapshot) same)
+    (ap (λ (ms : List ℕ). slice_index ms page) marks) (same_header p q page same) refl refl refl
+
+pub told_alike : (p q : PassState) (page : ℕ) → FreesNone p q
+    → released_on (now_of q).words page ≡ released_on (now_of p).words page
+told_alike p q page k = told_same p q page k.frees.marks (k.same page)
 
 sum_of : Released → Released → Released
 sum_of a b = record { count = a.count + b.count; words = a.words + b.words; kept = a.kept + b.kept }

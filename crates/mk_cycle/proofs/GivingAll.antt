@@ -57,10 +57,10 @@ gives_all_back p h r o q holds releases opens frees none settled =
     }
 
 -- What is counted behind the gates' opening is what was released up to there, and still is behind the giving back.
-pub all_told : (p h r o k q : PassState) (n : ℕ) (counted : Released) → HoldsGates p h → FreesNone r o → Frees o k → Frees k q
+pub all_told : (p h r o q : PassState) (n : ℕ) (counted : Released) → HoldsGates p h → FreesNone r o → Frees o q
     → HasReleased h r (released_below (now_of r).words n) → counted ≡ released_below (now_of o).words n → HasReleased p q counted
-all_told p h r o k q n counted holds opens counts frees told is =
+all_told p h r o q n counted holds opens frees told is =
     subst (λ (x : Released). HasReleased p q x) (sym (is ∙ told_alike_below r o opens n))
-    (told_to p r q _ (ap (λ (s : Steady). s.allocations) ((frees_then r k q (frees_then r o k opens.frees counts) frees).keeps.steady))
+    (told_to p r q _ (ap (λ (s : Steady). s.allocations) ((frees_then r o q opens.frees frees).keeps.steady))
     (told_from p h r _ (ap (λ (x : PassState). x.table.config) holds.keeps.call.pass)
     (ap (λ (s : Steady). s.allocations) holds.keeps.steady) told))

@@ -1,6 +1,6 @@
 -- What pages hold, one by one, which is little.
-use Rattle.std.proofs.Common.{◌≡◌, ℕ, ◌+◌, ◌<◌, ◌≤◌, Bool, true, false, List, length, drop, sym, subst, ◌∙◌, ap}
-use Rattle.std.proofs.Common.{arith}
+use Rattle.std.proofs.Common.{◌≡◌, ℕ, zero, suc, ◌+◌, ◌<◌, ◌≤◌, Bool, true, false, List, length, drop, sym, subst, ◌∙◌, ap}
+use Rattle.std.proofs.Common.{arith, zero-add}
 use Rattle.std.specs.Prelude.{slice_index_or, count_by, Option, Some, None}
 use Rattle.std.proofs.Math.Nat.{mul-div-le, mul-le-mul_left}
 use Rattle.std.proofs.lemmas.List.{at_drop_all, at_drop_more}
@@ -15,6 +15,12 @@ use Rattle.mk_geom.specs.PageUses.{PageUse, words_held_among, words_held_by}
 use Rattle.mk_geom.specs.PageWords.{bits_of, use_of_page, use_under, uses_of_pages}
 use Rattle.mk_geom.specs.Storages.{free_page}
 use Rattle.mk_books.proofs.UsedBitLemmas.{length-bits_of}
+use Rattle.mk_words.specs.States.{PassState, now_of}
+use Rattle.mk_cycle.specs.Freeing.{FreesNone, FreesPage, PageState}
+use Rattle.mk_cycle.specs.HeldPages.{held_at}
+use Rattle.mk_cycle.specs.ReleasedPages.{sum_below}
+use Rattle.mk_cycle.proofs.PageSteps.{same_header}
+use Rattle.mk_cycle.proofs.SumsBelow.{sum_same}
 
 -- No page holds more than its words.
 
@@ -50,5 +56,45 @@ held_next pages n within =
     at_drop_more (λ rest. words_held_among (uses_of_pages rest)) pages n free_page within
     ∙ sum_by-cons words_held_by (use_of_page (slice_index_or pages n free_page)) (uses_of_pages (drop (n + 1) pages))
 
-pub held_past : (pages : List Page) (n : ℕ) → length pages ≤ n → words_held_among (uses_of_pages (drop n pages)) ≡ 0
-held_past pages n past = at_drop_all (λ rest. words_held_among (uses_of_pages rest)) pages n past
+-- What two looks tell of a page.
+pub page_seen : (a b : PassState) (page header used : ℕ) → FreesNone a b → header ≡ header_at (now_of a).words page
+    → used ≡ used_at (now_of b).words page
+    → ◌≡◌ {A = Page} (record { header = header; used = used }) (page_of (now_of b).words page)
+page_seen a b page header used k head use_word =
+    ap (λ n. record { header = n; used = used }) (head ∙ sym (same_header a b page (k.same page)))
+    ∙ ap (λ n. record { header = header_at (now_of b).words page; used = n }) use_word
+
+-- what the first pages hold, where one more is settled
+pub held_more : (p q : PassState) (page all here : ℕ) → FreesPage page p q → all ≡ sum_below page (held_at p)
+    → here ≡ held_at q page → all + here ≡ sum_below (page + 1) (held_at q)
+held_more p q page all here k before now =
+    let next : suc page ≡ page + 1 = omega arith in
+    let same : sum_below page (held_at p) ≡ sum_below page (held_at q) =
+    sum_same page (held_at p) (held_at q) (λ r lt. ap (λ (x : PageState). words_held_by (use_of_page x.page))
+    (sym (k.others r (λ e. absurd (omega (arith, e, lt)))))) in
+    let one : all + here ≡ sum_below page (held_at q) + held_at q page = omega (arith, before, same, now) in
+    one ∙ ap (λ n. sum_below n (held_at q)) next
+
+-- All pages hold what they hold one by one.
+
+abbrev held_on_page : List Page → ℕ → ℕ
+held_on_page pages r = words_held_by (use_of_page (slice_index_or pages r free_page))
+
+held_to : (pages : List Page) (n : ℕ) → n ≤ length pages
+    → sum_below n (held_on_page pages) + words_held_among (uses_of_pages (drop n pages)) ≡ words_held_among (uses_of_pages pages)
+held_to pages zero le = zero-add (words_held_among (uses_of_pages pages))
+held_to pages (suc n) le =
+    let before = held_to pages n (omega (arith, le)) in
+    let here = held_next pages n (omega (arith, le)) in
+    let next : suc n ≡ n + 1 = omega arith in
+    let rest : words_held_among (uses_of_pages (drop (suc n) pages)) ≡ words_held_among (uses_of_pages (drop (n + 1) pages)) =
+    ap (λ m. words_held_among (uses_of_pages (drop m pages))) next in
+    omega (arith, before, here, rest)
+
+pub held_all : (pages : List Page)
+    → sum_below (length pages) (λ r. words_held_by (use_of_page (slice_index_or pages r free_page)))
+    ≡ words_held_among (uses_of_pages pages)
+held_all pages =
+    let before = held_to pages (length pages) (omega arith) in
+    let past = at_drop_all (λ rest. words_held_among (uses_of_pages rest)) pages (length pages) (omega arith) in
+    omega (arith, before, past)

@@ -85,6 +85,16 @@ bare_left p t page none =
     let no_cells : cells_under (header_in w page) ≡ 0 = ap (λ (n : ℕ). cells_under (header_of n)) none in
     absurd (omega arith)))
 
+pub bare_snapshot : (p : PassState) → InTurn p → (page : ℕ) → header_at (now_of p).words page ≡ 0
+    → slice_index (now_of p).words.snapshot page ≡ 0
+bare_snapshot p t page none =
+    let w : Words = (now_of p).words in
+    let order = (stands p.table.config p.seen t.history).all.order in
+    zero_from_bits (slice_index w.snapshot page) (λ k. false_from_ne_true (has_bit (slice_index w.snapshot page) k) (λ has.
+    let small = order.known page k (order.quarantined.within page k has) in
+    let no_cells : cells_under (header_in w page) ≡ 0 = ap (λ (n : ℕ). cells_under (header_of n)) none in
+    absurd (omega arith)))
+
 -- what settles a page
 
 or_left : (a b : Bool) → a ≡ true → (a || b) ≡ true
@@ -126,6 +136,10 @@ still_settled p q page r k lt h =
     ∙ ap (λ (n : ℕ). (left_unmarked (now_of p).words r == 0) && ((header_at (now_of p).words r == 0) || not (used_at (now_of q).words n == 0))) head
     ∙ ap (λ (n : ℕ). (left_unmarked (now_of p).words r == 0) && ((header_at (now_of p).words r == 0) || not (n == 0))) (same_used p q (head_page (now_of p).words r) head_same)
     ∙ h
+
+-- and while nothing is given back
+pub settled_alike : (p q : PassState) (page : ℕ) → FreesNone p q → IsSettledPage p page → IsSettledPage q page
+settled_alike p q page k h = still_settled p q (page + 1) page (page_at_once (page + 1) p q k) (omega arith) h
 
 -- what two looks tell of the released cells
 pub marked_gone : (a b : PassState) (page quarantine marks : ℕ) → InTurn a → FreesNone a b

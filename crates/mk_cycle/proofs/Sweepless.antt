@@ -1,5 +1,5 @@
 -- The parts of a cycle that aren't an engine's mark nothing.
-use Rattle.std.proofs.Common.{◌≡◌, refl}
+use Rattle.std.proofs.Common.{refl}
 use Rattle.mk_core.specs.declared.events.Step.TheVariants as step
 use Rattle.mk_turns.specs.Sweeping.{HaveNoMark}
 use Rattle.mk_cycle.specs.Kinds.{clears, gives_back, holds_gates, sets_tallies}

@@ -5,29 +5,21 @@ use Rattle.mk_core.specs.declared.events.Tally.{Tally}
 use Rattle.mk_core.specs.declared.events.Tally.TheVariants as tally
 use Rattle.mk_core.specs.declared.events.Word.{Word}
 use Rattle.mk_core.specs.declared.events.Step.TheVariants as step
-use Rattle.std.specs.Prelude.{slice_index_or}
-use Rattle.mk_geom.specs.declared.pages.Page.{Page}
-use Rattle.mk_geom.specs.Storages.{free_page}
 use Rattle.mk_core.specs.Counts.{in_a_word}
 use Rattle.mk_core.specs.Accesses.{tally_word}
 use Rattle.mk_core.specs.Frames.{Steady, steady_of}
 use Rattle.mk_core.specs.History.{World, world_behind}
 use Rattle.mk_core.specs.TurnConditions.{words_held}
-use Rattle.mk_core.specs.Words.{Words, header_at, named_word, page_of, used_at}
+use Rattle.mk_core.specs.Words.{Words, named_word}
 use Rattle.mk_words.specs.States.{PassState, world_of, now_of, event_of}
 use Rattle.mk_words.specs.TurnSteps.{world_at, Acts}
-use Rattle.mk_turns.proofs.Doing.{does_nothing, does_then, does_step}
+use Rattle.mk_turns.proofs.Doing.{does_then, does_step}
 use Rattle.mk_cycle.specs.EngineLaw.{IsFreeForCycle}
 use Rattle.mk_cycle.specs.Kinds.{sets_tallies}
 use Rattle.mk_cycle.specs.Tallying.{Sets, with_cycle_counted, with_tally}
 use Rattle.mk_cycle.specs.TurnKeeps.{InTurn, whole}
 use Rattle.mk_cycle.proofs.CleaningSteps.{calm_keeps}
-use Rattle.mk_cycle.proofs.KeptInParts.{gates_behind, gates_then, keeps_at_once, keeps_then}
-
-pub sets_nothing : (p : PassState) → Sets whole p p
-sets_nothing p =
-    let k = keeps_at_once whole p in
-    record { does = does_nothing sets_tallies p; call = k.call; steady = refl; counts = k.counts; gates = λ j lt. refl }
+use Rattle.mk_cycle.proofs.KeptInParts.{gates_behind, gates_then, keeps_then}
 
 pub sets_then : (f g : Steady → Steady) (p q r : PassState) → Sets f p q → Sets g q r → Sets (λ s. g (f s)) p r
 sets_then f g p q r a b =
@@ -95,18 +87,6 @@ same_tally p q tally.Fresh same = ap (λ (s : Steady). s.fresh) same
 same_tally p q tally.Cycles same = ap (λ (s : Steady). s.cycles) same
 same_tally p q tally.Released same = ap (λ (s : Steady). s.released) same
 same_tally p q tally.Full same = ap (λ (s : Steady). s.full) same
-
--- What two looks tell of a page.
-pub page_read : (p q r : PassState) (page header used : ℕ) → Sets whole p q → Sets whole p r
-    → header ≡ header_at (now_of q).words page → used ≡ used_at (now_of r).words page
-    → ◌≡◌ {A = Page} (record { header = header; used = used }) (page_of (now_of p).words page)
-page_read p q r page header used a b head use_word =
-    let x : header ≡ header_at (now_of p).words page =
-    head ∙ ap (λ (s : Steady). (slice_index_or s.pages page free_page).header) a.steady in
-    let y : used ≡ used_at (now_of p).words page =
-    use_word ∙ ap (λ (s : Steady). (slice_index_or s.pages page free_page).used) b.steady in
-    ap (λ n. record { header = n; used = used }) x
-    ∙ ap (λ n. record { header = header_at (now_of p).words page; used = n }) y
 
 -- a tally that is raised by what it is found to be
 pub raised : (p a q : PassState) (n : Tally) (x : Word) (found more to : ℕ) → x ≡ tally_word n → Sets whole p a

@@ -1,12 +1,14 @@
-//! What a cycle released is counted before it is given back: by the snapshot and the marks of each page.
-ghost use Rattle.std.specs.Prelude.{◌≡◌, ◌<◌, ◌*◌, true, false, bit_and, count_ones, slice_index};
+//! What the words of a page tell of a cycle: what was released on it, by its snapshot and marks, before that is given
+//! back; and how many words it holds.
+ghost use Rattle.std.specs.Prelude.{◌≡◌, ◌<◌, ◌≤◌, ◌*◌, true, false, bit_and, count_ones, slice_index};
 ghost use Rattle.mk_core.specs.Bits.{without};
 ghost use Rattle.mk_core.specs.Cells.{words_under};
 ghost use Rattle.mk_core.specs.Ranges.{is_word};
 ghost use Rattle.mk_core.specs.Words.{named_word};
 ghost use Rattle.mk_geom.specs.Headers.{header_of};
 ghost use Rattle.mk_words.specs.States.{now_of};
-ghost use Rattle.mk_cycle.specs.ReleasedPages.{IsOfOnePage, released_on, released_below};
+ghost use Rattle.mk_cycle.specs.ReleasedPages.{IsOfOnePage, released_on};
+ghost use Rattle.mk_cycle.specs.HeldPages.{held_at};
 ghost use Rattle.mk_cycle.specs.EngineLaw.{IsFreeForCycle, IsAtPhase, is_register};
 ghost use Rattle.mk_cycle.specs.Freeing.{FreesNone};
 ghost use Rattle.mk_cycle.specs.TurnKeeps.{InTurn};
@@ -14,6 +16,7 @@ ghost use Rattle.mk_cycle.specs.TurnKeeps.{InTurn};
 use crate::bits::{FREED_END, without, words_under};
 use crate::finishing::Released;
 use crate::turn_steps;
+use mk_books::{Page, words_held};
 use mk_core::Word;
 use mk_words::{Turn, Words};
 
@@ -33,7 +36,7 @@ fn released_cells(snapshot: u64, marks: u64, header: u64) -> Released
 }
 
 /// Looks at a word that is no register, while nothing is given back.
-fn look(turn: &mut Turn, words: &Words, x: Word) -> u64
+pub(crate) fn look(turn: &mut Turn, words: &Words, x: Word) -> u64
     requires one_table { turn.old.pass.table ≡ words.now }
     requires free { IsFreeForCycle turn.old.pass }
     requires phase { IsAtPhase turn.old.pass 4 }
@@ -65,7 +68,7 @@ fn released_of(turn: &mut Turn, words: &Words, page: u64, snapshot: u64) -> Rele
 }
 
 /// What was released on a page. Where its snapshot is empty, no more is looked at.
-fn released_on(turn: &mut Turn, words: &Words, page: u64) -> Released
+pub(crate) fn released_on(turn: &mut Turn, words: &Words, page: u64) -> Released
     requires one_table { turn.old.pass.table ≡ words.now }
     requires free { IsFreeForCycle turn.old.pass }
     requires phase { IsAtPhase turn.old.pass 4 }
@@ -86,26 +89,22 @@ fn released_on(turn: &mut Turn, words: &Words, page: u64) -> Released
     released_of(turn, words, page, snapshot)
 }
 
-/// What was released on all pages.
-pub(crate) fn count_released(turn: &mut Turn, words: &Words) -> Released
+/// How many words a page holds. The used word of a free page isn't looked at.
+pub(crate) fn held_on(turn: &mut Turn, words: &Words, page: u64) -> u64
     requires one_table { turn.old.pass.table ≡ words.now }
     requires free { IsFreeForCycle turn.old.pass }
     requires phase { IsAtPhase turn.old.pass 4 }
+    requires within { page < words.now.config.pages }
     ensures op { turn.new.op ≡ turn.old.op }
     ensures frees { FreesNone turn.old.pass turn.new.pass }
-    ensures exact { result ≡ released_below (now_of turn.old.pass).words words.now.config.pages }
+    ensures exact { result ≡ held_at turn.new.pass page }
+    ensures few { result ≤ 64 }
 {
-    words.is_within_limits();
-    let mut all = Released {
-        count: 0,
-        words: 0,
-        kept: 0,
-    };
-    for page in 0..words.pages() {
-        let here = released_on(turn, words, page);
-        all.count += here.count;
-        all.words += here.words;
-        all.kept += here.kept;
+    let header = look(turn, words, Word::Head(page));
+    if header == 0 {
+        return 0;
     }
-    all
+    let used = look(turn, words, Word::Used(page));
+    let held = words_held(&[Page { header, used }]);
+    held as u64
 }

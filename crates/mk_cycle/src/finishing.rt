@@ -8,6 +8,7 @@ ghost use Rattle.mk_cycle.specs.Telling.{IsToldAtClose};
 use crate::bench::Bench;
 use crate::engine::Engine;
 use crate::giving::give_all_back;
+use crate::settling::Settled;
 use crate::tallying::count_cycle;
 use crate::turn_steps::end;
 use mk_words::{Turn, Words};
@@ -43,8 +44,9 @@ pub fn finish_cycle<E: Engine, R: Threads + Wait + Sync>(
     ensures reached { E.sweeps ≡ false → SweepsNothing turn.pass result.0.pass }
     ensures told { IsToldAtClose (E.tells bench.new.engine) turn.pass result.0.pass }
 {
-    let (mut turn, released) = give_all_back(rt, words, turn, &mut bench.engine);
+    let (mut turn, settled) = give_all_back(rt, words, turn, &mut bench.engine);
+    let Settled { released, held } = settled;
     end(&mut turn, words);
-    count_cycle(&mut turn, words, released.count);
+    count_cycle(&mut turn, words, held, released.count);
     (turn, released)
 }

@@ -1,6 +1,7 @@
 //! The stop of a cycle, and what comes behind it up to the `end`.
 ghost use Rattle.std.specs.Prelude.{◌≡◌, true, false};
 ghost use Rattle.mk_core.specs.Moments.{none_is_held};
+ghost use Rattle.mk_core.specs.TurnConditions.{words_held};
 ghost use Rattle.mk_words.specs.States.{now_of};
 ghost use Rattle.mk_turns.specs.Sweeping.{SweepsNothing};
 ghost use Rattle.mk_cycle.specs.EngineLaw.{IsFreeForCycle, IsAtPhase};
@@ -9,12 +10,10 @@ ghost use Rattle.mk_cycle.specs.Freeing.{FreesNone};
 ghost use Rattle.mk_cycle.specs.GivingAll.{GivesAllBack};
 ghost use Rattle.mk_cycle.specs.Telling.{IsToldAtClose};
 
-use crate::counting::count_released;
 use crate::engine::Engine;
-use crate::finishing::Released;
 use crate::holding::hold_gates;
 use crate::releasing::release_unmarked;
-use crate::settling::settle_pages;
+use crate::settling::{Settled, settle_pages};
 use mk_words::{Stopped, Turn, Words};
 use std::sync::Wait;
 use std::thread::Threads;
@@ -35,13 +34,13 @@ fn open_gates(words: &Words, stop: Stopped) -> Turn
 }
 
 /// Stops all other callers, closes the marks, releases what is unmarked, opens the gates, and gives back what was
-/// released, with the count of it.
+/// released, with the count of it, and of what is held then.
 pub(crate) fn give_all_back<E: Engine, R: Threads + Wait + Sync>(
     rt: &R,
     words: &Words,
     mut turn: Turn,
     engine: &mut E,
-) -> (Turn, Released)
+) -> (Turn, Settled)
     requires one_table { turn.pass.table ≡ words.now }
     requires made_for { E.made_for engine.old ≡ words.now.config.pages }
     requires phase { IsAtPhase turn.pass 1 }
@@ -49,7 +48,8 @@ pub(crate) fn give_all_back<E: Engine, R: Threads + Wait + Sync>(
     ensures op { result.0.op ≡ turn.op }
     ensures made_for { E.made_for engine.new ≡ E.made_for engine.old }
     ensures gives { GivesAllBack turn.pass result.0.pass }
-    ensures told { HasReleased turn.pass result.0.pass result.1 }
+    ensures told { HasReleased turn.pass result.0.pass result.1.released }
+    ensures held { result.1.held ≡ words_held (now_of result.0.pass).words }
     ensures reached { E.sweeps ≡ false → SweepsNothing turn.pass result.0.pass }
     ensures told_at_close { IsToldAtClose (E.tells engine.new) turn.pass result.0.pass }
 {
@@ -57,7 +57,6 @@ pub(crate) fn give_all_back<E: Engine, R: Threads + Wait + Sync>(
     let mut stop = turn.stopped();
     release_unmarked(rt, words, &mut stop, engine);
     let mut turn = open_gates(words, stop);
-    let released = count_released(&mut turn, words);
-    settle_pages(&mut turn, words);
-    (turn, released)
+    let settled = settle_pages(&mut turn, words);
+    (turn, settled)
 }

@@ -1,15 +1,29 @@
-//! Page by page, what was released is given back, and pages on which nothing is left are freed.
-ghost use Rattle.std.specs.Prelude.{◌≡◌, ◌<◌, ℕ};
+//! Page by page, what was released is counted and given back, pages on which nothing is left are freed, and what is held
+//! is counted: in one pass, which looks at a free page once.
+ghost use Rattle.std.specs.Prelude.{◌≡◌, ◌<◌, ◌≤◌, ℕ};
 ghost use Rattle.mk_core.specs.Cells.{head_page, left_unmarked};
+ghost use Rattle.mk_core.specs.TurnConditions.{words_held};
+ghost use Rattle.mk_core.specs.Words.{header_at};
 ghost use Rattle.mk_words.specs.States.{now_of};
 ghost use Rattle.mk_cycle.specs.EngineLaw.{IsFreeForCycle, IsAtPhase};
 ghost use Rattle.mk_cycle.specs.Freeing.{Frees, FreesPage, HasFreeCells, IsSettledPage};
+ghost use Rattle.mk_cycle.specs.HeldPages.{held_at};
+ghost use Rattle.mk_cycle.specs.ReleasedPages.{IsOfOnePage, released_below, released_on};
 
 use crate::bits::{head_of, words_under};
+use crate::counting::{held_on, look, released_on};
+use crate::finishing::Released;
 use crate::freeing::release_cells;
-use crate::turn_steps::{free_head, look};
+use crate::turn_steps::{self, free_head};
 use mk_core::Word;
 use mk_words::{Turn, Words};
+
+/// What was released, and how many words are held behind that.
+#[derive(Clone, Copy)]
+pub(crate) struct Settled {
+    pub(crate) released: Released,
+    pub(crate) held: u64,
+}
 
 /// Frees a page, if no cell is used at the head of its run.
 fn free_unused(turn: &mut Turn, words: &Words, page: u64, head: u64)
@@ -25,13 +39,38 @@ fn free_unused(turn: &mut Turn, words: &Words, page: u64, head: u64)
     ensures frees { FreesPage page turn.old.pass turn.new.pass }
     ensures settled { IsSettledPage turn.new.pass page }
 {
-    if look(turn, words, Word::Used(head)) == 0 {
+    if turn_steps::look(turn, words, Word::Used(head)) == 0 {
         free_head(turn, words, page);
     }
 }
 
-/// Gives back the released cells of a page, and frees it if nothing is left on it.
-fn settle_page(turn: &mut Turn, words: &Words, page: u64)
+/// Gives back the released cells of a page with this header word, and frees it if nothing is left on it.
+fn settle_taken(turn: &mut Turn, words: &Words, page: u64, header: u64) -> Settled
+    requires one_table { turn.old.pass.table ≡ words.now }
+    requires free { IsFreeForCycle turn.old.pass }
+    requires phase { IsAtPhase turn.old.pass 4 }
+    requires within { page < words.now.config.pages }
+    requires header { header ≡ header_at (now_of turn.old.pass).words page }
+    requires cells { HasFreeCells turn.old.pass page }
+    requires settled { (r : ℕ) → r < page → IsSettledPage turn.old.pass r }
+    ensures op { turn.new.op ≡ turn.old.op }
+    ensures frees { FreesPage page turn.old.pass turn.new.pass }
+    ensures settled { IsSettledPage turn.new.pass page }
+    ensures released { result.released ≡ released_on (now_of turn.old.pass).words page }
+    ensures one { IsOfOnePage result.released }
+    ensures held { result.held ≡ held_at turn.new.pass page }
+    ensures few { result.held ≤ 64 }
+{
+    let released = released_on(turn, words, page);
+    release_cells(turn, words, page, words_under(header));
+    free_unused(turn, words, page, head_of(header, page));
+    let held = held_on(turn, words, page);
+    Settled { released, held }
+}
+
+/// Gives back the released cells of a page, and frees it if nothing is left on it. Of a free page no more than its
+/// header is looked at.
+fn settle_page(turn: &mut Turn, words: &Words, page: u64) -> Settled
     requires one_table { turn.old.pass.table ≡ words.now }
     requires free { IsFreeForCycle turn.old.pass }
     requires phase { IsAtPhase turn.old.pass 4 }
@@ -41,16 +80,27 @@ fn settle_page(turn: &mut Turn, words: &Words, page: u64)
     ensures op { turn.new.op ≡ turn.old.op }
     ensures frees { FreesPage page turn.old.pass turn.new.pass }
     ensures settled { IsSettledPage turn.new.pass page }
+    ensures released { result.released ≡ released_on (now_of turn.old.pass).words page }
+    ensures one { IsOfOnePage result.released }
+    ensures held { result.held ≡ held_at turn.new.pass page }
+    ensures few { result.held ≤ 64 }
 {
     let header = look(turn, words, Word::Head(page));
-    if header != 0 {
-        release_cells(turn, words, page, words_under(header));
-        free_unused(turn, words, page, head_of(header, page));
+    if header == 0 {
+        return Settled {
+            released: Released {
+                count: 0,
+                words: 0,
+                kept: 0,
+            },
+            held: 0,
+        };
     }
+    settle_taken(turn, words, page, header)
 }
 
-/// Gives back all that was released.
-pub(crate) fn settle_pages(turn: &mut Turn, words: &Words)
+/// Gives back all that was released, and counts it, and what the pages hold then.
+pub(crate) fn settle_pages(turn: &mut Turn, words: &Words) -> Settled
     requires one_table { turn.old.pass.table ≡ words.now }
     requires free { IsFreeForCycle turn.old.pass }
     requires phase { IsAtPhase turn.old.pass 4 }
@@ -58,8 +108,25 @@ pub(crate) fn settle_pages(turn: &mut Turn, words: &Words)
     ensures op { turn.new.op ≡ turn.old.op }
     ensures frees { Frees turn.old.pass turn.new.pass }
     ensures settled { (page : ℕ) → page < words.now.config.pages → IsSettledPage turn.new.pass page }
+    ensures released { result.released ≡ released_below (now_of turn.old.pass).words words.now.config.pages }
+    ensures held { result.held ≡ words_held (now_of turn.new.pass).words }
 {
+    words.is_within_limits();
+    let mut all = Released {
+        count: 0,
+        words: 0,
+        kept: 0,
+    };
+    let mut held: u64 = 0;
     for page in 0..words.pages() {
-        settle_page(turn, words, page);
+        let here = settle_page(turn, words, page);
+        all.count += here.released.count;
+        all.words += here.released.words;
+        all.kept += here.released.kept;
+        held += here.held;
+    }
+    Settled {
+        released: all,
+        held,
     }
 }

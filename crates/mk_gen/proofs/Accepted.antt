@@ -8,22 +8,22 @@ use Rattle.mk_check.specs.declared.typing_faults.TypeStop.{TypeStop}
 use Rattle.mk_check.specs.declared.typing_faults.TypeStop.TheVariants.{IllTyped}
 use Rattle.mk_check.specs.Typing.{first_typing_fault, NamesFirstFault}
 use Rattle.mk_check.proofs.GrammarLemmas.{Err≢Ok, Ok-injective, Some≢None}
-use Rattle.mk_gen.specs.Generated.{generated}
+use Rattle.mk_gen.specs.Generated.{generated_program}
 use Rattle.mk_gen.specs.GeneratedText.{generated_text}
 use Rattle.mk_gen.proofs.ReadText.{program_of-generated_text}
 use Rattle.mk_gen.proofs.TypedProgram.{generated_is_well_typed}
 
 module _ (start count : ℕ) (most : count ≤ 3000000) (text : List ℕ) (is : text ≡ generated_text start count) where
-  program_is : program_of text ≡ Ok (generated start count)
+  program_is : program_of text ≡ Ok (generated_program start count)
   program_is = ap program_of is ∙ program_of-generated_text start count most
 
   -- it is of the grammar
   pub is_read : (stop : TextStop) → program_of text ≡ Err stop → ⊥
-  is_read stop refused = Err≢Ok stop (generated start count) (sym refused ∙ program_is)
+  is_read stop refused = Err≢Ok stop (generated_program start count) (sym refused ∙ program_is)
 
   module _ (program : List Item) (read : program_of text ≡ Ok program) where
-    pub is_generated : program ≡ generated start count
-    is_generated = Ok-injective {E = TextStop} program (generated start count) (sym read ∙ program_is)
+    pub is_generated : program ≡ generated_program start count
+    is_generated = Ok-injective {E = TextStop} program (generated_program start count) (sym read ∙ program_is)
 
     -- and its program is well typed
     pub is_typed : (line : ℕ) (kind : TypeKind) (stop : TypeStop) → stop ≡ IllTyped line kind

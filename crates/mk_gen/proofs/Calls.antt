@@ -8,7 +8,7 @@ use Rattle.mk_core.specs.declared.events.Answer.{Answer}
 use Rattle.mk_script.specs.declared.items.Item.{Item}
 use Rattle.mk_script.specs.declared.items.Item.TheVariants.{Getn, Print, Else}
 use Rattle.mk_check.specs.Blocks.{Blocks, Done, Line, Rounds, Choice, followed_by, is_done, blocks_from, ScriptText}
-use Rattle.mk_check.specs.Feed.{Scope, Fed, op_of, run_line, run_rounds, run, with_answer, note, take_answer, take_answers, begun, started, feed_script, has_ended}
+use Rattle.mk_check.specs.Feed.{Scope, Fed, op_of, run_line, run_rounds, run, with_answer, note, take_answer, take_answers, fed_before_lines, fed_before_answers, feed_script, has_ended}
 
 abbrev pub nowhere : Scope
 nowhere = record { types = []; globals = []; pointers = []; numbers = [] }
@@ -158,6 +158,6 @@ module _ (scope : Scope) where
       → has_ended (feed_script scope script answers) ≡ true
       → length (feed_script scope script answers).ops ≡ calls_of (blocks_from script.line script.items)
   ended_calls script answers plain ended =
-      let start = run_left (blocks_from script.line script.items) plain (begun scope script) in
-      let all = answers_left answers (started scope script) start.plain in
+      let start = run_left (blocks_from script.line script.items) plain (fed_before_lines scope script) in
+      let all = answers_left answers (fed_before_answers scope script) start.plain in
       omega (arith, all.0, start.ops, start.calls_are, calls_of-done (feed_script scope script answers).left ended)

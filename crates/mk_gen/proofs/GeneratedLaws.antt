@@ -10,7 +10,7 @@ use Rattle.mk_check.specs.Lengths.{length_of}
 use Rattle.mk_check.specs.Declarations.{kind_of}
 use Rattle.mk_check.specs.Feeding.{script_scope}
 use Rattle.mk_check.specs.Laws.{IsChecked, IsScript}
-use Rattle.mk_gen.specs.Generated.{node, buf, script_body, numbers_of, turns_of, generated}
+use Rattle.mk_gen.specs.Generated.{node, buf, script_body, numbers_of, turns_of, generated_program}
 use Rattle.mk_gen.specs.GeneratedText.{generated_text}
 use Rattle.mk_gen.specs.Laws.{DeclaresNodes, MakesTurns}
 use Rattle.mk_gen.proofs.Calls.{calls_of, HasNoIf, ended_calls}
@@ -18,10 +18,10 @@ use Rattle.mk_gen.proofs.ReadText.{program_of-generated_text}
 use Rattle.mk_gen.proofs.TypedProgram.{generated_is_well_typed}
 
 pub generated_is_of_its_text : (start count : ℕ) → count ≤ 3000000
-    → program_of (generated_text start count) ≡ Ok (generated start count)
+    → program_of (generated_text start count) ≡ Ok (generated_program start count)
 generated_is_of_its_text = program_of-generated_text
 
-pub generated_is_checked : (start count : ℕ) → count ≤ 3000000 → IsChecked (generated start count)
+pub generated_is_checked : (start count : ℕ) → count ≤ 3000000 → IsChecked (generated_program start count)
 generated_is_checked start count most = record {
   well_typed = generated_is_well_typed start count most;
   of_some_text = (generated_text start count, program_of-generated_text start count most);
@@ -32,8 +32,8 @@ kinds_of-numbers : (types : List (List ℕ)) (count : ℕ)
 kinds_of-numbers types zero = refl
 kinds_of-numbers types (suc more) = ap (λ kinds. Num ∷ kinds) (kinds_of-numbers types more)
 
-pub generated_declares_nodes : (start count : ℕ) → DeclaresNodes (generated start count) (numbers_of start)
-unfolding generated
+pub generated_declares_nodes : (start count : ℕ) → DeclaresNodes (generated_program start count) (numbers_of start)
+unfolding generated_program
 generated_declares_nodes start count = record {
   pages = refl;
   resident = refl;
@@ -67,9 +67,9 @@ body_makes_turns program k line turns number place starts is =
           ∙ ap calls_of blocks ∙ body_calls line turns number place;
     }
 
-pub generated_makes_turns : (start count k : ℕ) → IsScript (generated start count) k
-    → MakesTurns (generated start count) k (turns_of count)
-unfolding generated
+pub generated_makes_turns : (start count k : ℕ) → IsScript (generated_program start count) k
+    → MakesTurns (generated_program start count) k (turns_of count)
+unfolding generated_program
 generated_makes_turns start count zero is = body_makes_turns _ 0 6 (turns_of count) _ _ refl refl
 generated_makes_turns start count (suc zero) is = body_makes_turns _ 1 27 (turns_of count) _ _ refl refl
 generated_makes_turns start count (suc (suc zero)) is = body_makes_turns _ 2 48 (turns_of count) _ _ refl refl

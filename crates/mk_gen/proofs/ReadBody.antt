@@ -12,7 +12,7 @@ use Rattle.mk_core.proofs.EventsAt.{◌and◌}
 use Rattle.mk_script.specs.declared.items.Item.{Item}
 use Rattle.mk_script.specs.declared.items.Item.TheVariants.{Script}
 use Rattle.mk_script.specs.Words.{words_of}
-use Rattle.mk_script.specs.Spaced.{joined}
+use Rattle.mk_script.specs.Spaced.{joined_words}
 use Rattle.mk_script.specs.Lines.{line_item, checked_item}
 use Rattle.mk_script.specs.Operands.{item_from}
 use Rattle.mk_script.proofs.LineWords.{is_word-decimal, AreWords, words_of-joined, without_newline}
@@ -40,7 +40,7 @@ plain {before} {line} {item} says passes whole =
     }
 
 -- a line by its words
-pub by_words : {before : List Item} {line : List ℕ} {item : Item} (words : List (List ℕ)) → line ≡ joined words
+pub by_words : {before : List Item} {line : List ℕ} {item : Item} (words : List (List ℕ)) → line ≡ joined_words words
     → AreWords words
     → line_item before words ≡ Ok item → checked_item before item ≡ Ok item → length line ≤ 40 → IsRead before line item
 by_words {before} {line} {item} words is apart says passes short = record {

@@ -9,7 +9,7 @@ use Rattle.mk_core.proofs.EventsAt.{◌and◌}
 use Rattle.mk_script.specs.declared.items.TypeWord.TheVariants.{Number, Pointer}
 use Rattle.mk_script.specs.declared.items.Item.TheVariants.{Heap, TypeLine}
 use Rattle.mk_script.specs.Operands.{field_of, item_from}
-use Rattle.mk_script.proofs.PrintedNumbers.{number_of-decimal}
+use Rattle.mk_script.proofs.PrintedNumbers.{number_of_word-decimal}
 use Rattle.mk_script.proofs.LineWords.{is_solid-decimal, is_word-append}
 use Rattle.mk_check.specs.Typing.{base_of}
 use Rattle.mk_gen.specs.Generated.{node, declarations}
@@ -20,7 +20,7 @@ use Rattle.mk_gen.proofs.ReadBody.{by_words, plain, length-decimal}
 -- `n*K` for K from 1 on, with K = 1 too
 field_of-numbers : (numbers : ℕ) → 1 ≤ numbers → numbers < 2 ^ 64
     → field_of (codes "n*" ++ decimal numbers) ≡ Some (replicate numbers Number)
-field_of-numbers numbers some small = rw (number_of-decimal numbers small) (cond-true _ _ _ (le-leb 1 numbers some))
+field_of-numbers numbers some small = rw (number_of_word-decimal numbers small) (cond-true _ _ _ (le-leb 1 numbers some))
 
 pub declarations_are_read : (numbers : ℕ) → 1 ≤ numbers → numbers ≤ 100
     → AreRead [] (declaration_lines numbers) (declarations numbers)

@@ -15,7 +15,7 @@ use Rattle.mk_script.specs.Scopes.{script_names, open_behind, open_blocks}
 use Rattle.mk_script.specs.Lines.{line_item, is_among}
 use Rattle.mk_script.proofs.Said.{is_word-name}
 use Rattle.mk_script.proofs.PrintedForms.{read_name}
-use Rattle.mk_gen.specs.Draws.{next, draw}
+use Rattle.mk_gen.specs.Draws.{next_state, draw}
 use Rattle.mk_gen.specs.Generated.{script_body, scripts}
 use Rattle.mk_gen.specs.GeneratedText.{body_lines, script_lines}
 use Rattle.mk_gen.proofs.ReadLines.{IsRead, AreRead, AreRead-append}
@@ -98,10 +98,10 @@ module _ (turns numbers : ℕ) (t : turns < 2 ^ 64) (some : 0 < numbers) (few : 
       → MayBegin before_names names → AreRead before (script_lines turns numbers x names) (scripts turns numbers x names)
   scripts_are_read x [] before_names before ready may = tt
   scripts_are_read x (name ∷ names) before_names before ready may =
-      let number = draw (next x) 1000 in
-      let place = draw (next (next x)) numbers in
-      let behind = next (next x) in
-      let number_small : number < 2 ^ 64 = omega (arith, draw-lt (next x) 1000 (omega arith)) in
+      let number = draw (next_state x) 1000 in
+      let place = draw (next_state (next_state x)) numbers in
+      let behind = next_state (next_state x) in
+      let number_small : number < 2 ^ 64 = omega (arith, draw-lt (next_state x) 1000 (omega arith)) in
       let place_small : place < 2 ^ 64 = omega (arith, draw-lt behind numbers some, few) in
       let script = script_is_read turns number place t number_small place_small before before_names name ready may.0 in
       let ready' = ready_behind turns number place before before_names name ready in

@@ -2,8 +2,8 @@
 use Rattle.std.proofs.Common.{◌≡◌, ℕ, ◌<◌, ◌≤◌, ◌^◌, List, [], ◌++◌, refl, arith, Ok}
 use Rattle.mk_script.specs.declared.items.Item.{Item}
 use Rattle.mk_script.specs.Grammar.{at_end, program_of}
-use Rattle.mk_gen.specs.Draws.{next}
-use Rattle.mk_gen.specs.Generated.{all_names, declarations, scripts, numbers_of, turns_of, generated}
+use Rattle.mk_gen.specs.Draws.{next_state}
+use Rattle.mk_gen.specs.Generated.{all_names, declarations, scripts, numbers_of, turns_of, generated_program}
 use Rattle.mk_gen.specs.GeneratedText.{declaration_lines, script_lines, generated_lines, generated_text}
 use Rattle.mk_gen.proofs.ReadLines.{AreRead, AreRead-append, program_of-lines}
 use Rattle.mk_gen.proofs.ReadDeclarations.{declarations_are_read}
@@ -13,7 +13,7 @@ pub numbers_some : (start : ℕ) → 1 ≤ numbers_of start
 numbers_some start = omega arith
 
 pub numbers_few : (start : ℕ) → numbers_of start ≤ 100
-numbers_few start = omega (arith, draw-lt (next start) 100 (omega arith))
+numbers_few start = omega (arith, draw-lt (next_state start) 100 (omega arith))
 
 declarations_are_ready : (numbers : ℕ) → AreReady (declarations numbers) []
 declarations_are_ready numbers = record { some = refl; names_are = refl; closed = refl }
@@ -40,12 +40,12 @@ module _ (turns numbers x : ℕ) where
   ends = refl
 
 pub program_of-generated_text : (start count : ℕ) → count ≤ 3000000
-    → program_of (generated_text start count) ≡ Ok (generated start count)
-unfolding generated generated_text lines items
+    → program_of (generated_text start count) ≡ Ok (generated_program start count)
+unfolding generated_program generated_text lines items
 program_of-generated_text start count most =
-    program_of-lines (generated_lines start count) (generated start count)
-    (lines_are_read (turns_of count) (numbers_of start) (next start) (omega (arith, most))
+    program_of-lines (generated_lines start count) (generated_program start count)
+    (lines_are_read (turns_of count) (numbers_of start) (next_state start) (omega (arith, most))
     (numbers_some start) (numbers_few start))
-    (ends (turns_of count) (numbers_of start) (next start))
+    (ends (turns_of count) (numbers_of start) (next_state start))
     refl
     refl

@@ -8,10 +8,10 @@ use Rattle.mk_script.specs.declared.items.TypeWord.TheVariants.{Number}
 use Rattle.mk_script.specs.Scopes.{this_script}
 use Rattle.mk_check.specs.Blocks.{before_next_script, blocks_from}
 use Rattle.mk_check.specs.Lengths.{length_of}
-use Rattle.mk_check.specs.Typing.{Around, is_short, pointers_have_types, pointers_are_inside, typing_fault, fault_from, IsWellTyped}
+use Rattle.mk_check.specs.Typing.{Around, length_fault, pointers_fault, offsets_fault, typing_fault, fault_from, IsWellTyped}
 use Rattle.mk_check.proofs.LookupLemmas.{this_script-push}
-use Rattle.mk_gen.specs.Draws.{next, draw}
-use Rattle.mk_gen.specs.Generated.{all_names, declarations, script_body, scripts, numbers_of, turns_of, generated}
+use Rattle.mk_gen.specs.Draws.{next_state, draw}
+use Rattle.mk_gen.specs.Generated.{all_names, declarations, script_body, scripts, numbers_of, turns_of, generated_program}
 use Rattle.mk_gen.proofs.ReadScripts.{draw-lt}
 use Rattle.mk_gen.proofs.ReadText.{numbers_some}
 use Rattle.mk_gen.proofs.TypedLines.{go_on, typed_then}
@@ -27,8 +27,8 @@ none_before_scripts : (turns numbers x : ℕ) (names : List (List ℕ))
 none_before_scripts turns numbers x [] = refl
 none_before_scripts turns numbers x (name ∷ names) = refl
 
-is_short-none : (count : ℕ) → count ≤ 1000000 → is_short count ≡ None
-is_short-none count small = rw (le-leb count 1000000 small) refl
+length_fault-none : (count : ℕ) → count ≤ 1000000 → length_fault count ≡ None
+length_fault-none count small = rw (le-leb count 1000000 small) refl
 
 -- the first line of a script
 first_is_typed : (a : Around) (line turns number place : ℕ) (more : List Item) (name : List ℕ) → turns ≤ 62500
@@ -37,7 +37,7 @@ first_is_typed : (a : Around) (line turns number place : ℕ) (more : List Item)
 first_is_typed a line turns number place more name few none =
     let short : length_of (blocks_from (line + 1) (script_body turns number place)) ≤ 1000000 =
     omega (arith, body_is_short (line + 1) turns number place few) in
-    rw none (is_short-none (length_of (blocks_from (line + 1) (script_body turns number place))) short)
+    rw none (length_fault-none (length_of (blocks_from (line + 1) (script_body turns number place))) short)
 
 module _ (turns numbers : ℕ) (rest : List Item) (few : turns ≤ 62500) (some : 0 < numbers) where
   program : List Item
@@ -48,8 +48,8 @@ module _ (turns numbers : ℕ) (rest : List Item) (few : turns ≤ 62500) (some 
   unfolding program
   scripts_are_typed [] x line before = refl
   scripts_are_typed (name ∷ names) x line before =
-      let number = draw (next x) 1000 in
-      let behind = next (next x) in
+      let number = draw (next_state x) 1000 in
+      let behind = next_state (next_state x) in
       let place = draw behind numbers in
       let more = scripts turns numbers behind names in
       let around : Around = record { program = program; script = this_script before } in
@@ -59,11 +59,11 @@ module _ (turns numbers : ℕ) (rest : List Item) (few : turns ≤ 62500) (some 
       (this_script-push before (Script name)) (body_is_typed numbers turns number place rest (draw-lt behind numbers some))
       (λ later. scripts_are_typed names behind later ((before ++ Script name ∷ []) ++ script_body turns number place)))
 
-numbers_have_types : (a : Around) (count : ℕ) → pointers_have_types a (replicate count Number) ≡ None
+numbers_have_types : (a : Around) (count : ℕ) → pointers_fault a (replicate count Number) ≡ None
 numbers_have_types a zero = refl
 numbers_have_types a (suc more) = numbers_have_types a more
 
-numbers_are_inside : (a : Around) (count : ℕ) → pointers_are_inside a (replicate count Number) ≡ None
+numbers_are_inside : (a : Around) (count : ℕ) → offsets_fault a (replicate count Number) ≡ None
 numbers_are_inside a zero = refl
 numbers_are_inside a (suc more) = numbers_are_inside a more
 
@@ -72,11 +72,11 @@ declarations_are_typed : (numbers : ℕ) (rest : List Item)
     → IsWellTyped (declarations numbers ++ rest)
 declarations_are_typed numbers rest none = rw (numbers_have_types _ numbers, numbers_are_inside _ numbers) none
 
-pub generated_is_well_typed : (start count : ℕ) → count ≤ 3000000 → IsWellTyped (generated start count)
-unfolding generated program
+pub generated_is_well_typed : (start count : ℕ) → count ≤ 3000000 → IsWellTyped (generated_program start count)
+unfolding generated_program program
 generated_is_well_typed start count most =
     let numbers = numbers_of start in
-    let rest = scripts (turns_of count) numbers (next start) all_names in
+    let rest = scripts (turns_of count) numbers (next_state start) all_names in
     declarations_are_typed numbers rest
     (scripts_are_typed (turns_of count) numbers rest (omega (arith, most)) (omega (arith, numbers_some start))
-    all_names (next start) 5 (declarations numbers))
+    all_names (next_state start) 5 (declarations numbers))

@@ -3,9 +3,10 @@ use Rattle.std.specs.Prelude.{ℕ, ◌+◌, ◌/◌, List, [], ◌∷◌, ◌++�
 use lib.Chars.{codes}
 use Rattle.mk_script.specs.declared.items.TypeWord.TheVariants.{Number, Pointer}
 use Rattle.mk_script.specs.declared.items.Item.{Item}
-use Rattle.mk_script.specs.declared.items.Item.TheVariants.{Heap, TypeLine, Global, Script, Ptr, Num, New, Free, Getn, Setn, Setp, Clear, Loadg, Storeg, Const, Repeat, End}
+use Rattle.mk_script.specs.declared.items.Item.TheVariants.{Heap, TypeLine, Global, Script, Ptr, Num, New, Free, Getn}
+use Rattle.mk_script.specs.declared.items.Item.TheVariants.{Setn, Setp, Clear, Loadg, Storeg, Const, Repeat, End}
 use Rattle.mk_check.specs.Typing.{base_of}
-use Rattle.mk_gen.specs.Draws.{next, draw}
+use Rattle.mk_gen.specs.Draws.{next_state, draw}
 
 -- The names of the types, the registers, the global and the scripts.
 
@@ -77,18 +78,18 @@ script_body turns number place =
 abbrev pub scripts : ℕ → ℕ → ℕ → List (List ℕ) → List Item
 scripts turns numbers x [] = []
 scripts turns numbers x (name ∷ names) =
-    (Script name ∷ script_body turns (draw (next x) 1000) (draw (next (next x)) numbers))
-    ++ scripts turns numbers (next (next x)) names
+    (Script name ∷ script_body turns (draw (next_state x) 1000) (draw (next_state (next_state x)) numbers))
+    ++ scripts turns numbers (next_state (next_state x)) names
 
 -- the numbers of a Buf, which are drawn first
 abbrev pub numbers_of : ℕ → ℕ
-numbers_of start = 1 + draw (next start) 100
+numbers_of start = 1 + draw (next_state start) 100
 
 -- the turns of each script
 abbrev pub turns_of : ℕ → ℕ
 turns_of count = count / 48
 
 -- the program
-unfoldable pub generated : ℕ → ℕ → List Item
-generated start count =
-    declarations (numbers_of start) ++ scripts (turns_of count) (numbers_of start) (next start) all_names
+unfoldable pub generated_program : ℕ → ℕ → List Item
+generated_program start count =
+    declarations (numbers_of start) ++ scripts (turns_of count) (numbers_of start) (next_state start) all_names

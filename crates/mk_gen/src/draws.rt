@@ -1,6 +1,6 @@
 //! Draws.
 ghost use Rattle.std.specs.Prelude.{◌≡◌, ◌<◌};
-ghost use Rattle.mk_gen.specs.Draws.{next, draw};
+ghost use Rattle.mk_gen.specs.Draws.{next_state, draw};
 
 use std::marker::Model;
 
@@ -29,8 +29,8 @@ impl Draws {
     /// A draw below m.
     pub fn below(&mut self, m: u64) -> u64
         requires { 0 < m }
-        ensures state { self.new ≡ next self.old }
-        ensures drawn { result ≡ draw (next self.old) m }
+        ensures state { self.new ≡ next_state self.old }
+        ensures drawn { result ≡ draw (next_state self.old) m }
         ensures below { result < m }
     {
         self.state = self

@@ -1,6 +1,6 @@
 //! The programs of the generator.
 ghost use Rattle.std.specs.Prelude.{◌≡◌, ◌≤◌, IfOk};
-ghost use Rattle.mk_gen.specs.Generated.{generated};
+ghost use Rattle.mk_gen.specs.Generated.{generated_program};
 
 use crate::text::generated_text;
 use mk_check::{Checked, TypeStop, check};
@@ -12,7 +12,7 @@ use std::alloc::Global;
 /// where memory runs out.
 pub fn generate(alloc: Global, start: u64, count: u64) -> Result<Checked, NoMemory>
     requires { count ≤ 3000000 }
-    ensures { IfOk result (λ checked. checked ≡ generated start count) }
+    ensures { IfOk result (λ checked. checked ≡ generated_program start count) }
 {
     let text = generated_text(alloc, start, count)?;
     let program = match parse(alloc, text.as_bytes()) {

@@ -2,24 +2,24 @@
 ghost use Rattle.std.specs.Prelude.{ℕ, ◌≡◌, ◌≤◌, Ok};
 ghost use Rattle.mk_script.specs.Grammar.{program_of};
 ghost use Rattle.mk_check.specs.Laws.{IsChecked, IsScript};
-ghost use Rattle.mk_gen.specs.Generated.{numbers_of, turns_of, generated};
+ghost use Rattle.mk_gen.specs.Generated.{numbers_of, turns_of, generated_program};
 ghost use Rattle.mk_gen.specs.GeneratedText.{generated_text};
 ghost use Rattle.mk_gen.specs.Laws.{DeclaresNodes, MakesTurns};
 
 /// The generated text is a text of the generated program, which is well typed.
 pub fn generated_programs_are_checked()
     ensures text { (start count : ℕ) → count ≤ 3000000
-        → program_of (generated_text start count) ≡ Ok (generated start count) }
-    ensures checked { (start count : ℕ) → count ≤ 3000000 → IsChecked (generated start count) }
+        → program_of (generated_text start count) ≡ Ok (generated_program start count) }
+    ensures checked { (start count : ℕ) → count ≤ 3000000 → IsChecked (generated_program start count) }
 {}
 
 /// What a generated program declares.
 pub fn generated_programs_declare_nodes()
-    ensures { (start count : ℕ) → DeclaresNodes (generated start count) (numbers_of start) }
+    ensures { (start count : ℕ) → DeclaresNodes (generated_program start count) (numbers_of start) }
 {}
 
 /// A script that has ended has made all calls of its turns.
 pub fn generated_scripts_make_their_turns()
-    ensures { (start count k : ℕ) → IsScript (generated start count) k
-        → MakesTurns (generated start count) k (turns_of count) }
+    ensures { (start count k : ℕ) → IsScript (generated_program start count) k
+        → MakesTurns (generated_program start count) k (turns_of count) }
 {}

@@ -12,15 +12,12 @@ use std::alloc::Global;
 fn declarations(alloc: Global, numbers: u64) -> Result<String, NoMemory>
     ensures { IfOk result (λ text. string_bytes text ≡ text_of_lines (declaration_lines numbers)) }
 {
-    let Ok(text) = format!(in alloc;
+    Ok(format!(in alloc;
         "heap 256 256\n\
          type Node n p:Node\n\
          type Buf n*{numbers}\n\
          global g Node\n"
-    ) else {
-        return Err(NoMemory);
-    };
-    Ok(text)
+    )?)
 }
 
 /// Appends a script of so many turns, with a number for the node and a place in the buffer.
@@ -34,7 +31,7 @@ fn push_script(
     ensures { OnOk result (string_bytes text.new
         ≡ string_bytes text.old ++ text_of_lines ((codes "script " ++ name.now) ∷ body_lines turns number place)) }
 {
-    let written = write!(
+    Ok(write!(
         text,
         "script {name}\n\
          ptr p Node\n\
@@ -57,11 +54,7 @@ fn push_script(
          setp p 1 z\n\
          free p\n\
          end\n"
-    );
-    match written {
-        Ok(()) => Ok(()),
-        Err(_) => Err(NoMemory),
-    }
+    )?)
 }
 
 /// The text that the draws of START make, with as many turns as COUNT has 48s.

@@ -15,7 +15,7 @@ use Rattle.mk_words.specs.Seats.{Has, HasAll}
 use Rattle.mk_words.specs.States.{WordsState, PassState, now_of}
 use Rattle.mk_words.proofs.Seats.{has_all, has_either, has_left, only_one, without_keeps, without_less}
 use Rattle.mk_caller.specs.States.{IsIdleCaller}
-use Rattle.mk_heap.specs.Hosts.{HostState, host_of, IsWholeHost, pass_for, first_host, with_caller_made, with_marker_made, with_joined, AllAreJoined, Rests, IsDone, IsHost}
+use Rattle.mk_heap.specs.Hosts.{HostState, host_of, IsWholeHost, pass_for, first_host, with_caller_made, with_caller_out, with_marker_made, with_joined, AllAreJoined, Rests, IsDone, IsHost}
 use Rattle.mk_heap.proofs.Joining.{still_rests, still_no_turn}
 
 all_same : {A : Type 0} (n k : ℕ) (x : A) → get_or (replicate n x) k x ≡ x
@@ -49,6 +49,17 @@ caller_made_is_host h is =
           without_keeps (Caller h.callers) h.pass.seats (Caller k) (ne_eqb h.callers k (λ e. omega arith))
           (is.callers k (omega arith) lt);
       markers = λ k le lt. without_keeps (Caller h.callers) h.pass.seats (Marker k) refl (is.markers k le lt);
+    }
+
+pub caller_out_is_host : (h : HostState) (k : ℕ) → k < h.callers → IsHost h → IsHost (with_caller_out h k)
+caller_out_is_host h k made is =
+    record {
+      seat = is.seat;
+      no_turn = is.no_turn;
+      rests = λ s has. is.rests s (without_less (Caller k) h.pass.seats s has);
+      callers = λ j le lt.
+          without_keeps (Caller k) h.pass.seats (Caller j) (ne_eqb k j (λ e. omega arith)) (is.callers j le lt);
+      markers = λ j le lt. without_keeps (Caller k) h.pass.seats (Marker j) refl (is.markers j le lt);
     }
 
 pub marker_made_is_host : (h : HostState) → IsHost h → IsHost (with_marker_made h)
@@ -104,6 +115,11 @@ next_is_idle h is lt =
       seat = refl;
       rest = (is.rests (Caller h.callers) (is.callers h.callers (omega arith) lt)).call;
     }
+
+-- Nor has a caller that was joined.
+pub joined_is_idle : (h : HostState) (k : ℕ) → IsHost h → Has h.pass.seats (Caller k) → IsIdleCaller (pass_for h (Caller k))
+joined_is_idle h k is joined =
+    record { caller = k; seat = refl; rest = (is.rests (Caller k) joined).call }
 
 -- What a host is whose pass is home.
 

@@ -34,6 +34,10 @@ abbrev pub with_caller_made : HostState → HostState
 with_caller_made h =
     record { pass = pass_without h (Caller h.callers); callers = h.callers + 1; markers = h.markers }
 
+-- A caller that was joined is out again.
+abbrev pub with_caller_out : HostState → ℕ → HostState
+with_caller_out h k = record h { pass = pass_without h (Caller k) }
+
 abbrev pub with_marker_made : HostState → HostState
 with_marker_made h =
     record { pass = pass_without h (Marker h.markers); callers = h.callers; markers = h.markers + 1 }

@@ -1,13 +1,15 @@
 //! The host: it makes callers and markers, and joins them.
 ghost use Rattle.std.specs.Prelude.{◌≡◌, ◌<◌, [], ◌∷◌, true, false};
+ghost use Rattle.mk_core.specs.Counts.{IsTidy};
 ghost use Rattle.mk_core.specs.Growing.{Grows};
+ghost use Rattle.mk_core.specs.History.{IsHistory};
 ghost use Rattle.mk_core.specs.declared.events.Seat.TheVariants as seat;
-ghost use Rattle.mk_words.specs.Seats.{has_over};
+ghost use Rattle.mk_words.specs.Seats.{Has, has_over};
 ghost use Rattle.mk_core.specs.Ranges.{is_word};
 ghost use Rattle.mk_caller.specs.States.{at_home, IsIdleCaller};
 ghost use Rattle.mk_marker.specs.Markers.{IsMarkers, IsOut};
 ghost use Rattle.mk_turns.specs.Sweeping.{SweepsNothing};
-ghost use Rattle.mk_heap.specs.Hosts.{pass_for, with_caller_made, with_marker_made, with_joined, with_seen};
+ghost use Rattle.mk_heap.specs.Hosts.{pass_for, with_caller_made, with_caller_out, with_marker_made, with_joined, with_seen};
 ghost use Rattle.mk_heap.specs.Turns.{is_register, Tells};
 
 use crate::heaps::Heap;
@@ -38,6 +40,18 @@ impl Model for Host {
 }
 
 impl Host {
+    /// What holds of every host. It does nothing.
+    pub fn is_in_order(&self)
+        ensures seat { self.now.pass.seat ≡ seat.Host }
+        ensures history { IsHistory self.now.pass.table.config self.now.pass.seen }
+        ensures tidy { IsTidy self.now.pass.table.config self.now.pass.seen }
+    {
+        match &self.pass {
+            Some(home) => home.is_in_order(),
+            None => unreachable!(),
+        }
+    }
+
     /// The next caller. None is made behind an `over`.
     pub fn caller<'h>(&mut self, heap: &'h Heap) -> Caller<'h>
         requires one_table { self.old.pass.table ≡ heap.now }
@@ -52,6 +66,25 @@ impl Host {
             Some(home) => {
                 let pass = Words::split(words, home, Seat::Caller(self.callers));
                 self.callers += 1;
+                Caller::new(words, pass)
+            }
+            None => unreachable!(),
+        }
+    }
+
+    /// A caller that was joined, for more calls. It has seen all that the host has.
+    pub fn caller_again<'h>(&mut self, heap: &'h Heap, caller: u64) -> Caller<'h>
+        requires one_table { self.old.pass.table ≡ heap.now }
+        requires made { caller < self.old.callers }
+        requires joined { Has self.old.pass.seats (seat.Caller caller) }
+        requires before_over { has_over self.old.pass.seen ≡ false }
+        ensures host { self.new ≡ with_caller_out self.old caller }
+        ensures caller { result ≡ at_home (pass_for self.old (seat.Caller caller)) }
+    {
+        let words = &heap.words;
+        match &mut self.pass {
+            Some(home) => {
+                let pass = Words::split(words, home, Seat::Caller(caller));
                 Caller::new(words, pass)
             }
             None => unreachable!(),

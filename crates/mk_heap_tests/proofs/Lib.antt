@@ -1,0 +1,5 @@
+mod Registers
+pub mod NullCalls
+pub mod JoinedHosts
+pub mod HeldObjects
+pub mod NewTurns

@@ -55,6 +55,7 @@ settling_follows (step.Tally n v) h = refl
 settling_follows _ h = cc
 
 pub clearing_follows : AreAmong is_clearing is_following
+clearing_follows (step.Look x) h = refl
 clearing_follows (step.Head p v) h = refl
 clearing_follows (step.Wipe n) h = refl
 clearing_follows _ h = cc

@@ -183,6 +183,11 @@ module _ (c : Config) (m : Moment) (s : Seat) (at : IsActing c m s) where
       (or_right (not (is_unmapped_header (header_of v))) _ held) (low_or_more (phase_of m.words) 4 low) refl
       (rw (off_four m low) (or_right (carves m.words (object_made c (flight_of m s).op) (place_now c m (flight_of m s)) p v) _ unmap))
 
+  pub may_look_heap : (n : ℕ) → n < 64 * c.pages → IsEnabled c m (record { seat = s; step = step.Look (word.Heap n) })
+  may_look_heap n within =
+      may_by (step.Look (word.Heap n)) refl (order_of_acting c m s (step.Look (word.Heap n)) at.acts refl)
+      (lt-ltb n (64 * c.pages) within) refl refl refl refl
+
   pub may_wipe : (n : ℕ) → n < 64 * c.pages → is_in_gone_run m.words m.seats.holding.freed n ≡ true
       → IsEnabled c m (record { seat = s; step = step.Wipe n })
   may_wipe n within gone =

@@ -1,15 +1,16 @@
 -- What the pages that were looked at tell of the place of a small object.
-use Rattle.std.proofs.Common.{◌≡◌, ◌≢◌, ℕ, ◌+◌, ◌<◌, ◌≤◌, Bool, true, false, not, ◌&&◌, nat_eq, List, [], length, get_or, zero-add, refl, sym, ap, ◌∙◌, inl, inr, arith}
+use Rattle.std.proofs.Common.{◌≡◌, ◌≢◌, ℕ, ◌+◌, ◌-◌, ◌<◌, ◌≤◌, Bool, true, false, not, ◌&&◌, nat_eq, List, [], length, drop, get_or, zero-add, refl, sym, ap, ◌∙◌, inl, inr, arith}
 use Rattle.std.specs.Prelude.{Option, Some, None, option_map, nat_le, nat_lt, if◌then◌else◌, slice_index_or}
 use Rattle.std.specs.Option.{option_or}
-use Rattle.std.proofs.lemmas.Bool.{cases_eq, ne_eqb}
+use Rattle.std.proofs.lemmas.Bool.{cases_Bool, cases_eq, le-leb, leb-true, ne_eqb}
 use Rattle.mk_geom.specs.declared.headers.Header.{Header}
 use Rattle.mk_geom.specs.declared.headers.Header.TheVariants.{Block, Free, Later, LeafBlock, LeafRun, Run}
 use Rattle.mk_geom.specs.declared.pages.Page.{Page}
 use Rattle.mk_geom.specs.declared.pages.Place.{Place}
 use Rattle.mk_geom.specs.Classes.{cells_of}
 use Rattle.mk_geom.specs.Headers.{header_of, word_of}
-use Rattle.std.proofs.lemmas.List.{at_drop_all, at_drop_more}
+use Rattle.std.proofs.lemmas.List.{at_drop_all, at_drop_more, length-drop, length-map}
+use Rattle.std.proofs.lemmas.List.Sums.{count_by-le-length}
 use Rattle.mk_geom.specs.PageUses.{Cells, carved, cell_place, cells_taken, first_where, is_free_page, is_resident_page, is_same_sort, large_place, or_else, range_start, resident_pages, small_place}
 use Rattle.mk_geom.specs.PageWords.{bits_of, use_of_page, use_under, uses_of_pages}
 use Rattle.mk_geom.specs.Storages.{block_header, free_page}
@@ -203,6 +204,43 @@ ranged_none t count some =
       short = λ none. omega (arith, some);
       starts = more_none (range_start count (uses_of_pages pages));
     }
+
+few_left : (n : ℕ) (pages : List Page) → n ≤ length pages → resident_from n pages + n ≤ length pages
+few_left n pages within =
+    let few : resident_from n pages ≤ length (uses_of_pages (drop n pages)) =
+    count_by-le-length is_resident_page (uses_of_pages (drop n pages)) in
+    let long : length (uses_of_pages (drop n pages)) ≡ length pages - n =
+    length-map (drop n pages) use_of_page ∙ length-drop n pages in
+    omega (arith, few, long, within)
+
+-- A range was found, and all pages from one on may be resident with it.
+pub place_at_once : (limit count resident range n : ℕ) (first : Option ℕ) (place : Place) (pages : List Page) → n ≤ length pages
+    → resident + resident_from n pages ≡ resident_pages (uses_of_pages pages)
+    → option_or first (range_start_from range count pages) ≡ range_start count (uses_of_pages pages)
+    → (if nat_le (resident + (length pages - n) + count) limit then option_map carved first else None) ≡ Some place
+    → Some place ≡ large_place limit count (uses_of_pages pages)
+place_at_once limit count resident range n first place pages within counted starts settled =
+    elim (cases_Bool (nat_le (resident + (length pages - n) + count) limit)) [
+      | inl fits ↦
+          let less = leb-true (resident + (length pages - n) + count) limit fits in
+          let all : nat_le (resident_pages (uses_of_pages pages) + count) limit ≡ true =
+          le-leb _ _ (omega (arith, less, counted, few_left n pages within)) in
+          let found : option_map carved first ≡ Some place = sym (ap (λ b. if b then option_map carved first else None) fits) ∙ settled in
+          by first found all starts
+      | inr tight ↦ absurd (none_is (sym (ap (λ b. if b then option_map carved first else None) tight) ∙ settled))
+    ]
+  where
+    none_is : None ≡ Some place → ⊥
+    none_is e = cc
+
+    by : (o : Option ℕ) → option_map carved o ≡ Some place → nat_le (resident_pages (uses_of_pages pages) + count) limit ≡ true
+        → option_or o (range_start_from range count pages) ≡ range_start count (uses_of_pages pages)
+        → Some place ≡ large_place limit count (uses_of_pages pages)
+    by None found all start = cc
+    by (Some k) found all start =
+        sym found
+        ∙ ap (option_map carved) start
+        ∙ sym (ap (λ b. if b then option_map carved (range_start count (uses_of_pages pages)) else None) all)
 
 -- All were looked at.
 pub place_of_range : (limit count resident range n : ℕ) (first : Option ℕ) (pages : List Page) → length pages ≡ n → range ≤ n

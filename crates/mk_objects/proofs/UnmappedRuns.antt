@@ -1,17 +1,28 @@
 -- The pages of a run are unmapped one after the other, and then its words are wiped.
-use Rattle.std.proofs.Common.{◌≡◌, ℕ, ◌+◌, ◌-◌, ◌*◌, ◌/◌, ◌<◌, ◌≤◌, true, false, List, [], length, refl, sym, ◌∙◌, ap}
+use Rattle.std.proofs.Common.{◌≡◌, ℕ, zero, suc, ◌+◌, ◌-◌, ◌*◌, ◌/◌, ◌<◌, ◌≤◌, Bool, true, false, List, [], length, refl, sym, ◌∙◌, ap}
 use Rattle.std.proofs.Common.{subst, inl, inr, arith}
 use Rattle.std.specs.Prelude.{◌||◌, ◌==◌, nat_le, nat_lt, Option, Some, None, if◌then◌else◌, slice_index}
-use Rattle.std.specs.Prelude.{slice_index_or, slice_set}
-use Rattle.std.proofs.lemmas.Bool.{and_from, cases_eq, eq-eqb, le-leb, lt-ltb}
+use Rattle.std.specs.Prelude.{option_and_then, slice_index_or, slice_set}
+use Rattle.std.proofs.lemmas.Bool.{and_from, cases_eq, eq-eqb, eqb-true, le-leb, lt-ltb}
 use Rattle.std.proofs.lemmas.List.{get_or-set_other, get_or-set_same}
+use Rattle.std.proofs.lemmas.Option.{same_Some}
 use Rattle.mk_never.specs.declared.operations.Op.{Op}
+use Rattle.mk_geom.specs.declared.addresses.Cell.{Cell}
+use Rattle.mk_geom.specs.declared.headers.Header.{Header}
+use Rattle.mk_geom.specs.declared.headers.Header.TheVariants.{Later, Run}
 use Rattle.mk_geom.specs.declared.pages.Page.{Page}
-use Rattle.mk_geom.specs.Storages.{free_page}
+use Rattle.mk_geom.specs.Addresses.{address_of, cell_under, is_heap_address, page_at_address, run_of_page, word_at_address}
+use Rattle.mk_geom.specs.Headers.{header_of}
+use Rattle.mk_geom.specs.PageUses.{or_else}
+use Rattle.mk_geom.specs.Storages.{free_page, run_header}
+use Rattle.mk_geom.proofs.Bridge.{run_in_range}
+use Rattle.mk_geom.proofs.HeaderLemmas.{header_of-word_of}
 use Rattle.mk_core.specs.declared.config.Config.{Config}
 use Rattle.mk_core.specs.declared.events.Seat.{Seat}
 use Rattle.mk_core.specs.declared.events.Step.TheVariants as step
+use Rattle.mk_core.specs.declared.events.Word.TheVariants as word
 use Rattle.mk_core.specs.declared.seats.Flight.{Flight}
+use Rattle.mk_core.specs.declared.seats.Hand.{Hand}
 use Rattle.mk_core.specs.declared.seats.Holding.{Holding}
 use Rattle.mk_core.specs.declared.seats.Placing.{Placing}
 use Rattle.mk_core.specs.declared.seats.Placing.TheVariants.{Unplaced}
@@ -19,28 +30,28 @@ use Rattle.mk_core.specs.declared.seats.RunPages.{RunPages}
 use Rattle.mk_core.specs.declared.seats.Stage.{Stage}
 use Rattle.mk_core.specs.declared.seats.Stage.TheVariants as stage
 use Rattle.mk_core.specs.Bounded.{all_below}
-use Rattle.mk_core.specs.Cells.{is_in_run}
-use Rattle.mk_core.specs.Effects.{chosen}
+use Rattle.mk_core.specs.Cells.{has_no_pointers, header_in, is_in_run, pointed_cell}
+use Rattle.mk_core.specs.Effects.{chosen, hand_given, hand_of_cell, is_in_stop}
 use Rattle.mk_core.specs.Frames.{HoldsAll, Steady, Written, steady_of, written_of}
 use Rattle.mk_core.specs.History.{IsHistory, World, left, world_behind}
 use Rattle.mk_core.specs.Moments.{Moment, flight_of, is_held, is_number_of, is_phase, others_are_held}
 use Rattle.mk_core.specs.NewPlaces.{is_new_at, is_run_unmapped, is_undecided_new, stands, unmapped_header}
 use Rattle.mk_core.specs.Readings.{Holds}
 use Rattle.mk_core.specs.TurnConditions.{is_in_gone_run, place_now, unmaps}
-use Rattle.mk_core.specs.Words.{header_at, phase_of}
+use Rattle.mk_core.specs.Words.{Words, header_at, phase_of}
 use Rattle.mk_core.proofs.AllBelow.{all_below-at}
 use Rattle.mk_frames.proofs.Tests.{all_below_from}
 use Rattle.mk_words.specs.Seats.{Has}
 use Rattle.mk_words.specs.States.{PassState, call_of, now_of, world_of}
-use Rattle.mk_words.specs.Steps.{IsEnabledTo}
+use Rattle.mk_words.specs.Steps.{Finds, IsEnabledTo}
 use Rattle.mk_words.specs.TurnSteps.{Acts, IsTurn}
 use Rattle.mk_objects.specs.FreeParts.{Changes, RunIsUnmapped, RunIsWiped, Unmaps, Wipes, is_clearing}
 use Rattle.mk_objects.specs.Looking.{is_acting}
 use Rattle.mk_objects.specs.Placing.{IsOutOfStop, Reaches}
 use Rattle.mk_objects.specs.Unchanged.{IsAsLeft}
 use Rattle.mk_objects.specs.Unmapping.{IsStillMapped, UnmappedTo, WipedTo}
-use Rattle.mk_objects.proofs.Looks.{acting_caller, acting_now}
-use Rattle.mk_objects.proofs.MayAct.{IsActing, may_unmap, may_wipe, off_four}
+use Rattle.mk_objects.proofs.Looks.{acting_caller, acting_now, found_there}
+use Rattle.mk_objects.proofs.MayAct.{IsActing, may_look_heap, may_unmap, may_wipe, off_four}
 use Rattle.mk_objects.proofs.Reaching.{reaches_nothing, reaches_still, reaches_still_in_stop}
 use Rattle.mk_objects.proofs.ReachedParts.{reached_there, reaches_so}
 use Rattle.mk_objects.proofs.Serves.{out_of_stop}
@@ -202,6 +213,108 @@ module _ (p : PassState) (o : Option Op) (run : RunPages) (turn : IsTurn p o) (g
 
 -- the words
 
+-- What the address of a word of an unmapped run points into has no pointers.
+
+unmapped_at : (w : Words) (run : RunPages) (d : ℕ) → is_run_unmapped w run ≡ true → run.count ≤ 64 → d < run.count
+    → header_of (header_at w (run.page + d)) ≡ Some (run_header run.count false false d)
+unmapped_at w run d unmapped few lt =
+    ap header_of (eqb-true _ _ (all_below-at run.count d (stands w run.page (unmapped_header run.count)) unmapped lt))
+    ∙ header_of-word_of (run_header run.count false false d)
+    (run_in_range run.count false false d (omega (arith, lt)) few (omega (arith, lt, few)))
+
+cell_tested : (b : Bool) (x cell : Cell) → (if b then Some x else None) ≡ Some cell → x.page ≡ cell.page
+cell_tested true x cell e = ap (λ (y : Cell). y.page) (same_Some _ _ e)
+cell_tested false x cell e = cc
+
+cell_tested_twice : (a b : Bool) (x cell : Cell) → (if a then (if b then Some x else None) else None) ≡ Some cell
+    → x.page ≡ cell.page
+cell_tested_twice true b x cell e = cell_tested b x cell e
+cell_tested_twice false b x cell e = cc
+
+-- It is the run's head.
+cell_is_head : (head : ℕ) (count pages page word d : ℕ) (b : Bool) (cell : Cell) → page ≡ head + d
+    → (if b then cell_under (run_header count false false d) page word else None) ≡ Some cell → cell.page ≡ head
+cell_is_head head count pages page word zero b cell at e =
+    let x = cell_tested b (run_of_page (Run count false) page) cell e in
+    let there : page ≡ head = omega (arith, at) in
+    sym x ∙ there
+cell_is_head head count pages page word (suc d) b cell at e =
+    let x = cell_tested_twice b (nat_le (suc d) page) (run_of_page (Later (suc d) false) page) cell e in
+    let there : page - suc d ≡ head = omega (arith, at) in
+    sym x ∙ there
+
+gone_cell : (w : Words) (run : RunPages) (pages address d : ℕ) (cell : Cell) → is_run_unmapped w run ≡ true
+    → run.count ≤ 64 → d < run.count → page_at_address address ≡ run.page + d
+    → pointed_cell pages w.pages address ≡ Some cell → has_no_pointers (header_in w cell.page) ≡ true
+unfolding pointed_cell
+gone_cell w run pages address d cell unmapped few near at is =
+    let header : Some (run_header run.count false false d) ≡ header_of (header_at w (page_at_address address)) =
+    sym (unmapped_at w run d unmapped few near) ∙ ap (λ (i : ℕ). header_of (header_at w i)) (sym at) in
+    let under : (if is_heap_address pages address
+    then cell_under (run_header run.count false false d) (page_at_address address) (word_at_address address) else None)
+    ≡ Some cell =
+    ap (λ (x : Option Header). if is_heap_address pages address
+    then option_and_then (λ h. cell_under h (page_at_address address) (word_at_address address)) x else None) header ∙ is in
+    let head = cell_is_head run.page run.count pages (page_at_address address) (word_at_address address) d
+    (is_heap_address pages address) cell at under in
+    let first : cell.page ≡ run.page + 0 = omega (arith, head) in
+    ap (λ (i : ℕ). has_no_pointers (header_of (header_at w i))) first
+    ∙ ap has_no_pointers (unmapped_at w run 0 unmapped few (omega (arith, near)))
+
+-- A look at such a word gives no hand.
+no_hand : (c : Config) (m : Moment) (s : Seat) (run : RunPages) (n value : ℕ) → is_run_unmapped m.words run ≡ true
+    → run.count ≤ 64 → n < 64 * run.count → hand_given c m s (word.Heap (64 * run.page + n)) value ≡ None
+no_hand c m s run n value unmapped few near =
+    by (pointed_cell c.pages m.words.pages (address_of (64 * run.page + n)))
+    (λ cell is. gone_cell m.words run c.pages (address_of (64 * run.page + n)) (n / 64) cell unmapped few (omega (arith, near))
+    (omega arith) is)
+  where
+    by : (x : Option Cell) → ((cell : Cell) → x ≡ Some cell → has_no_pointers (header_in m.words cell.page) ≡ true)
+        → option_and_then (λ (cell : Cell). hand_of_cell m.words (is_in_stop c.callers m.words s) m.seats.holding.placing
+        cell value) x ≡ None
+    by None none = refl
+    by (Some cell) none = rw (none cell refl) refl
+
+wiped_left : (s : Seat) (run : RunPages) (w u v : World) (n : ℕ) → WipedTo s run w u n → IsAsLeft s u v
+    → written_of v ≡ written_of u → WipedTo s run w v n
+wiped_left s run w u v n at kept stop =
+    record {
+      changes = record {
+        call = kept.call ∙ at.changes.call;
+        holding = kept.holding ∙ at.changes.holding;
+        steady = kept.steady ∙ at.changes.steady;
+        gates = λ j. kept.gates j ∙ at.changes.gates j;
+      };
+      zeros = λ i lt. ap (λ (x : Written). slice_index x.heap (64 * run.page + i)) stop ∙ at.zeros i lt;
+    }
+
+wiped_seen : (c : Config) (s : Seat) (run : RunPages) (w v : World) (n k : ℕ) → WipedTo s run w v n → HasCall c v.now s
+    → ((value : ℕ) → hand_given c v.now s (word.Heap k) value ≡ None)
+    → WipedTo s run w (world_behind c v (record { seat = s; step = step.Look (word.Heap k) })) n
+wiped_seen c s run w v n k at (OfCaller j lt) none =
+    record {
+      changes = record {
+        call = call_behind c v.now j (step.Look (word.Heap k)) lt ∙ at.changes.call;
+        holding = ap (λ (x : Option Hand). record v.now.seats.holding { hand = or_else x v.now.seats.holding.hand })
+            (none _) ∙ at.changes.holding;
+        steady = at.changes.steady;
+        gates = at.changes.gates;
+      };
+      zeros = at.zeros;
+    }
+
+-- A word that is 0 already is wiped.
+wiped_already : (s : Seat) (run : RunPages) (w v : World) (n : ℕ) → WipedTo s run w v n
+    → slice_index v.now.words.heap (64 * run.page + n) ≡ 0 → WipedTo s run w v (n + 1)
+wiped_already s run w v n at zero_there =
+    record {
+      changes = at.changes;
+      zeros = λ i le. elim (cases_eq i n) [
+        | inl e ↦ ap (λ j. slice_index v.now.words.heap (64 * run.page + j)) e ∙ zero_there
+        | inr ne ↦ at.zeros i (omega arith)
+      ];
+    }
+
 wiped_more : (c : Config) (s : Seat) (run : RunPages) (w u v : World) (n : ℕ) → WipedTo s run w u n → IsAsLeft s u v
     → HasCall c v.now s
     → written_of v ≡ written_of u → 64 * run.page + n < length v.now.words.heap
@@ -252,6 +365,56 @@ module _ (p : PassState) (o : Option Op) (run : RunPages) (turn : IsTurn p o) (g
       (λ j lt. ap (λ b. is_number_of p.seat j || b) (gates j)
       ∙ all_below-at p.table.config.callers j (λ i. is_number_of p.seat i || is_held (now_of p).words i) stopped lt)
 
+  still_unmapped : (v : World) (n : ℕ) → WipedTo p.seat run (world_of p) v n → is_run_unmapped (now_of p).words run ≡ true
+      → is_run_unmapped v.now.words run ≡ true
+  still_unmapped v n at unmapped =
+      ap (λ (ps : List Page). all_below run.count (λ d. (slice_index_or ps (run.page + d) free_page).header ==
+      unmapped_header run.count d)) (ap (λ (x : Steady). x.pages) at.changes.steady) ∙ unmapped
+
+  pub look_may : (q : PassState) (n : ℕ) → HasWiped q n → n < 64 * run.count → run.page + run.count ≤ p.table.config.pages
+      → IsEnabledTo q (step.Look (word.Heap (64 * run.page + n)))
+  look_may q n reached near within =
+      let at = reached.world in
+      reached_there is_clearing p q _ [] reached (λ (x : PassState). IsEnabledTo x (step.Look (word.Heap (64 * run.page + n))))
+      (may_look_heap p.table.config (left p.table.config q.seen).now p.seat (there_wiping (left p.table.config q.seen) at.changes.call)
+      (64 * run.page + n) (omega arith))
+
+  -- with the turn held, and all other gates
+  with_turn : (q : PassState) (n : ℕ) → HasWiped q n → IsTurn q o
+      → Reaches is_clearing p (λ v. WipedTo p.seat run (world_of p) v n × HoldsAll p.table.config v.now p.seat) [] q
+  with_turn q n reached holds =
+      let holds_here : Holds p.table.config (left p.table.config q.seen).now p.seat =
+      subst (λ (x : PassState). Holds x.table.config (now_of x) x.seat) reached.same holds.holds in
+      reaches_so is_clearing p q (λ v. WipedTo p.seat run (world_of p) v n)
+      (λ v. WipedTo p.seat run (world_of p) v n × HoldsAll p.table.config v.now p.seat) [] reached
+      (λ at. (at, (holds_here, stopped_then (left p.table.config q.seen) at.changes.gates)))
+
+  pub looks_then : (q r : PassState) (n : ℕ) → HasWiped q n → IsTurn q o → n < 64 * run.count → run.count ≤ 64
+      → is_run_unmapped (now_of p).words run ≡ true
+      → Acts q (step.Look (word.Heap (64 * run.page + n))) r → Has q.seats q.seat → IsHistory r.table.config r.seen
+      → HasWiped r n
+  looks_then q r n reached holds near few unmapped a own history =
+      reaches_still_in_stop is_clearing p q r (λ v. WipedTo p.seat run (world_of p) v n
+      × HoldsAll p.table.config v.now p.seat)
+      (λ v. WipedTo p.seat run (world_of p) v n) []
+      (step.Look (word.Heap (64 * run.page + n))) (with_turn q n reached holds) a own history refl refl
+      (acting_caller p (give_acts (call_of p) give)) refl
+      (λ w v here kept stop known pages.
+      let on = wiped_left p.seat run (world_of p) w v n here.0 kept (stop here.1) in
+      let call = acting_has_call p.table.config v.now p.seat known.orderly.flights (there_wiping v on.changes.call) in
+      wiped_seen p.table.config p.seat run (world_of p) v n (64 * run.page + n) on call
+      (λ value. no_hand p.table.config v.now p.seat run n value (still_unmapped v n on unmapped) few near))
+
+  -- The word was found to be 0.
+  pub found_wiped : (q r : PassState) (n value : ℕ) → HasWiped r n
+      → Finds q (step.Look (word.Heap (64 * run.page + n))) value r → value ≡ 0 → HasWiped r (n + 1)
+  found_wiped q r n value reached f none =
+      reaches_so is_clearing p r (λ v. WipedTo p.seat run (world_of p) v n)
+      (λ v. WipedTo p.seat run (world_of p) v (n + 1)) [] reached
+      (λ at. wiped_already p.seat run (world_of p) (left p.table.config r.seen) n at
+      (subst (λ (x : PassState). slice_index (now_of x).words.heap (64 * run.page + n) ≡ 0) reached.same
+      (found_there q r (word.Heap (64 * run.page + n)) value f ∙ none)))
+
   pub wipe_may : (q : PassState) (n : ℕ) → HasWiped q n → (now_of p).seats.holding.freed ≡ Some run
       → is_run_unmapped (now_of p).words run ≡ true
       → n < 64 * run.count → run.page + run.count ≤ p.table.config.pages → IsEnabledTo q (step.Wipe (64 * run.page + n))
@@ -259,10 +422,7 @@ module _ (p : PassState) (o : Option Op) (run : RunPages) (turn : IsTurn p o) (g
       let v : World = left p.table.config q.seen in
       let at = reached.world in
       let here : v.now.seats.holding.freed ≡ Some run = ap (λ (h : Holding). h.freed) at.changes.holding ∙ freed in
-      let pages : v.now.words.pages ≡ (now_of p).words.pages = ap (λ (x : Steady). x.pages) at.changes.steady in
-      let still : is_run_unmapped v.now.words run ≡ true =
-      ap (λ (ps : List Page). all_below run.count (λ d. (slice_index_or ps (run.page + d) free_page).header ==
-      unmapped_header run.count d)) pages ∙ unmapped in
+      let still = still_unmapped v n at unmapped in
       let word = 64 * run.page + n in
       let inside : is_in_run run word ≡ true =
       and_from (nat_le run.page (word / 64)) (nat_lt (word / 64 - run.page) run.count)
@@ -278,15 +438,10 @@ module _ (p : PassState) (o : Option Op) (run : RunPages) (turn : IsTurn p o) (g
       → Acts q (step.Wipe (64 * run.page + n)) r → Has q.seats q.seat → IsHistory r.table.config r.seen
       → HasWiped r (n + 1)
   wipes_on q r n reached holds near within a own history =
-      let holds_here : Holds p.table.config (left p.table.config q.seen).now p.seat =
-      subst (λ (x : PassState). Holds x.table.config (now_of x) x.seat) reached.same holds.holds in
-      let with_turn = reaches_so is_clearing p q (λ v. WipedTo p.seat run (world_of p) v n)
-      (λ v. WipedTo p.seat run (world_of p) v n × HoldsAll p.table.config v.now p.seat) [] reached
-      (λ at. (at, (holds_here, stopped_then (left p.table.config q.seen) at.changes.gates))) in
       reaches_still_in_stop is_clearing p q r (λ v. WipedTo p.seat run (world_of p) v n
       × HoldsAll p.table.config v.now p.seat)
       (λ v. WipedTo p.seat run (world_of p) v (n + 1)) []
-      (step.Wipe (64 * run.page + n)) with_turn a own history refl refl (acting_caller p (give_acts (call_of p) give))
+      (step.Wipe (64 * run.page + n)) (with_turn q n reached holds) a own history refl refl (acting_caller p (give_acts (call_of p) give))
       refl
       (λ w v here kept stop known pages.
       let call = acting_has_call p.table.config v.now p.seat known.orderly.flights

@@ -15,13 +15,14 @@ use Rattle.mk_core.specs.NewPlaces.{is_run_unmapped}
 use Rattle.mk_words.specs.States.{PassState, now_of, world_of}
 use Rattle.mk_objects.specs.Placing.{Reaches}
 
--- kinds of step: by which gates are held, a run's pages and words are cleared, and what comes behind that
+-- kinds of step: by which gates are held, a run's pages and words are looked at and cleared, and what comes behind that
 
 abbrev pub is_holding : Step → Bool
 is_holding (step.Hold j) = true
 is_holding _ = false
 
 abbrev pub is_clearing : Step → Bool
+is_clearing (step.Look x) = true
 is_clearing (step.Head p v) = true
 is_clearing (step.Wipe n) = true
 is_clearing _ = false

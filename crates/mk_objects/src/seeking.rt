@@ -1,5 +1,6 @@
-//! The search for the place of an object, page by page by header words. That of a small one stops at the first free cell, and
-//! looks besides at the used words of blocks of the object's class and sort.
+//! The search for the place of an object, page by page by header words. That of a small one stops at the first free
+//! cell, and looks besides at the used words of blocks of the object's class and sort. That of a large one stops at the
+//! first range, unless too many of the pages behind it might be resident.
 ghost use Rattle.std.specs.Prelude.{◌≡◌, ◌+◌, ◌<◌, ◌≤◌, ◌^◌, nat_le, nat_lt, if◌then◌else◌, not, true, None, option_map};
 ghost use Rattle.mk_geom.specs.Classes.{cells_of};
 ghost use Rattle.mk_geom.specs.Headers.{header_of, word_of};
@@ -152,11 +153,17 @@ fn seek_large(words: &Words, turn: &mut Turn, count: u64) -> Option<Place>
 {
     words.is_within_limits();
     let pages = words.pages();
+    let limit = words.resident();
     let mut resident: u64 = 0;
     // Where the free range begins that ends before this page.
     let mut range = 0;
     let mut first = None;
     for number in 0..pages {
+        // The pages that are left don't matter where all of them may be resident.
+        let settled = free_range(first, resident + (pages - number), count, limit);
+        if let Some(place) = settled {
+            return Some(place);
+        }
         let header = look_at(words, turn, Word::Head(number));
         if is_resident(header) {
             resident += 1;
@@ -167,7 +174,7 @@ fn seek_large(words: &Words, turn: &mut Turn, count: u64) -> Option<Place>
             first = first.or(Some(range));
         }
     }
-    free_range(first, resident, count, words.resident())
+    free_range(first, resident, count, limit)
 }
 
 /// The place of an object of this shape.

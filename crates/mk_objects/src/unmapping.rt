@@ -13,7 +13,7 @@ ghost use Rattle.mk_objects.specs.Placing.{IsOutOfStop};
 ghost use Rattle.mk_objects.specs.Unmapping.{IsStillMapped};
 
 use crate::gates::open_gates;
-use mk_core::RunPages;
+use mk_core::{RunPages, Word};
 use mk_geom::{Header, encode};
 use mk_words::{Turn, Words};
 
@@ -77,7 +77,7 @@ pub(crate) fn unmap_run(words: &Words, turn: &mut Turn, run: RunPages)
     }
 }
 
-/// Wipes the words of the run that the call has freed and unmapped.
+/// Wipes the words of the run that the call has freed and unmapped. A word that is 0 isn't stored to.
 pub(crate) fn wipe_run(words: &Words, turn: &mut Turn, run: RunPages)
     requires one_table { turn.old.pass.table ≡ words.now }
     requires decided { (call_of turn.old.pass).stage ≡ stage.Give }
@@ -93,8 +93,12 @@ pub(crate) fn wipe_run(words: &Words, turn: &mut Turn, run: RunPages)
     turn.is_in_order();
     for word in 0..PAGE_WORDS * run.count {
         turn.is_in_order();
-        turn.wipe(words, PAGE_WORDS * run.page + word);
+        let found = turn.look(words, Word::Heap(PAGE_WORDS * run.page + word));
         turn.is_in_order();
+        if found != 0 {
+            turn.wipe(words, PAGE_WORDS * run.page + word);
+            turn.is_in_order();
+        }
     }
 }
 

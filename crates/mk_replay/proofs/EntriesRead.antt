@@ -7,7 +7,7 @@ use Rattle.mk_script.specs.Words.{texts_of}
 use Rattle.mk_replay.specs.declared.schedule.Entry.{Entry}
 use Rattle.mk_replay.specs.declared.lines.LineStop.{LineStop}
 use Rattle.mk_replay.specs.declared.lines.LineStop.TheVariants as linestop
-use Rattle.mk_replay.specs.Entries.{Adds, StopsAt}
+use Rattle.mk_replay.specs.Entries.{AddsEntries, IsStopOf}
 use Rattle.mk_replay.specs.Reading.{stop_at}
 use Rattle.mk_replay.specs.Schedules.{go_on, entries_of_line, entries_of_lines}
 
@@ -16,7 +16,7 @@ behind_both : (first line : ℕ) (before events : List Entry) (later : Result (L
 behind_both first line before events (Ok later) = ap (λ all. Ok all) (sym (append_assoc before events later))
 behind_both first line before events (Err fault) = refl
 
-read_more : (first line : ℕ) (before behind : List Entry) (text : List ℕ) (texts : List (List ℕ)) → Adds (entries_of_line line text) before behind
+read_more : (first line : ℕ) (before behind : List Entry) (text : List ℕ) (texts : List (List ℕ)) → AddsEntries (entries_of_line line text) before behind
     → go_on first (Ok behind) (entries_of_lines (line + 1) texts) ≡ go_on first (Ok before) (entries_of_lines line (text ∷ texts))
 unfolding entries_of_lines
 read_more first line before behind text texts read =
@@ -24,7 +24,7 @@ read_more first line before behind text texts read =
     ap (λ events. go_on first (Ok events) later) read.added
     ∙ sym (ap (λ found. go_on first (Ok before) (go_on line found later)) read.are ∙ behind_both first line before read.entries later)
 
-read_none : (first line : ℕ) (before : List Entry) (text : List ℕ) (texts : List (List ℕ)) (stop : LineStop) → StopsAt (entries_of_line line text) stop → stop_at line stop ≢ NoMemory
+read_none : (first line : ℕ) (before : List Entry) (text : List ℕ) (texts : List (List ℕ)) (stop : LineStop) → IsStopOf (entries_of_line line text) stop → stop_at line stop ≢ NoMemory
     → go_on first (Ok before) (entries_of_lines line (text ∷ texts)) ≡ Err (stop_at line stop)
 unfolding entries_of_lines
 read_none first line before text texts (linestop.Text fault) found memory = ap (λ found. go_on first (Ok before) (go_on line found (entries_of_lines (line + 1) texts))) found
@@ -32,7 +32,7 @@ read_none first line before text texts linestop.NoMemory found memory = absurd (
 
 -- the same, along the lines of a text
 pub step : (lines : List (Bor (List ℕ))) (i first : ℕ) (before behind : List Entry) (d : Bor (List ℕ)) → i < length lines
-    → Adds (entries_of_line (first + i) (get_or lines i d).now) before behind
+    → AddsEntries (entries_of_line (first + i) (get_or lines i d).now) before behind
     → go_on first (Ok behind) (entries_of_lines (first + (i + 1)) (texts_of (drop (i + 1) lines))) ≡ go_on first (Ok before) (entries_of_lines (first + i) (texts_of (drop i lines)))
 step lines i first before behind d inside read =
     let next : first + (i + 1) ≡ first + i + 1 = omega arith in
@@ -41,7 +41,7 @@ step lines i first before behind d inside read =
     ∙ sym (at_drop_more (λ left. go_on first (Ok before) (entries_of_lines (first + i) (texts_of left))) lines i d inside)
 
 pub stops : (lines : List (Bor (List ℕ))) (i first : ℕ) (before : List Entry) (d : Bor (List ℕ)) (stop : LineStop) → i < length lines
-    → StopsAt (entries_of_line (first + i) (get_or lines i d).now) stop → stop_at (first + i) stop ≢ NoMemory
+    → IsStopOf (entries_of_line (first + i) (get_or lines i d).now) stop → stop_at (first + i) stop ≢ NoMemory
     → go_on first (Ok before) (entries_of_lines (first + i) (texts_of (drop i lines))) ≡ Err (stop_at (first + i) stop)
 stops lines i first before d stop inside found memory =
     at_drop_more (λ left. go_on first (Ok before) (entries_of_lines (first + i) (texts_of left))) lines i d inside

@@ -33,7 +33,7 @@ use Rattle.mk_check.specs.Output.{ends_call}
 use Rattle.mk_core.specs.Growing.{is_same_seat}
 use Rattle.std.specs.Option.{option_or}
 use Rattle.mk_replay.specs.Replays.{event_of, IsTextOf, AreFirstTexts}
-use Rattle.mk_replay.specs.Players.{Served, served_by, served, IsFed, IsPlayerOf, ArePlayersOf, TakesAnswer, TakesStep, TakeEvent, IsRunOf, TakesEntry}
+use Rattle.mk_replay.specs.Players.{Served, served_by, served_to, IsFed, IsPlayerOf, ArePlayersOf, TakesAnswer, TakesStep, TakeEvent, IsRunOf, TakesEntry}
 use Rattle.mk_replay.proofs.ServedMore.{served_more, served_first}
 
 -- A feed that waits takes the answer.
@@ -118,7 +118,7 @@ pub players_push : (program : List Item) (players : List Player) (p : Player) �
 players_push program players p h new = λ k d less.
     let total = length-append players (p ∷ []) in
     elim (cases_eq k (length players)) [
-      | inl e ↦ rw (get_or_push players p d k (sym e)) (subst (λ (i : ℕ). IsPlayerOf program i (served (config_of program 8) [] i) p) (sym e)
+      | inl e ↦ rw (get_or_push players p d k (sym e)) (subst (λ (i : ℕ). IsPlayerOf program i (served_to (config_of program 8) [] i) p) (sym e)
           (subst (λ (x : Served). IsPlayerOf program (length players) x p) (sym (served_first (config_of program 8) (length players))) new))
       | inr ne ↦ (let lt : k < length players = omega arith in rw (get_or_append_left players (p ∷ []) d k lt) (h k d lt))
     ]
@@ -141,8 +141,8 @@ players_more program es e a players new count enabled is takes h = λ k d less.
     let lt : k < length players = omega arith in
     let c = config_of program 8 in
     subst (λ (x : Served). IsPlayerOf program k x (get_or new k d))
-    (ap (λ (b : Option Answer). served_by k e b (served c es k)) is ∙ sym (served_more c es k e enabled))
-    (takes program k d (served c es k) lt (h k d lt))
+    (ap (λ (b : Option Answer). served_by k e b (served_to c es k)) is ∙ sym (served_more c es k e enabled))
+    (takes program k d (served_to c es k) lt (h k d lt))
 
 -- A run goes on behind an event of the core.
 pub run_goes : (program : List Item) (es : List Event) (x : Entry) (old new : Run) (core : CoreState) (e : Event) (a : Option Answer)

@@ -10,7 +10,7 @@ use Rattle.mk_core.specs.Growing.{is_same_seat}
 use Rattle.mk_core.specs.History.{left, AreEnabled, calls_from}
 use Rattle.mk_check.specs.Output.{ends_call, answers_given, answer_waiting}
 use Rattle.mk_check.proofs.GivenAnswers.{given_by, waiting_by, given_more, waiting_more}
-use Rattle.mk_replay.specs.Players.{Served, served_behind, served_by, served}
+use Rattle.mk_replay.specs.Players.{Served, served_behind, served_by, served_to}
 
 both_by : (b b' : Bool) (decided : Option Answer) (xs answers : List Answer) (was kept : Option Answer)
     → answers ≡ xs ++ given_by b b' decided was → kept ≡ waiting_by b b' decided was
@@ -20,11 +20,11 @@ both_by true false decided xs answers was kept h i = let j = h ∙ append-nil xs
 both_by false b' decided xs answers was kept h i = let j = h ∙ append-nil xs in cc
 
 pub served_more : (c : Config) (es : List Event) (k : ℕ) (e : Event) → AreEnabled c (es ++ e ∷ [])
-    → served c (es ++ e ∷ []) k ≡ served_by k e (answer_decided c (left c es).now e) (served c es k)
+    → served_to c (es ++ e ∷ []) k ≡ served_by k e (answer_decided c (left c es).now e) (served_to c es k)
 served_more c es k e h =
     both_by (is_same_seat (Caller k) e.seat) (ends_call e.step) (answer_decided c (left c es).now e) (answers_given c es k) _ (answer_waiting c es k) _
     (given_more c es e k h) (waiting_more c es e k h)
 
-pub served_first : (c : Config) (k : ℕ) → ◌≡◌ {A = Served} (served c [] k) (record { answers = []; kept = None })
+pub served_first : (c : Config) (k : ℕ) → ◌≡◌ {A = Served} (served_to c [] k) (record { answers = []; kept = None })
 unfolding calls_from
 served_first c k = refl

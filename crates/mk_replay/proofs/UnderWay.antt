@@ -13,8 +13,9 @@ use Rattle.mk_replay.specs.declared.replaying.Run.{Run}
 use Rattle.mk_replay.specs.declared.replaying.ReplayStop.{ReplayStop}
 use Rattle.mk_replay.specs.declared.replaying.ReplayStop.TheVariants.{NotEnabled}
 use Rattle.mk_replay.specs.declared.schedule.Entry.{Entry}
-use Rattle.mk_replay.specs.Replays.{event_of, failing_entry, is_refusal, history_from, history_of, refusal_from, refusal_of}
+use Rattle.mk_replay.specs.Replays.{event_of, failing_entry, history_from, history_of, refusal_from, refusal_of}
 use Rattle.mk_replay.specs.Players.{EachHasRoom, IsRunOf, TakesEntry, IsNotEnabled, IsUnderWay}
+use Rattle.mk_check.specs.Feed.{is_refusal}
 use Rattle.mk_check.specs.Declarations.{config_of}
 use Rattle.mk_check.specs.Output.{answers_given}
 use Rattle.mk_check.proofs.GivenAnswers.{few_answers}

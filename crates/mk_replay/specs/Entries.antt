@@ -11,15 +11,15 @@ use Rattle.mk_replay.specs.Forms.{both}
 use Rattle.mk_replay.specs.Schedules.{pieces_of}
 
 -- the expected entries stand behind the old ones
-pub record Adds (expected : Result (List Entry) TextKind) (old new : List Entry) : Type 0 where
+pub record AddsEntries (expected : Result (List Entry) TextKind) (old new : List Entry) : Type 0 where
   pub entries : List Entry
   pub are : expected ≡ Ok entries
   pub added : new ≡ old ++ entries
 
 -- the expected fault, or no memory
-abbrev pub StopsAt : {A : Type 0} → Result A TextKind → LineStop → Type 0
-StopsAt expected (Text kind) = expected ≡ Err kind
-StopsAt expected NoMemory = Unit {0}
+abbrev pub IsStopOf : {A : Type 0} → Result A TextKind → LineStop → Type 0
+IsStopOf expected (Text kind) = expected ≡ Err kind
+IsStopOf expected NoMemory = Unit {0}
 
 -- a line's first piece ends there, and others follow
 pub record IsEndOfPiece (text : List ℕ) (end : ℕ) : Type 0 where
@@ -27,10 +27,10 @@ pub record IsEndOfPiece (text : List ℕ) (end : ℕ) : Type 0 where
   pub pieces : pieces_of text ≡ take end text ∷ pieces_of (drop (end + 2) text)
 
 -- the forms of the pieces so far, or the fault that is to be named
-abbrev pub so_far : Option TextKind → List Form → Result (List Form) TextKind
-so_far None forms = Ok forms
-so_far (Some fault) forms = Err fault
+abbrev pub forms_so_far : Option TextKind → List Form → Result (List Form) TextKind
+forms_so_far None forms = Ok forms
+forms_so_far (Some fault) forms = Err fault
 
 -- one form more
-abbrev pub one_more : Result (List Form) TextKind → Result Form TextKind → Result (List Form) TextKind
-one_more forms form = both (λ before last. before ++ last ∷ []) forms form
+abbrev pub with_form : Result (List Form) TextKind → Result Form TextKind → Result (List Form) TextKind
+with_form forms form = both (λ before last. before ++ last ∷ []) forms form

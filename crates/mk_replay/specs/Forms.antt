@@ -1,11 +1,11 @@
 -- The words of an event and of a seat.
-use Rattle.std.specs.Prelude.{ℕ, ◌==◌, if◌then◌else◌, List, [], ◌∷◌, Option, Some, None, Ok, Err}
+use Rattle.std.specs.Prelude.{ℕ, ◌==◌, if◌then◌else◌, List, [], ◌∷◌, Option, Some, None, ok_or, Ok, Err}
 use Rattle.std.specs.declared.result.Result.{Result}
 use Rattle.std.specs.Str.{bytes_eq}
 use lib.Chars.{codes}
 use Rattle.mk_script.specs.declared.faults.TextKind.{TextKind}
 use Rattle.mk_script.specs.declared.faults.TextKind.TheVariants as kind
-use Rattle.mk_script.specs.Names.{number_of}
+use Rattle.mk_script.specs.Names.{number_of_word}
 use Rattle.mk_core.specs.declared.events.Seat.{Seat}
 use Rattle.mk_core.specs.declared.events.Seat.TheVariants as seat
 use Rattle.mk_core.specs.declared.events.Word.{Word}
@@ -16,32 +16,28 @@ use Rattle.mk_replay.specs.declared.schedule.Form.{Form}
 use Rattle.mk_replay.specs.declared.schedule.Form.TheVariants as form
 
 -- the value that a word is listed with
-abbrev pub among : {A : Type 0} → List (List ℕ × A) → List ℕ → Option A
-among [] w = None
-among (x ∷ xs) w = if bytes_eq w x.0 then Some x.1 else among xs w
+abbrev pub value_among : {A : Type 0} → List (List ℕ × A) → List ℕ → Option A
+value_among [] w = None
+value_among (x ∷ xs) w = if bytes_eq w x.0 then Some x.1 else value_among xs w
 
 -- the first of two faults in a line: a form that isn't there comes before something that isn't a number
-abbrev pub worse : TextKind → TextKind → TextKind
-worse kind.Word other = kind.Word
-worse first kind.Word = kind.Word
-worse first other = first
+abbrev pub worse_fault : TextKind → TextKind → TextKind
+worse_fault kind.Word other = kind.Word
+worse_fault first kind.Word = kind.Word
+worse_fault first other = first
 
 abbrev pub both : {A B C : Type 0} → (A → B → C) → Result A TextKind → Result B TextKind → Result C TextKind
 both f (Ok x) (Ok y) = Ok (f x y)
 both f (Ok x) (Err e) = Err e
 both f (Err e) (Ok y) = Err e
-both f (Err e) (Err e') = Err (worse e e')
+both f (Err e) (Err e') = Err (worse_fault e e')
 
 abbrev pub on_ok : {A B : Type 0} → (A → B) → Result A TextKind → Result B TextKind
 on_ok f (Ok x) = Ok (f x)
 on_ok f (Err e) = Err e
 
 abbrev pub number : List ℕ → Result ℕ TextKind
-number w = or_number (number_of w)
-  where
-    or_number : Option ℕ → Result ℕ TextKind
-    or_number (Some n) = Ok n
-    or_number None = Err kind.Number
+number w = ok_or (number_of_word w) kind.Number
 
 -- forms without a number
 abbrev pub plain_forms : List (List ℕ × Form)
@@ -93,10 +89,6 @@ words_of_number =
     ∷ (codes "black", (λ n. word.Black n)) ∷ (codes "dirty", (λ n. word.Dirty n))
     ∷ (codes "heap", (λ n. word.Heap n)) ∷ []
 
-abbrev pub or_word : {A : Type 0} → Option A → Result A TextKind
-or_word (Some x) = Ok x
-or_word None = Err kind.Word
-
 abbrev pub with_number : {A : Type 0} → Option (ℕ → A) → List ℕ → Result A TextKind
 with_number None w = Err kind.Word
 with_number (Some f) w = on_ok f (number w)
@@ -107,8 +99,8 @@ with_numbers (Some f) v w = both f (number v) (number w)
 
 -- a word of the table, by its words
 abbrev pub table_word : List (List ℕ) → Result Word TextKind
-table_word (a ∷ []) = or_word (among plain_words a)
-table_word (a ∷ n ∷ []) = with_number (among words_of_number a) n
+table_word (a ∷ []) = ok_or (value_among plain_words a) kind.Word
+table_word (a ∷ n ∷ []) = with_number (value_among words_of_number a) n
 table_word (a ∷ c ∷ r ∷ []) =
     with_numbers (if bytes_eq a (codes "reg") then Some (λ caller register. word.Reg caller register) else None) c r
 table_word _ = Err kind.Word
@@ -118,33 +110,33 @@ with_table_word None ws = Err kind.Word
 with_table_word (Some f) ws = on_ok f (table_word ws)
 
 abbrev pub tally_form : List ℕ → List ℕ → Result Form TextKind
-tally_form n v = both (λ t value. form.Tally t value) (or_word (among tallies n)) (number v)
+tally_form n v = both (λ t value. form.Tally t value) (ok_or (value_among tallies n) kind.Word) (number v)
 
 -- an event of two numbers, a tally or a word of one number
 abbrev pub two_operands : List ℕ → List ℕ → List ℕ → Result Form TextKind
 two_operands a v w =
     if bytes_eq a (codes "tally")
     then tally_form v w
-    else two_or_look (among forms_of_numbers a)
+    else two_or_look (value_among forms_of_numbers a)
   where
     two_or_look : Option (ℕ → ℕ → Form) → Result Form TextKind
     two_or_look (Some f) = both f (number v) (number w)
-    two_or_look None = with_table_word (among forms_of_word a) (v ∷ w ∷ [])
+    two_or_look None = with_table_word (value_among forms_of_word a) (v ∷ w ∷ [])
 
 abbrev pub one_operand : List ℕ → List ℕ → Result Form TextKind
-one_operand a v = one_or_look (among forms_of_number a)
+one_operand a v = one_or_look (value_among forms_of_number a)
   where
     one_or_look : Option (ℕ → Form) → Result Form TextKind
     one_or_look (Some f) = on_ok f (number v)
-    one_or_look None = with_table_word (among forms_of_word a) (v ∷ [])
+    one_or_look None = with_table_word (value_among forms_of_word a) (v ∷ [])
 
 -- the form of an event, by its words
 abbrev pub form_of : List (List ℕ) → Result Form TextKind
 form_of [] = Err kind.Word
-form_of (a ∷ []) = or_word (among plain_forms a)
+form_of (a ∷ []) = ok_or (value_among plain_forms a) kind.Word
 form_of (a ∷ v ∷ []) = one_operand a v
 form_of (a ∷ v ∷ w ∷ []) = two_operands a v w
-form_of (a ∷ u ∷ v ∷ w ∷ more) = with_table_word (among forms_of_word a) (u ∷ v ∷ w ∷ more)
+form_of (a ∷ u ∷ v ∷ w ∷ more) = with_table_word (value_among forms_of_word a) (u ∷ v ∷ w ∷ more)
 
 -- a seat, by its word
 abbrev pub seat_of : List ℕ → Result Seat TextKind

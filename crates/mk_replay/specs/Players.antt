@@ -1,10 +1,12 @@
 -- What a run keeps for each script, and what it stands for.
 -- Private functions alone cite these words.
-use Rattle.std.specs.Prelude.{◌≡◌, ◌<◌, ◌≤◌, ℕ, Bool, true, false, List, [], ◌∷◌, ◌++◌, length, count_by, slice_index_or, drop, Option, None, if◌then◌else◌}
+use Rattle.std.specs.Prelude.{◌≡◌, ◌<◌, ◌≤◌, ℕ, Bool, true, false, List, [], ◌∷◌, ◌++◌, length, count_by}
+use Rattle.std.specs.Prelude.{slice_index_or, drop, Option, None, if◌then◌else◌}
 use Rattle.mk_script.specs.declared.items.Item.{Item}
 use Rattle.mk_script.specs.Scopes.{script_names}
 use Rattle.std.specs.List.{cons_option}
 use Rattle.std.specs.Option.{option_or}
+use Rattle.mk_check.specs.Feed.{is_refusal}
 use Rattle.mk_check.specs.Declarations.{config_of}
 use Rattle.mk_check.specs.Feed.{feed}
 use Rattle.mk_check.specs.Output.{ends_call, answers_given, answer_waiting}
@@ -20,7 +22,8 @@ use Rattle.mk_replay.specs.declared.replaying.Run.{Run}
 use Rattle.mk_replay.specs.declared.replaying.ReplayStop.{ReplayStop}
 use Rattle.mk_replay.specs.declared.replaying.ReplayStop.TheVariants.{NotEnabled}
 use Rattle.mk_replay.specs.declared.schedule.Entry.{Entry}
-use Rattle.mk_replay.specs.Replays.{is_refusal, event_of, failing_entry, refusal_from, refusal_of, history_from, history_of}
+use Rattle.mk_replay.specs.Replays.{event_of, failing_entry, refusal_from, refusal_of, history_from}
+use Rattle.mk_replay.specs.Replays.{history_of}
 
 -- The answers of a caller's calls that ended, and the one that was decided in the call in flight.
 pub record Served : Type 0 where
@@ -36,8 +39,8 @@ served_behind false decided x = record { answers = x.answers; kept = option_or d
 abbrev pub served_by : ℕ → Event → Option Answer → Served → Served
 served_by k e decided x = if is_same_seat (Caller k) e.seat then served_behind (ends_call e.step) decided x else x
 
-abbrev pub served : Config → List Event → ℕ → Served
-served c es k = record { answers = answers_given c es k; kept = answer_waiting c es k }
+abbrev pub served_to : Config → List Event → ℕ → Served
+served_to c es k = record { answers = answers_given c es k; kept = answer_waiting c es k }
 
 -- A feed that is where script k of a program is behind these answers. One that has ended took none of those behind
 -- its end.
@@ -84,7 +87,7 @@ TakeEvent e decided old new = (program : List Item) (k : ℕ) (d : Player) (x : 
 
 abbrev pub ArePlayersOf : List Item → List Event → List Player → Type 0
 ArePlayersOf program es players = (k : ℕ) (d : Player) → k < length players
-    → IsPlayerOf program k (served (config_of program 8) es k) (slice_index_or players k d)
+    → IsPlayerOf program k (served_to (config_of program 8) es k) (slice_index_or players k d)
 
 -- a run behind events
 pub record IsRunOf (program : List Item) (es : List Event) (run : Run) : Type 0 where

@@ -1,13 +1,14 @@
 -- What a schedule makes of a program, on a heap with eight markers: the history, the first event that isn't enabled,
--- and the
--- texts of the scripts.
-use Rattle.std.specs.Prelude.{◌≡◌, ◌<◌, ℕ, Bool, true, false, List, [], ◌∷◌, ◌++◌, length, count_by, slice_index_or, Option, Some, None, ◌==◌, if◌then◌else◌}
+-- and the texts of the scripts.
+use Rattle.std.specs.Prelude.{◌≡◌, ◌<◌, ℕ, Bool, true, false, List, [], ◌∷◌, ◌++◌, length, count_by, slice_index_or}
+use Rattle.std.specs.Prelude.{Option, Some, None, ◌==◌, if◌then◌else◌}
 use Rattle.mk_never.specs.declared.operations.Op.{Op}
 use Rattle.mk_never.specs.declared.operations.Op.TheVariants as op
 use Rattle.mk_script.specs.declared.items.Item.{Item}
 use Rattle.mk_script.specs.Scopes.{script_names}
 use Rattle.mk_check.specs.Declarations.{config_of}
 use Rattle.mk_check.specs.declared.text.Text.{Text}
+use Rattle.mk_check.specs.Feed.{is_refusal}
 use Rattle.mk_check.specs.Feeding.{next_op}
 use Rattle.mk_check.specs.Output.{answers_given, text_behind}
 use Rattle.mk_core.specs.declared.events.Seat.{Seat}
@@ -16,7 +17,6 @@ use Rattle.mk_core.specs.declared.events.Step.{Step}
 use Rattle.mk_core.specs.declared.events.Step.TheVariants as step
 use Rattle.mk_core.specs.declared.events.Event.{Event}
 use Rattle.mk_core.specs.declared.events.Answer.{Answer}
-use Rattle.mk_core.specs.declared.events.Answer.TheVariants as answer
 use Rattle.mk_core.specs.Enabled.{failing}
 use Rattle.mk_core.specs.History.{left}
 use Rattle.mk_replay.specs.declared.schedule.Form.{Form}
@@ -100,13 +100,6 @@ refusal_from program es (x ∷ xs) =
 
 abbrev pub refusal_of : List Item → List Entry → Option ReplayStop
 refusal_of program schedule = refusal_from program [] schedule
-
-abbrev pub is_refusal : Answer → Bool
-is_refusal answer.Full = true
-is_refusal answer.Fault = true
-is_refusal answer.Null = true
-is_refusal answer.Double = true
-is_refusal _ = false
 
 -- The text of script k, fed with the answers of its calls that ended, and the counts of these and of the refused ones.
 pub record IsTextOf (program : List Item) (es : List Event) (k : ℕ) (bytes : List ℕ) (ops refused : ℕ) : Type 0 where

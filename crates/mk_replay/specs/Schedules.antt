@@ -1,5 +1,6 @@
 -- A text of a script part and a schedule: its program and the events, or its first fault.
-use Rattle.std.specs.Prelude.{ℕ, ◌+◌, Bool, false, ◌&&◌, nat_le, ◌==◌, if◌then◌else◌, List, [], ◌∷◌, ◌++◌, length, map, Option, Some, None, Ok, Err}
+use Rattle.std.specs.Prelude.{ℕ, ◌+◌, Bool, false, ◌&&◌, nat_le, ◌==◌, if◌then◌else◌, List, [], ◌∷◌, ◌++◌, length, map}
+use Rattle.std.specs.Prelude.{Option, Some, None, Ok, Err}
 use Rattle.std.specs.declared.result.Result.{Result}
 use Rattle.std.specs.Str.{bytes_eq}
 use lib.Chars.{codes}
@@ -8,9 +9,8 @@ use Rattle.mk_script.specs.declared.faults.TextKind.{TextKind}
 use Rattle.mk_script.specs.declared.faults.TextKind.TheVariants as kind
 use Rattle.mk_script.specs.declared.faults.TextStop.{TextStop}
 use Rattle.mk_script.specs.declared.faults.TextStop.TheVariants as stop
-use Rattle.mk_script.specs.declared.faults.Which.TheVariants as which
 use Rattle.mk_script.specs.Words.{lines_of, words_of}
-use Rattle.mk_script.specs.Grammar.{items_of_lines}
+use Rattle.mk_script.specs.Grammar.{fault_at, longest_text, too_long, items_of_lines}
 use Rattle.mk_core.specs.declared.events.Seat.{Seat}
 use Rattle.mk_replay.specs.declared.schedule.Form.{Form}
 use Rattle.mk_replay.specs.declared.schedule.Entry.{Entry}
@@ -91,8 +91,7 @@ replay_of_lines lines =
     with_schedule (items_of_lines (script_lines lines))
     (schedule_behind (length (script_lines lines)) (schedule_lines lines))
 
--- The program and the schedule of a text of at most 1,048,576 bytes, or the first fault. Faults of the script part come
--- first.
+-- The program and the schedule of a text, or the first fault. Faults of the script part come first.
 abbrev pub replay_of : List ℕ → Result (List Item × List Entry) TextStop
 replay_of text =
-    if nat_le (length text) 1048576 then replay_of_lines (lines_of text) else Err (stop.Limit 0 which.Bytes 1048577)
+    if nat_le (length text) longest_text then replay_of_lines (lines_of text) else Err (fault_at 0 too_long)

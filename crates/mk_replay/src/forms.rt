@@ -1,11 +1,11 @@
 //! The words of events.
-ghost use Rattle.std.specs.Prelude.{◌≡◌, ◌∷◌, [], map};
+ghost use Rattle.std.specs.Prelude.{◌≡◌, ◌∷◌, [], map, ok_or};
 ghost use Rattle.mk_script.specs.Words.{texts_of};
 ghost use Rattle.mk_replay.specs.Forms as spec;
 
 use crate::schedule::Form;
 use mk_core::{Seat, Tally, Word};
-use mk_script::TextKind;
+use mk_script::{TextKind, parse_number};
 
 const PLAIN_FORMS: [(&[u8], Form); 25] = [
     (b"enter", Form::Enter),
@@ -80,12 +80,13 @@ pub(crate) fn seat(word: &[u8]) -> Result<Seat, TextKind>
 fn number(word: &[u8]) -> Result<u64, TextKind>
     ensures { result ≡ spec.number word.now }
 {
-    mk_script::number(word).ok_or(TextKind::Number)
+    parse_number(word).ok_or(TextKind::Number)
 }
 
 /// The value that the word is listed with.
 fn listed<T: Copy>(table: &[(&[u8], T)], word: &[u8]) -> Result<T, TextKind>
-    ensures { result ≡ spec.or_word (spec.among (map (λ entry. (entry.0.now, entry.1)) table.now) word.now) }
+    ensures { result
+        ≡ ok_or (spec.value_among (map (λ entry. (entry.0.now, entry.1)) table.now) word.now) TextKind.Word }
 {
     for (name, value) in table {
         if word == *name {
@@ -167,7 +168,7 @@ fn tally_form(name: &[u8], operand: &[u8]) -> Result<Form, TextKind>
 
 /// An event that looks at a word of the table.
 fn look(name: &[u8], operands: &[&[u8]]) -> Result<Form, TextKind>
-    ensures { result ≡ spec.with_table_word (spec.among spec.forms_of_word name.now) (texts_of operands.now) }
+    ensures { result ≡ spec.with_table_word (spec.value_among spec.forms_of_word name.now) (texts_of operands.now) }
 {
     if name == b"look".as_slice() {
         Ok(Form::Look(table_word(operands)?))
@@ -203,7 +204,7 @@ fn register_word(name: &[u8], caller: &[u8], register: &[u8]) -> Result<Word, Te
 
 /// A word of the table with one number behind its name.
 fn word_of_number(name: &[u8], operand: &[u8]) -> Result<Word, TextKind>
-    ensures { result ≡ spec.with_number (spec.among spec.words_of_number name.now) operand.now }
+    ensures { result ≡ spec.with_number (spec.value_among spec.words_of_number name.now) operand.now }
 {
     if name == b"gate".as_slice() {
         Ok(Word::Gate(number(operand)?))

@@ -3,12 +3,12 @@ ghost use Rattle.std.specs.Prelude.{◌≡◌, ◌∷◌, [], ◌++◌, map, IfO
 ghost use Rattle.mk_script.specs.Words.{texts_of, words_of};
 ghost use Rattle.mk_replay.specs.Forms as spec;
 ghost use Rattle.mk_replay.specs.Schedules.{pieces_of, forms_of, entries_from, entries_of_pieces, entries_of_line};
-ghost use Rattle.mk_replay.specs.Entries.{Adds, StopsAt, IsEndOfPiece, so_far, one_more};
+ghost use Rattle.mk_replay.specs.Entries.{AddsEntries, IsStopOf, IsEndOfPiece, forms_so_far, with_form};
 
 use crate::forms::{form, seat};
 use crate::schedule::{Entry, Form};
 use mk_core::Seat;
-use mk_script::{TextKind, words};
+use mk_script::{TextKind, split_words};
 use std::alloc::{AllocError, Global};
 
 /// Why a line's events aren't read.
@@ -36,7 +36,8 @@ pub(crate) fn line_entries(
     text: &[u8],
     entries: &mut Vec<Entry>,
 ) -> Result<(), LineStop>
-    ensures { MatchResult result (λ _. Adds (entries_of_line line text.now) entries.old.items entries.new.items) (StopsAt (entries_of_line line text.now)) }
+    ensures { MatchResult result (λ _. AddsEntries (entries_of_line line text.now) entries.old.items entries.new.items)
+        (IsStopOf (entries_of_line line text.now)) }
 {
     let pieces = pieces(alloc, text)?;
     read_pieces(alloc, line, &pieces, entries)
@@ -74,12 +75,14 @@ fn read_pieces(
     pieces: &[&[u8]],
     entries: &mut Vec<Entry>,
 ) -> Result<(), LineStop>
-    ensures { let expected = entries_of_pieces line (map words_of (texts_of pieces.now)) in MatchResult result (λ _. Adds expected entries.old.items entries.new.items) (StopsAt expected) }
+    ensures { let expected = entries_of_pieces line (map words_of (texts_of pieces.now)) in
+        MatchResult result (λ _. AddsEntries expected entries.old.items entries.new.items)
+        (IsStopOf expected) }
 {
     let [first, others @ ..] = pieces else {
         return Err(LineStop::Text(TextKind::Word));
     };
-    let words = words(alloc, first)?;
+    let words = split_words(alloc, first)?;
     read_words(alloc, line, &words, others, entries)
 }
 
@@ -91,7 +94,9 @@ fn read_words(
     others: &[&[u8]],
     entries: &mut Vec<Entry>,
 ) -> Result<(), LineStop>
-    ensures { let expected = entries_of_pieces line (texts_of words.now ∷ map words_of (texts_of others.now)) in MatchResult result (λ _. Adds expected entries.old.items entries.new.items) (StopsAt expected) }
+    ensures { let expected = entries_of_pieces line (texts_of words.now ∷ map words_of (texts_of others.now)) in
+        MatchResult result (λ _. AddsEntries expected entries.old.items entries.new.items)
+        (IsStopOf expected) }
 {
     let [name, words @ ..] = words else {
         return Err(LineStop::Text(TextKind::Word));
@@ -101,7 +106,7 @@ fn read_words(
         (Ok(seat), Ok(forms)) => Ok(push_entries(entries, line, seat, &forms)?),
         (Ok(_), Err(kind)) => Err(LineStop::Text(kind)),
         (Err(kind), Ok(_)) => Err(LineStop::Text(kind)),
-        (Err(first), Err(second)) => Err(LineStop::Text(worse(first, second))),
+        (Err(first), Err(second)) => Err(LineStop::Text(worse_fault(first, second))),
     }
 }
 
@@ -111,12 +116,14 @@ fn forms(
     words: &[&[u8]],
     others: &[&[u8]],
 ) -> Result<Result<Vec<Form>, TextKind>, AllocError>
-    ensures { let expected = forms_of (texts_of words.now ∷ map words_of (texts_of others.now)) in IfOk result (λ forms. MatchResult forms (λ forms. expected ≡ Ok forms.items) (λ kind. expected ≡ Err kind)) }
+    ensures { let expected = forms_of (texts_of words.now ∷ map words_of (texts_of others.now)) in
+        IfOk result (λ forms. MatchResult forms (λ forms. expected ≡ Ok forms.items)
+        (λ kind. expected ≡ Err kind)) }
 {
     let mut forms = Vec::new(alloc);
     let mut fault = add_form(&mut forms, None, form(words))?;
     for piece in others {
-        let words = mk_script::words(alloc, piece)?;
+        let words = split_words(alloc, piece)?;
         fault = add_form(&mut forms, fault, form(&words))?;
     }
     match fault {
@@ -131,7 +138,8 @@ fn add_form(
     fault: Option<TextKind>,
     found: Result<Form, TextKind>,
 ) -> Result<Option<TextKind>, AllocError>
-    ensures { IfOk result (λ fault'. so_far fault' forms.new.items ≡ one_more (so_far fault forms.old.items) found) }
+    ensures { IfOk result (λ fault'. forms_so_far fault' forms.new.items
+        ≡ with_form (forms_so_far fault forms.old.items) found) }
 {
     match (fault, found) {
         (None, Ok(form)) => {
@@ -140,13 +148,13 @@ fn add_form(
         }
         (None, Err(kind)) => Ok(Some(kind)),
         (Some(kind), Ok(_)) => Ok(Some(kind)),
-        (Some(first), Err(second)) => Ok(Some(worse(first, second))),
+        (Some(first), Err(second)) => Ok(Some(worse_fault(first, second))),
     }
 }
 
 /// The fault to be named of two in a line.
-fn worse(first: TextKind, second: TextKind) -> TextKind
-    ensures { result ≡ spec.worse first second }
+fn worse_fault(first: TextKind, second: TextKind) -> TextKind
+    ensures { result ≡ spec.worse_fault first second }
 {
     if second == TextKind::Word {
         second

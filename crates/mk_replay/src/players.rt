@@ -1,11 +1,12 @@
 //! A script that takes part in a run.
 ghost use Rattle.std.specs.Prelude.{◌≡◌, ◌<◌, ◌+◌, ℕ, [], ◌∷◌, length, count_by, IfOk, OnOk, None};
+ghost use Rattle.mk_check.specs.Feed.{is_refusal};
 ghost use Rattle.mk_check.specs.Laws.{IsScript};
 ghost use Rattle.mk_check.specs.Declarations.{config_of};
-ghost use Rattle.mk_replay.specs.Replays.{is_refusal, IsTextOf};
-ghost use Rattle.mk_replay.specs.Players.{Served, served, IsPlayerOf, TakesAnswer, TakesStep, FeedsOn, HasRoom};
+ghost use Rattle.mk_replay.specs.Replays.{IsTextOf};
+ghost use Rattle.mk_replay.specs.Players.{Served, served_to, IsPlayerOf, TakesAnswer, TakesStep, FeedsOn, HasRoom};
 
-use mk_check::{Checked, Feed, Text};
+use mk_check::{Checked, Feed, Text, is_refusal};
 use mk_core::Answer;
 use mk_never::NoMemory;
 use std::alloc::Global;
@@ -18,15 +19,6 @@ pub(crate) struct Player {
     pub(crate) kept: Option<Answer>,
     pub(crate) ops: u64,
     pub(crate) refused: u64,
-}
-
-fn is_refusal(answer: Answer) -> bool
-    ensures { result ≡ is_refusal answer }
-{
-    matches!(
-        answer,
-        Answer::Full | Answer::Fault | Answer::Null | Answer::Double
-    )
 }
 
 /// Answers a script's operation; one that has ended takes none.
@@ -60,7 +52,10 @@ impl Player {
     /// Counts an answer.
     fn count(&mut self, answer: Answer)
         requires { HasRoom self.old }
-        ensures { self.new ≡ record self.old { ops = self.old.ops + 1; refused = count_by is_refusal (answer ∷ []) + self.old.refused } }
+        ensures { self.new ≡ record self.old {
+          ops = self.old.ops + 1;
+          refused = count_by is_refusal (answer ∷ []) + self.old.refused;
+        } }
     {
         self.ops += 1;
         if is_refusal(answer) {
@@ -103,14 +98,11 @@ impl Player {
     /// Its text so far.
     pub(crate) fn text(&self, alloc: Global) -> Result<Text, NoMemory>
         ensures { (program : List Item) (es : List Event) (k : ℕ)
-            → IsPlayerOf program k (served (config_of program 8) es k) self.now
+            → IsPlayerOf program k (served_to (config_of program 8) es k) self.now
             → IfOk result (λ t. IsTextOf program es k t.bytes.items t.ops t.refused) }
     {
-        let Ok(bytes) = self.feed.text().to_vec(alloc) else {
-            return Err(NoMemory);
-        };
         Ok(Text {
-            bytes,
+            bytes: self.feed.text().to_vec(alloc)?,
             ops: self.ops,
             refused: self.refused,
         })

@@ -55,9 +55,7 @@ fn players(alloc: Global, program: &Checked) -> Result<Vec<Player>, NoMemory>
     let mut players = Vec::new(alloc);
     for script in 0..program.scripts() {
         let player = Player::start(alloc, program, script)?;
-        let Ok(()) = players.push(player) else {
-            return Err(NoMemory);
-        };
+        players.push(player)?;
     }
     Ok(players)
 }
@@ -86,8 +84,7 @@ impl Run {
         let Seat::Caller(caller) = seat else {
             return None;
         };
-        let player = self.players.get(caller as usize)?;
-        player.feed.op()
+        self.players.get(caller as usize)?.feed.op()
     }
 
     /// The event of an entry; where its seat doesn't exist, some event of that seat.
@@ -133,10 +130,7 @@ impl Run {
     {
         let event = self.event(entry);
         match self.core.step(event) {
-            Ok(decided) => {
-                self.follow(alloc, event, decided)?;
-                Ok(())
-            }
+            Ok(decided) => Ok(self.follow(alloc, event, decided)?),
             Err(NotEnabled { condition }) => Err(ReplayStop::NotEnabled {
                 line: entry.line,
                 event: entry.place,
@@ -153,9 +147,7 @@ impl Run {
         let mut texts = Vec::new(alloc);
         for player in &self.players {
             let text = player.text(alloc)?;
-            let Ok(()) = texts.push(text) else {
-                return Err(NoMemory);
-            };
+            texts.push(text)?;
         }
         Ok(texts)
     }
@@ -174,7 +166,8 @@ pub fn replay(
     ensures admitted { OnOk result (CallsAreAdmitted (config_of program.now 8) (history_of program.now schedule.now)) }
     ensures promises { OnOk result (KeepsAllPromises (config_of program.now 8) (history_of program.now schedule.now)) }
     ensures texts { IfOk result (λ texts. AreTextsOf program.now (history_of program.now schedule.now) texts.items) }
-    ensures not_enabled { IfErr result (λ stop. stop ≢ ReplayStop.NoMemory → refusal_of program.now schedule.now ≡ Some stop) }
+    ensures not_enabled { IfErr result (λ stop. stop ≢ ReplayStop.NoMemory
+        → refusal_of program.now schedule.now ≡ Some stop) }
 {
     // The program is well typed, so its scripts ask for nothing that isn't admitted.
     let _well_typed = program.program();
@@ -182,6 +175,5 @@ pub fn replay(
     for entry in schedule.entries() {
         run.step(alloc, *entry)?;
     }
-    let texts = run.texts(alloc)?;
-    Ok(texts)
+    Ok(run.texts(alloc)?)
 }

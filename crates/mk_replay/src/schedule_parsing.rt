@@ -1,5 +1,6 @@
 //! The reader of a script part and a schedule.
 ghost use Rattle.std.specs.Prelude.{◌≡◌, ◌≢◌, ◌<◌, ◌≤◌, ◌+◌, ◌^◌, length, Ok, Err, IfOk, IfErr, MatchOption};
+ghost use Rattle.mk_script.specs.Grammar.{longest_text};
 ghost use Rattle.mk_script.specs.Words.{lines_of, texts_of};
 ghost use Rattle.mk_replay.specs.Reading as reading;
 ghost use Rattle.mk_replay.specs.Reading.{StandsAt, HasNone};
@@ -8,11 +9,10 @@ ghost use Rattle.mk_replay.specs.Schedules.{replay_of, entries_of_lines};
 
 use crate::lines::{LineStop, line_entries};
 use crate::schedule::{Entry, Schedule};
-use mk_script::{Program, TextKind, TextStop, Which, lines, parse, words};
+use mk_script::{
+    Program, TEXT_LIMIT, TOO_LONG, TextKind, TextStop, parse, split_lines, split_words,
+};
 use std::alloc::{AllocError, Global};
-
-/// The greatest length of a text, in bytes.
-const TEXT_LIMIT: usize = 1_048_576;
 
 /// The program and the schedule of a text, or its first fault, those of the script part before those
 /// behind it. `NoMemory` says nothing of the text.
@@ -21,13 +21,9 @@ pub fn parse_replay(alloc: Global, bytes: &[u8]) -> Result<(Program, Schedule), 
     ensures fault { IfErr result (λ stop. stop ≢ TextStop.NoMemory → replay_of bytes.now ≡ Err stop) }
 {
     if bytes.len() > TEXT_LIMIT {
-        return Err(TextStop::Limit {
-            line: 0,
-            which: Which::Bytes,
-            found: 1_048_577,
-        });
+        return Err(TextStop::at_line(0, TOO_LONG));
     }
-    let lines = lines(alloc, bytes)?;
+    let lines = split_lines(alloc, bytes)?;
     match schedule_place(alloc, &lines)? {
         Some(place) => read_parts(alloc, bytes, &lines, place),
         None => {
@@ -47,7 +43,7 @@ fn read_parts(
     lines: &[&[u8]],
     place: usize,
 ) -> Result<(Program, Schedule), TextStop>
-    requires short { length bytes.now ≤ 1048576 }
+    requires short { length bytes.now ≤ longest_text }
     requires lines { texts_of lines.now ≡ lines_of bytes.now }
     requires place { StandsAt (lines_of bytes.now) place }
     ensures parts { IfOk result (λ parts. replay_of bytes.now ≡ Ok parts) }
@@ -74,7 +70,7 @@ fn schedule_place(alloc: Global, lines: &[&[u8]]) -> Result<Option<usize>, Alloc
 fn is_schedule_line(alloc: Global, line: &[u8]) -> Result<bool, AllocError>
     ensures { IfOk result (λ is. is ≡ spec.is_schedule_line line.now) }
 {
-    let words = words(alloc, line)?;
+    let words = split_words(alloc, line)?;
     match words.as_slice() {
         [word] => Ok(*word == b"schedule".as_slice()),
         _ => Ok(false),
@@ -97,7 +93,8 @@ fn text_length(lines: &[&[u8]]) -> usize
 fn entries(alloc: Global, first: u64, lines: &[&[u8]]) -> Result<Vec<Entry>, TextStop>
     requires { first + length lines.now < 2 ^ 64 }
     ensures entries { IfOk result (λ entries. entries_of_lines first (texts_of lines.now) ≡ Ok entries.items) }
-    ensures fault { IfErr result (λ stop. stop ≢ TextStop.NoMemory → entries_of_lines first (texts_of lines.now) ≡ Err stop) }
+    ensures fault { IfErr result (λ stop. stop ≢ TextStop.NoMemory
+        → entries_of_lines first (texts_of lines.now) ≡ Err stop) }
 {
     let mut entries = Vec::new(alloc);
     for (index, text) in lines.iter().enumerate() {

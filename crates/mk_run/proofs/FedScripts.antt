@@ -11,12 +11,11 @@ use Rattle.mk_core.specs.Decided.{flagged}
 use Rattle.mk_script.specs.declared.items.Item.{Item}
 use Rattle.mk_script.specs.declared.items.Item.TheVariants.{Getn, Casp, Same, Isnull, Show}
 use Rattle.mk_check.specs.Blocks.{Blocks, Done, Line, Rounds, Choice}
-use Rattle.mk_check.specs.Feed.{Scope, Fed, op_of, with_answer, note, run, take_answer, feed}
+use Rattle.mk_check.specs.Feed.{Scope, Fed, op_of, with_answer, note, run, take_answer, feed, is_refusal}
 use Rattle.mk_check.specs.Feeding.{FeedState, FeedStandsFor, script_scope}
 use Rattle.mk_check.specs.Steps.{steps_of}
 use Rattle.mk_check.proofs.FeedLaws.{feed_push}
 use Rattle.mk_run.specs.declared.scripts.Script.{Script}
-use Rattle.mk_run.specs.Running.{is_refusal}
 use Rattle.mk_run.specs.Scripts.{as_told, IsFedWith}
 
 -- What is told of an answer does to a script what the answer does.

@@ -12,9 +12,9 @@ use Rattle.mk_words.specs.Seats.{Has}
 use Rattle.mk_words.proofs.Seats.{has_first, others_own}
 use Rattle.mk_caller.proofs.OwnSteps.{calls_by, others_add_none}
 use Rattle.mk_script.specs.declared.items.Item.{Item}
-use Rattle.mk_check.specs.Feed.{feed, has_ended}
+use Rattle.mk_check.specs.Feed.{feed, has_ended, is_refusal}
 use Rattle.mk_check.specs.declared.text.Text.{Text}
-use Rattle.mk_run.specs.Running.{answers_in, is_refusal, FollowsScript, EndsScript, IsTextOf}
+use Rattle.mk_run.specs.Running.{answers_in, FollowsScript, EndsScript, IsTextOf}
 use Rattle.mk_alloc.proofs.ExactTurns.{stay_exact_behind_others}
 use Rattle.mk_run.proofs.NotedCalls.{same_answers, still_noted}
 

@@ -2,6 +2,7 @@
 use Rattle.std.proofs.Common.{◌≡◌, ℕ, ◌+◌, ◌<◌, ◌≤◌, Bool, false, length, arith, List, [], ◌∷◌, ◌++◌, refl, sym, ◌∙◌}
 use Rattle.std.proofs.Common.{ap, subst}
 use Rattle.std.specs.Prelude.{Some}
+use Rattle.std.proofs.lemmas.Bool.{true≢false}
 use Rattle.std.proofs.lemmas.List.{length-append}
 use Rattle.std.proofs.lemmas.List.Sums.{count_by-le-length}
 use Rattle.mk_never.specs.declared.operations.Op.{Op}
@@ -13,6 +14,7 @@ use Rattle.mk_core.specs.declared.events.Event.{Event}
 use Rattle.mk_core.specs.declared.events.Seat.{Seat}
 use Rattle.mk_core.specs.declared.events.Seat.TheVariants.{Caller}
 use Rattle.mk_core.specs.Accesses.{caller_number}
+use Rattle.mk_core.specs.Calls.{is_under_turn}
 use Rattle.mk_core.specs.Decided.{Decided, entry_of, asked, flagged}
 use Rattle.mk_core.specs.History.{calls, never_first, never_behind, IsHistory}
 use Rattle.mk_never.specs.Admitted.{IsAdmitted}
@@ -29,12 +31,13 @@ use Rattle.mk_alloc.specs.TurnCalls.{CalledInTurn}
 use Rattle.mk_alloc.specs.TurnCycles.{TurnsOfAreExact}
 use Rattle.mk_script.specs.declared.items.Item.{Item}
 use Rattle.mk_script.specs.Scopes.{script_names}
+use Rattle.mk_check.specs.Feed.{is_refusal}
 use Rattle.mk_check.specs.Declarations.{config_of}
 use Rattle.mk_check.specs.Feeding.{next_op}
 use Rattle.mk_check.specs.Laws.{IsChecked, IsScript, AreNotedBy}
-use Rattle.mk_run.specs.Running.{answers_in, is_refusal, FollowsScript}
+use Rattle.mk_run.specs.Running.{answers_in, FollowsScript}
 use Rattle.mk_run.specs.declared.scripts.Script.{Script}
-use Rattle.mk_run.specs.Scripts.{as_told, IsCalled, StaysAdmitted, MakesNoCall, Answers}
+use Rattle.mk_run.specs.Scripts.{as_told, unflagged, IsCalled, StaysAdmitted, MakesNoCall, Answers}
 use Rattle.mk_run.specs.Scripts.{IsFedWith, TakesAnswer, IsRunning}
 use Rattle.mk_run.proofs.FedScripts.{fed_as_told}
 use Rattle.mk_alloc.proofs.ExactTurns.{stay_exact_behind_calls, stay_exact_where_held, stay_exact_behind_turns}
@@ -47,25 +50,27 @@ seen_alone : (p : PassState) (more : List Event) (q : PassState) → q ≡ recor
 seen_alone p more q is = is ∙ ap (λ (r : PassState). record p { seen = r.seen }) (sym is)
 
 pub answered_by_call : (on : Bool) (p : PassState) (o : Op) (told : Answer) (q : PassState) → Has p.seats p.seat
-    → IsCalled p o told q
+    → is_under_turn o ≡ false → IsCalled p o told q
     → Answers on p o told q
-answered_by_call on p o told q own h = record {
+answered_by_call on p o told q own entered h = record {
   answer = h.answer;
   is_told = h.is_told;
   is = seen_alone p h.called.more q h.called.is;
   entry = ap (λ (r : PassState). own_calls p r.seen) h.called.is ∙ h.called.entry;
   exact = stay_exact_behind_calls on p o h.answer q own h.called;
+  in_turn = λ under. absurd (true≢false (sym under ∙ entered));
 }
 
 pub answered_in_turn : (on : Bool) (p : PassState) (o : Op) (a : Answer) (q : PassState) → Has p.seats p.seat
-    → CalledInTurn on p o a q
+    → unflagged o ≡ o → CalledInTurn on p o a q
     → Answers on p o (as_told a) q
-answered_in_turn on p o a q own h = record {
+answered_in_turn on p o a q own plain h = record {
   answer = a;
   is_told = refl;
   is = seen_alone p h.more q h.is;
   entry = ap (λ (r : PassState). own_calls p r.seen) h.is ∙ h.entry;
   exact = stay_exact_behind_turns on p o a q own h;
+  in_turn = λ under. subst (λ (x : Op). CalledInTurn on p x a q) (sym plain) h;
 }
 
 pub makes_none : (on : Bool) (p : PassState) (o : Op) (q : PassState) → Has p.seats p.seat → FindsGateHeld p o q
@@ -92,9 +97,9 @@ none_then_none on p q r h g = record {
 }
 
 pub none_then_answers : (on : Bool) (p q : PassState) (o : Op) (told : Answer) (r : PassState) → MakesNoCall on p q
-    → Answers on q o told r
+    → is_under_turn o ≡ false → Answers on q o told r
     → Answers on p o told r
-none_then_answers on p q o told r h g = record {
+none_then_answers on p q o told r h entered g = record {
   answer = g.answer;
   is_told = g.is_told;
   is = then_seen p q r h.is g.is;
@@ -102,6 +107,7 @@ none_then_answers on p q o told r h g = record {
       ∙ ap (λ (l : List Decided). l ++ entry_of (number_of q) o (Some g.answer)) (same_own p q q.seen h.is ∙ h.entries)
       ∙ ap (λ (s : PassState). own_calls p p.seen ++ entry_of (number_of s) o (Some g.answer)) h.is;
   exact = λ e. g.exact (h.exact e);
+  in_turn = λ under. absurd (true≢false (sym under ∙ entered));
 }
 
 -- What stays admitted is admitted behind a list to which the caller added no call.
@@ -123,7 +129,7 @@ pub answered_new : (on : Bool) (p : PassState) (o : Op) (d ty : ℕ) (full : Boo
     → o ≡ op.New d ty full → CalledInTurn on p (op.New d ty false) a q → Answers on p o (as_told a) q
 unfolding answered_in_turn
 answered_new on p o d ty full a q own is h =
-    let made = answered_in_turn on p (op.New d ty false) a q own h in
+    let made = answered_in_turn on p (op.New d ty false) a q own refl h in
     subst (λ (x : Op). Answers on p x (as_told a) q) (sym is) (record {
       answer = a;
       is_told = refl;
@@ -132,12 +138,13 @@ answered_new on p o d ty full a q own is h =
           ∙ ap (λ (x : Op). own_calls p p.seen ++ record { caller = number_of p; op = x; answer = a } ∷ [])
           (flagged_alike d ty full a);
       exact = made.exact;
+      in_turn = λ under. h;
     })
 
 pub answered_free : (on : Bool) (p : PassState) (o : Op) (r : ℕ) (a : Answer) (q : PassState) → Has p.seats p.seat
     → o ≡ op.Free r → CalledInTurn on p (op.Free r) a q → Answers on p o (as_told a) q
 answered_free on p o r a q own is h =
-    subst (λ (x : Op). Answers on p x (as_told a) q) (sym is) (answered_in_turn on p (op.Free r) a q own h)
+    subst (λ (x : Op). Answers on p x (as_told a) q) (sym is) (answered_in_turn on p (op.Free r) a q own refl h)
 
 pub type_exists : (p : PassState) (o : Op) (d ty : ℕ) (full : Bool) → o ≡ op.New d ty full → Admits p o
     → ty < length p.table.config.types

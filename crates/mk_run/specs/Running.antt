@@ -1,8 +1,7 @@
 -- What a run of a program's scripts is, in the history of its heap.
-use Rattle.std.specs.Prelude.{◌≡◌, ℕ, Bool, true, false, List, length, count_by, slice_get, Some}
+use Rattle.std.specs.Prelude.{◌≡◌, ℕ, Bool, true, List, length, count_by, slice_get, Some}
 use Rattle.mk_core.specs.declared.config.Config.{Config}
 use Rattle.mk_core.specs.declared.events.Answer.{Answer}
-use Rattle.mk_core.specs.declared.events.Answer.TheVariants as answer
 use Rattle.mk_core.specs.declared.events.Event.{Event}
 use Rattle.mk_core.specs.declared.events.Seat.TheVariants.{Caller}
 use Rattle.mk_core.specs.Decided.{asked}
@@ -10,7 +9,7 @@ use Rattle.mk_core.specs.History.{calls}
 use Rattle.mk_script.specs.declared.items.Item.{Item}
 use Rattle.mk_script.specs.Scopes.{script_names}
 use Rattle.mk_check.specs.Declarations.{config_of}
-use Rattle.mk_check.specs.Feed.{feed, has_ended}
+use Rattle.mk_check.specs.Feed.{feed, has_ended, is_refusal}
 use Rattle.mk_check.specs.Laws.{AreNotedBy, IsScript}
 use Rattle.mk_check.specs.Output.{answers_among}
 use Rattle.mk_check.specs.declared.text.Text.{Text}
@@ -32,14 +31,6 @@ pub record FollowsScript (on : Bool) (program : List Item) (k : ℕ) (c : Config
 -- Script k ran to its end.
 abbrev pub EndsScript : List Item → ℕ → Config → List Event → Type 0
 EndsScript program k c es = has_ended (feed program k (answers_in c k es)) ≡ true
-
--- the answers that refuse
-abbrev pub is_refusal : Answer → Bool
-is_refusal answer.Full = true
-is_refusal answer.Fault = true
-is_refusal answer.Null = true
-is_refusal answer.Double = true
-is_refusal _ = false
 
 -- The text is that of script k for its answers in the history, with the counts of its calls.
 pub record IsTextOf (program : List Item) (k : ℕ) (c : Config) (es : List Event) (text : Text) : Type 0 where

@@ -1,20 +1,23 @@
 -- A script under way: the calls that it has its caller make, and what it keeps of them.
--- Private functions alone cite these words.
-use Rattle.std.specs.Prelude.{◌≡◌, ℕ, ◌<◌, ◌≤◌, Bool, List, [], ◌∷◌, ◌++◌, length, count_by, Some}
+use Rattle.std.specs.Prelude.{◌≡◌, ℕ, ◌<◌, ◌≤◌, Bool, true, false, List, [], ◌∷◌, ◌++◌, length, count_by, Some}
 use Rattle.mk_never.specs.declared.operations.Op.{Op}
+use Rattle.mk_never.specs.declared.operations.Op.TheVariants as op
 use Rattle.mk_core.specs.declared.events.Answer.{Answer}
 use Rattle.mk_core.specs.declared.events.Answer.TheVariants as answer
 use Rattle.mk_core.specs.declared.events.Event.{Event}
+use Rattle.mk_core.specs.Calls.{is_under_turn}
 use Rattle.mk_core.specs.Decided.{entry_of}
 use Rattle.mk_core.specs.History.{IsHistory}
 use Rattle.mk_words.specs.States.{PassState}
 use Rattle.mk_caller.specs.States.{number_of, Admits}
 use Rattle.mk_caller.specs.Called.{own_calls, Called}
 use Rattle.mk_alloc.specs.Laws.{OwnAreExact}
+use Rattle.mk_alloc.specs.TurnCalls.{CalledInTurn}
 use Rattle.mk_script.specs.declared.items.Item.{Item}
+use Rattle.mk_check.specs.Feed.{is_refusal}
 use Rattle.mk_check.specs.Feeding.{FeedStandsFor}
 use Rattle.mk_run.specs.declared.scripts.Script.{Script}
-use Rattle.mk_run.specs.Running.{answers_in, is_refusal, FollowsScript}
+use Rattle.mk_run.specs.Running.{answers_in, FollowsScript}
 
 -- A caller isn't told which pointer it loaded.
 abbrev pub as_told : Answer → Answer
@@ -39,13 +42,19 @@ pub record MakesNoCall (on : Bool) (p q : PassState) : Type 0 where
   pub entries : own_calls p q.seen ≡ own_calls p p.seen
   pub exact : OwnAreExact on p → OwnAreExact on q
 
--- The caller made one call, of this operation, and is told this of its answer.
+-- A New that isn't known to be full
+abbrev pub unflagged : Op → Op
+unflagged (op.New d ty full) = op.New d ty false
+unflagged o = o
+
+-- The caller made one call, of this operation, and is told this of its answer. A New or a Free it made in one turn.
 pub record Answers (on : Bool) (p : PassState) (o : Op) (told : Answer) (q : PassState) : Type 0 where
   pub answer : Answer
   pub is_told : told ≡ as_told answer
   pub is : q ≡ record p { seen = q.seen }
   pub entry : own_calls p q.seen ≡ own_calls p p.seen ++ entry_of (number_of p) o (Some answer)
   pub exact : OwnAreExact on p → OwnAreExact on q
+  pub in_turn : is_under_turn o ≡ true → CalledInTurn on p (unflagged o) answer q
 
 -- Script k, fed with these answers.
 pub record IsFedWith (program : List Item) (k : ℕ) (answers : List Answer) (s : Script) : Type 0 where

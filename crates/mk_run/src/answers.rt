@@ -108,7 +108,7 @@ fn call_until_open<R: Wait>(rt: &R, caller: &mut Caller, op: Op) -> Answer
 }
 
 /// Carries out an operation, and tells its answer. Which pointer was loaded isn't told.
-pub(crate) fn answer_to<E: Engine, R: Threads + Wait + Sync>(
+pub fn answer_to<E: Engine, R: Threads + Wait + Sync>(
     rt: &R,
     caller: &mut Caller,
     bench: &mut Bench<E>,

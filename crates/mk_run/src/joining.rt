@@ -75,10 +75,8 @@ fn with_first(
 {
     let text = first?;
     let mut texts = others?;
-    match texts.insert(0, text) {
-        Ok(()) => Ok(texts),
-        Err(_) => Err(NoMemory),
-    }
+    texts.insert(0, text)?;
+    Ok(texts)
 }
 
 /// Runs the scripts from `k` on, each on a thread of its own and with a bench of its own, and joins them. A script whose

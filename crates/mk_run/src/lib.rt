@@ -12,6 +12,7 @@ mod running;
 mod scripts;
 mod why;
 
+pub use answers::answer_to;
 pub use outcomes::Outcome;
 pub use paces::{NoPace, Pace};
 pub use running::{run_all, run_with_cycle};

@@ -26,10 +26,7 @@ fn benches<E: Engine>(alloc: Global, count: u64, pages: u64) -> Result<Vec<Bench
 {
     let mut benches = Vec::new(alloc);
     for _bench in 0..count {
-        let bench = Bench::new(alloc, pages)?;
-        let Ok(()) = benches.push(bench) else {
-            return Err(NoMemory);
-        };
+        benches.push(Bench::new(alloc, pages)?)?;
     }
     Ok(benches)
 }

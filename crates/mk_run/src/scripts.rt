@@ -5,13 +5,13 @@ ghost use Rattle.mk_check.specs.Feeding.{IsWaiting};
 ghost use Rattle.mk_check.specs.Laws.{IsScript};
 ghost use Rattle.mk_caller.specs.States.{number_of};
 ghost use Rattle.mk_turns.specs.Sweeping.{SweepsNothing};
-ghost use Rattle.mk_run.specs.Running.{answers_in, is_refusal, FollowsScript, EndsScript, IsTextOf};
+ghost use Rattle.mk_run.specs.Running.{answers_in, FollowsScript, EndsScript, IsTextOf};
 ghost use Rattle.mk_run.specs.Scripts.{HasRoom, IsFedWith, TakesAnswer};
 
 use crate::answers::answer_to;
 use crate::paces::Pace;
 use mk_caller::Caller;
-use mk_check::{Checked, Feed, Text};
+use mk_check::{Checked, Feed, Text, is_refusal};
 use mk_core::Answer;
 use mk_cycle::{Bench, Engine};
 use mk_never::NoMemory;
@@ -27,20 +27,11 @@ struct Script {
     refused: u64,
 }
 
-fn is_refusal(answer: Answer) -> bool
-    ensures { result ≡ is_refusal answer }
-{
-    matches!(
-        answer,
-        Answer::Full | Answer::Fault | Answer::Null | Answer::Double
-    )
-}
-
 impl Script {
     ghost use Rattle.std.specs.Prelude.{ℕ, List};
     ghost use Rattle.mk_core.specs.declared.events.Answer.{Answer};
     ghost use Rattle.mk_script.specs.declared.items.Item.{Item};
-    ghost use Rattle.mk_check.specs.Feed.{feed};
+    ghost use Rattle.mk_check.specs.Feed.{feed, is_refusal};
 
     fn start(alloc: Global, program: &Checked, k: u64) -> Result<Script, NoMemory>
         requires { IsScript program.now k }
@@ -83,11 +74,8 @@ impl Script {
             → IfOk result (λ text. text.bytes.items ≡ (feed program k answers).text) }
         ensures counts { IfOk result (λ text. (text.ops ≡ self.now.ops) × (text.refused ≡ self.now.refused)) }
     {
-        let Ok(bytes) = self.feed.text().to_vec(alloc) else {
-            return Err(NoMemory);
-        };
         Ok(Text {
-            bytes,
+            bytes: self.feed.text().to_vec(alloc)?,
             ops: self.ops,
             refused: self.refused,
         })

@@ -5,13 +5,13 @@ use Rattle.std.proofs.lemmas.List.Splits.{slice_split_at}
 use Rattle.mk_script.specs.declared.items.Item.{Item}
 use Rattle.mk_script.specs.Canonical.{words_of_item, canonical_text}
 use Rattle.mk_script.specs.Words.{lines_of, without_empty_last}
-use Rattle.mk_script.specs.Spaced.{joined}
+use Rattle.mk_script.specs.Spaced.{joined_words}
 use Rattle.mk_script.proofs.Spacing.{line_text-joined}
 use Rattle.mk_script.proofs.LineWords.{AreWords, without_newline}
 
 -- the lines of items, without their newlines
 abbrev pub lines_of_items : List Item → List (List ℕ)
-lines_of_items items = map (λ item. joined (words_of_item item)) items
+lines_of_items items = map (λ item. joined_words (words_of_item item)) items
 
 abbrev pub HaveWords : List Item → Type 0
 HaveWords [] = Unit {0}
@@ -20,7 +20,7 @@ HaveWords (item ∷ items) = AreWords (words_of_item item) × HaveWords items
 split_lines : (items : List Item) → HaveWords items → slice_split (λ byte. nat_eq byte 10) (canonical_text items) ≡ lines_of_items items ++ [] ∷ []
 split_lines [] ws = refl
 split_lines (item ∷ items) ws =
-    let line = joined (words_of_item item) in
+    let line = joined_words (words_of_item item) in
     let text : canonical_text (item ∷ items) ≡ line ++ 10 ∷ canonical_text items = rw (line_text-joined (words_of_item item)) (simp append_assoc) in
     ap (λ bytes. slice_split (λ byte. nat_eq byte 10) bytes) text
     ∙ slice_split_at (λ byte. nat_eq byte 10) line 10 (canonical_text items) (without_newline (words_of_item item) ws.0) refl

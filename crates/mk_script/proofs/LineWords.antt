@@ -14,7 +14,7 @@ use Rattle.std.proofs.lemmas.Bool.Decides.{nat_tests}
 use Rattle.std.proofs.lemmas.Bool.{true≢false, and_from, and_parts, lt-ltb, ltb-true, cond-true}
 use Rattle.mk_script.specs.Names.{is_name_byte}
 use Rattle.mk_script.specs.Words.{words_of, is_empty}
-use Rattle.mk_script.specs.Spaced.{spaced, joined}
+use Rattle.mk_script.specs.Spaced.{spaced_words, joined_words}
 use Rattle.mk_script.proofs.PrintedNumbers.{all_ascii_digits-decimal}
 
 -- whether each byte is above the space
@@ -72,10 +72,10 @@ abbrev pub AreWords : List (List ℕ) → Type 0
 AreWords [] = Unit {0}
 AreWords (word ∷ words) = (is_word word ≡ true) × AreWords words
 
-pub split_spaced : (word : List ℕ) (words : List (List ℕ)) → is_word word ≡ true → AreWords words → slice_split (λ byte. nat_eq byte 32) (word ++ spaced words) ≡ word ∷ words
+pub split_spaced : (word : List ℕ) (words : List (List ℕ)) → is_word word ≡ true → AreWords words → slice_split (λ byte. nat_eq byte 32) (word ++ spaced_words words) ≡ word ∷ words
 split_spaced word [] p ws = rw append-nil (slice_split_none (λ byte. nat_eq byte 32) word (without 32 word (omega arith) (is_solid-from_is_word word p)))
 split_spaced word (next ∷ words) p ws =
-    slice_split_at (λ byte. nat_eq byte 32) word 32 (next ++ spaced words) (without 32 word (omega arith) (is_solid-from_is_word word p)) refl
+    slice_split_at (λ byte. nat_eq byte 32) word 32 (next ++ spaced_words words) (without 32 word (omega arith) (is_solid-from_is_word word p)) refl
     ∙ ap (λ rest. word ∷ rest) (split_spaced next words ws.0 ws.1)
 
 not_zero : (n : ℕ) → not (nat_eq (suc n) 0) ≡ true
@@ -87,17 +87,17 @@ keeps_words ([] ∷ words) ws = absurd (true≢false (sym ws.0))
 keeps_words ((byte ∷ word) ∷ words) ws = cond-true _ _ _ (not_zero (length word)) ∙ ap (λ rest. (byte ∷ word) ∷ rest) (keeps_words words ws.1)
 
 -- the words of words with spaces between them
-pub words_of-joined : (words : List (List ℕ)) → AreWords words → words_of (joined words) ≡ words
+pub words_of-joined : (words : List (List ℕ)) → AreWords words → words_of (joined_words words) ≡ words
 words_of-joined [] ws = refl
 words_of-joined (word ∷ words) ws = ap (λ parts. filter (λ part. not (is_empty part)) parts) (split_spaced word words ws.0 ws.1) ∙ keeps_words (word ∷ words) ws
 
-newline_apart : (words : List (List ℕ)) → AreWords words → All (λ byte. nat_eq byte 10 ≡ false) (spaced words)
+newline_apart : (words : List (List ℕ)) → AreWords words → All (λ byte. nat_eq byte 10 ≡ false) (spaced_words words)
 newline_apart [] ws = All-nil (λ byte. nat_eq byte 10 ≡ false)
 newline_apart (word ∷ words) ws =
-    All-cons (λ byte. nat_eq byte 10 ≡ false) 32 (word ++ spaced words) refl
-    (All-append (λ byte. nat_eq byte 10 ≡ false) word (spaced words) (without 10 word (omega arith) (is_solid-from_is_word word ws.0)) (newline_apart words ws.1))
+    All-cons (λ byte. nat_eq byte 10 ≡ false) 32 (word ++ spaced_words words) refl
+    (All-append (λ byte. nat_eq byte 10 ≡ false) word (spaced_words words) (without 10 word (omega arith) (is_solid-from_is_word word ws.0)) (newline_apart words ws.1))
 
 -- such a line has no newline
-pub without_newline : (words : List (List ℕ)) → AreWords words → All (λ byte. nat_eq byte 10 ≡ false) (joined words)
+pub without_newline : (words : List (List ℕ)) → AreWords words → All (λ byte. nat_eq byte 10 ≡ false) (joined_words words)
 without_newline [] ws = All-nil (λ byte. nat_eq byte 10 ≡ false)
-without_newline (word ∷ words) ws = All-append (λ byte. nat_eq byte 10 ≡ false) word (spaced words) (without 10 word (omega arith) (is_solid-from_is_word word ws.0)) (newline_apart words ws.1)
+without_newline (word ∷ words) ws = All-append (λ byte. nat_eq byte 10 ≡ false) word (spaced_words words) (without 10 word (omega arith) (is_solid-from_is_word word ws.0)) (newline_apart words ws.1)

@@ -4,6 +4,7 @@ use Rattle.std.specs.declared.result.Result.{Result}
 use Rattle.std.specs.Str.{bytes_eq}
 use Rattle.std.proofs.lemmas.Bool.{and_from, and_parts, leb-true, cond-true}
 use lib.Chars.{codes}
+use Rattle.std.specs.Option.{option_or}
 use Rattle.mk_script.specs.declared.items.Item.{Item}
 use Rattle.mk_script.specs.declared.items.Item.TheVariants as item
 use Rattle.mk_script.specs.declared.keywords.Keyword.{Keyword}
@@ -14,7 +15,7 @@ use Rattle.mk_script.specs.declared.faults.Which.TheVariants as which
 use Rattle.mk_script.specs.Keywords.{keyword_of, has_operands}
 use Rattle.mk_script.specs.Operands.{have_form, item_from}
 use Rattle.mk_script.specs.Scopes.{type_names, open_blocks}
-use Rattle.mk_script.specs.Lines.{is_placed, heap_line, placed_item, other_line, line_item, is_twice, at_most, or_else, limit_fault, ends_rightly, or_item, checked_item, line_of}
+use Rattle.mk_script.specs.Lines.{is_placed, heap_line, placed_item, other_line, line_item, is_twice, at_most, limit_fault, ends_rightly, or_item, checked_item, line_of}
 use Rattle.mk_script.specs.Canonical.{words_of_item}
 use Rattle.mk_script.proofs.LineWords.{AreWords, is_word-decimal}
 use Rattle.mk_script.proofs.Said.{then_was, then_again, with_number, is_this}
@@ -86,15 +87,15 @@ or_item_was : (fault : Option LineFault) (line found : Item) → or_item fault l
 or_item_was None line found e = let same : line ≡ found = cc in (refl, same)
 or_item_was (Some fault) line found e = no_item e
 
-or_else_was : (first second : Option LineFault) → or_else first second ≡ None → second ≡ None
-or_else_was None second e = e
-or_else_was (Some fault) second e = absurd cc
+option_or_was : (first second : Option LineFault) → option_or first second ≡ None → second ≡ None
+option_or_was None second e = e
+option_or_was (Some fault) second e = absurd cc
 
 at_most_was : (found greatest : ℕ) (limit : Which) → at_most found greatest limit ≡ None → found ≤ greatest
 at_most_was found greatest limit e = leb-true found greatest (cond_none (nat_le found greatest) _ e)
 
 is_short : (before : List Item) (line : Item) → limit_fault before line ≡ None → IsShort line
-is_short before (item.TypeLine name words) e = at_most_was (length words) 4096 which.Words (or_else_was (at_most (length (type_names before) + 1) 64 which.Types) _ e)
+is_short before (item.TypeLine name words) e = at_most_was (length words) 4096 which.Words (option_or_was (at_most (length (type_names before) + 1) 64 which.Types) _ e)
 is_short before line e = tt
 
 checked_was : (before : List Item) (line found : Item) → checked_item before line ≡ Ok found → (line ≡ found) × IsShort line

@@ -12,10 +12,11 @@ use Rattle.mk_script.specs.declared.items.At.{At}
 use Rattle.mk_script.specs.declared.items.TypeWord.{TypeWord}
 use Rattle.mk_script.specs.declared.items.TypeWord.TheVariants.{Number, Pointer}
 use Rattle.mk_script.specs.declared.faults.LineFault.{LineFault}
-use Rattle.mk_script.specs.Names.{number_of}
-use Rattle.mk_script.specs.Operands.{at, ok_part, numbers, starred, pointed, field_of, fields_of}
+use Rattle.mk_script.specs.Names.{number_of_word}
+use Rattle.std.specs.Result.{result_ok}
+use Rattle.mk_script.specs.Operands.{at, numbers, number_field, pointer_field, field_of, fields_of}
 use Rattle.mk_script.specs.Canonical.{at_text, numbers_text, numbers_before, fields_behind}
-use Rattle.mk_script.proofs.PrintedNumbers.{number_of-decimal}
+use Rattle.mk_script.proofs.PrintedNumbers.{number_of_word-decimal}
 use Rattle.mk_script.proofs.LineWords.{is_word, is_solid-decimal, is_word-append, AreWords}
 use Rattle.mk_script.proofs.Said.{IsPlace, at_was, at_again, is_solid-at}
 
@@ -34,7 +35,7 @@ numbers_again count some = cond-true _ _ _ (le-leb 1 count some)
 
 many_numbers : (count : ℕ) → 0 < count → count < 2 ^ 64 → IsFieldOf (codes "n*" ++ decimal count) (replicate count Number)
 many_numbers count some small = record {
-  says = ap (λ o. option_and_then numbers o) (number_of-decimal count small) ∙ numbers_again count some;
+  says = ap (λ o. option_and_then numbers o) (number_of_word-decimal count small) ∙ numbers_again count some;
   word = is_word-append (codes "n*") (decimal count) refl (is_solid-decimal count small);
 }
 
@@ -46,7 +47,7 @@ numbers_text_again count some small =
 
 pub pointer_again : (a : At) → IsPlace a → IsFieldOf (codes "p:" ++ at_text a) (Pointer a ∷ [])
 pointer_again a place = record {
-  says = ap (λ r. option_map (λ b. Pointer b ∷ []) (ok_part r)) (at_again a place);
+  says = ap (λ r. option_map (λ b. Pointer b ∷ []) (result_ok r)) (at_again a place);
   word = is_word-append (codes "p:") (at_text a) refl (is_solid-at a place);
 }
 
@@ -106,9 +107,9 @@ and_then_was : {A B : Type 0} (f : A → Option B) (o : Option A) (y : B) → op
 and_then_was f None y e = absurd cc
 and_then_was f (Some x) y e = (x, e)
 
-numbers_were : (digits : List ℕ) (words : List TypeWord) → option_and_then numbers (number_of digits) ≡ Some words → AreSaid words
+numbers_were : (digits : List ℕ) (words : List TypeWord) → option_and_then numbers (number_of_word digits) ≡ Some words → AreSaid words
 numbers_were digits words e =
-    let step = and_then_was numbers (number_of digits) words e in
+    let step = and_then_was numbers (number_of_word digits) words e in
     let was = cond_was (nat_le 1 step.0) (replicate step.0 Number) words step.1 in
     let some : 0 < step.0 = leb-true 1 step.0 was.0 in
     subst AreSaid was.1 (record { all = All-replicate IsTypeWord step.0 Number tt; some = omega (arith, length-replicate step.0 Number) })
@@ -116,16 +117,16 @@ numbers_were digits words e =
 one_was : (word : TypeWord) (words : List TypeWord) → IsTypeWord word → word ∷ [] ≡ words → AreSaid words
 one_was word words is same = subst AreSaid same (record { all = All-cons IsTypeWord word [] is (All-nil IsTypeWord); some = omega arith })
 
-starred_was : (rest : List ℕ) (words : List TypeWord) → starred rest ≡ Some words → AreSaid words
+starred_was : (rest : List ℕ) (words : List TypeWord) → number_field rest ≡ Some words → AreSaid words
 starred_was [] words e = let same : Number ∷ [] ≡ words = cc in one_was Number words tt same
 starred_was (star ∷ digits) words e =
     elim (cases_cond (nat_eq star 42) _ _ (Some words) (sym e)) [ inl h ↦ numbers_were digits words (sym h) | inr h ↦ absurd cc ]
 
-place_was : (r : Result At LineFault) (words : List TypeWord) → option_map (λ a. Pointer a ∷ []) (ok_part r) ≡ Some words → ((a : At) → r ≡ Ok a → IsPlace a) → AreSaid words
+place_was : (r : Result At LineFault) (words : List TypeWord) → option_map (λ a. Pointer a ∷ []) (result_ok r) ≡ Some words → ((a : At) → r ≡ Ok a → IsPlace a) → AreSaid words
 place_was (Ok a) words e is = let same : Pointer a ∷ [] ≡ words = cc in one_was (Pointer a) words (is a refl) same
 place_was (Err fault) words e is = absurd cc
 
-pointed_was : (rest : List ℕ) (words : List TypeWord) → pointed rest ≡ Some words → AreSaid words
+pointed_was : (rest : List ℕ) (words : List TypeWord) → pointer_field rest ≡ Some words → AreSaid words
 pointed_was [] words e = absurd cc
 pointed_was (colon ∷ place) words e =
     elim (cases_cond (nat_eq colon 58) _ _ (Some words) (sym e)) [ inl h ↦ place_was (at place) words (sym h) (at_was place) | inr h ↦ absurd cc ]

@@ -6,7 +6,7 @@ use Rattle.std.proofs.lemmas.Fmt.{digits_decimal, digits_value-decimal, decimal_
 use Rattle.std.proofs.lemmas.Str.Parse.{IsNumeralModel, numerals_by_fold}
 use Rattle.std.proofs.lemmas.Grind.{common_steps}
 use Rattle.std.proofs.lemmas.Bool.{and_from, or_right, lt-ltb, not_from_false, ne_eqb, cond-true}
-use Rattle.mk_script.specs.Names.{value_from, is_numeral, number_of}
+use Rattle.mk_script.specs.Names.{value_from, is_numeral, number_of_word}
 
 own : IsNumeralModel (λ ds. all_ascii_digits ds ≡ true) (value_from 0)
 own = numerals_by_fold _ (search rules) value_from (search rules)
@@ -27,11 +27,11 @@ leads_rightly (suc n) small =
 pub is_numeral-decimal : (n : ℕ) → n < 2 ^ 64 → is_numeral (decimal n) ≡ true
 is_numeral-decimal n small = and_from _ _ (and_from _ _ (all_ascii_digits-decimal n small) (lt-ltb _ _ (decimal_nonempty n small))) (leads_rightly n small)
 
-pub number_of-decimal : (n : ℕ) → n < 2 ^ 64 → number_of (decimal n) ≡ Some n
-number_of-decimal n small =
+pub number_of_word-decimal : (n : ℕ) → n < 2 ^ 64 → number_of_word (decimal n) ≡ Some n
+number_of_word-decimal n small =
     let value = value_from-decimal n small in
     cond-true _ _ _ (and_from _ _ (is_numeral-decimal n small) (lt-ltb _ _ (rw value small))) ∙ ap Some value
 
 -- a number that a word says is below 2^64
-pub number_of-below : (word : List ℕ) (n : ℕ) → number_of word ≡ Some n → n < 2 ^ 64
-number_of-below word n e = grind (arith, common_steps)
+pub number_of_word-below : (word : List ℕ) (n : ℕ) → number_of_word word ≡ Some n → n < 2 ^ 64
+number_of_word-below word n e = grind (arith, common_steps)

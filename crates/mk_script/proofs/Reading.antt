@@ -15,7 +15,7 @@ use Rattle.mk_script.specs.Grammar.{fault_at, go_on, items_behind, items_of_line
 use Rattle.mk_script.specs.Lines.{is_twice, limit_fault, or_item, ends_rightly, checked_item, line_item, line_of}
 use Rattle.mk_script.specs.Operands.{◌>>=◌}
 use Rattle.mk_script.specs.Scopes.{open_blocks}
-use Rattle.mk_script.specs.ScopeOf.{ReadsLine, StopsAt}
+use Rattle.mk_script.specs.ScopeOf.{ReadsLine, IsStopOfLine}
 use Rattle.mk_script.specs.Stops.{stop_at}
 use Rattle.mk_script.specs.Words.{words_of, texts_of}
 
@@ -40,7 +40,7 @@ is_fresh before words item is = let_through before (line_item before words) item
 pub goes_on : (before : List Item) (line : List ℕ) (lines : List (List ℕ)) (item : Item) → line_of before (words_of line) ≡ Ok item → items_behind (line ∷ lines) before ≡ items_behind lines (before ++ item ∷ [])
 goes_on before line lines item is = ap (λ read. go_on (length before + 1) read (λ item'. items_behind lines (before ++ item' ∷ []))) is
 
-pub stops : (before : List Item) (line : List ℕ) (lines : List (List ℕ)) (number : ℕ) (found : LineStop) → number ≡ length before + 1 → StopsAt before (words_of line) found → stop_at number found ≢ stop.NoMemory
+pub stops : (before : List Item) (line : List ℕ) (lines : List (List ℕ)) (number : ℕ) (found : LineStop) → number ≡ length before + 1 → IsStopOfLine before (words_of line) found → stop_at number found ≢ stop.NoMemory
     → items_behind (line ∷ lines) before ≡ Err (stop_at number found)
 stops before line lines number (Fault fault) counts is memory =
     ap (λ read. go_on (length before + 1) read (λ item. items_behind lines (before ++ item ∷ []))) is ∙ ap (λ n. Err (fault_at n fault)) (sym counts)
@@ -63,7 +63,7 @@ step lines i before items scope d inside read =
     ∙ sym (at_line lines i before d inside ∙ goes_on before (get_or lines i d).now (texts_of (drop (i + 1) lines)) read.item read.is_item)
 
 pub stops_at : (lines : List (Bor (List ℕ))) (i : ℕ) (before : List Item) (d : Bor (List ℕ)) (found : LineStop) → i < length lines → length before ≡ i
-    → StopsAt before (words_of (get_or lines i d).now) found → stop_at (i + 1) found ≢ stop.NoMemory
+    → IsStopOfLine before (words_of (get_or lines i d).now) found → stop_at (i + 1) found ≢ stop.NoMemory
     → items_behind (texts_of (drop i lines)) before ≡ Err (stop_at (i + 1) found)
 stops_at lines i before d found inside counts is memory =
     at_line lines i before d inside ∙ stops before (get_or lines i d).now (texts_of (drop (i + 1) lines)) (i + 1) found (ap (λ n. n + 1) (sym counts)) is memory

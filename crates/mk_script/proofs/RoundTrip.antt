@@ -7,7 +7,7 @@ use Rattle.mk_script.specs.Words.{words_of}
 use Rattle.mk_script.specs.Lines.{line_of}
 use Rattle.mk_script.specs.Grammar.{at_end, go_on, items_behind, items_of_lines, program_of, IsOfSomeText}
 use Rattle.mk_script.specs.Canonical.{words_of_item, canonical_text}
-use Rattle.mk_script.specs.Spaced.{joined}
+use Rattle.mk_script.specs.Spaced.{joined_words}
 use Rattle.mk_script.proofs.LineWords.{AreWords, words_of-joined}
 use Rattle.mk_script.proofs.CanonicalLines.{lines_of_items, HaveWords, lines_of-canonical_text}
 use Rattle.mk_script.proofs.LinesAgain.{line_again}
@@ -36,7 +36,7 @@ items_again [] before items again whole end =
     let same : before ≡ items = sym (append-nil before) ∙ whole in
     subst (λ b. at_end b ≡ Ok items) (sym same) end
 items_again (line ∷ rest) before items again whole end =
-    let reads : line_of before (words_of (joined (words_of_item line))) ≡ Ok line = ap (λ ws. line_of before ws) (words_of-joined (words_of_item line) again.0.apart) ∙ again.0.reads in
+    let reads : line_of before (words_of (joined_words (words_of_item line))) ≡ Ok line = ap (λ ws. line_of before ws) (words_of-joined (words_of_item line) again.0.apart) ∙ again.0.reads in
     ap (λ r. go_on (length before + 1) r (λ x. items_behind (lines_of_items rest) (before ++ x ∷ []))) reads
     ∙ items_again rest (before ++ line ∷ []) items again.1 (append_assoc before (line ∷ []) rest ∙ whole) end
 

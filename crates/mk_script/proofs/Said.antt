@@ -1,5 +1,5 @@
 -- What operands say, they say again as they are printed.
-use Rattle.std.proofs.Common.{◌≡◌, ℕ, zero, suc, ◌+◌, ◌<◌, ◌^◌, Bool, true, false, nat_eq, cond, List, [], ◌∷◌, ◌++◌, length, refl, ap, ◌∙◌, sym, subst, arith, one-add, Option, Some, None, Ok, Err, take, drop, inl, inr}
+use Rattle.std.proofs.Common.{ok_or, ◌≡◌, ℕ, zero, suc, ◌+◌, ◌<◌, ◌^◌, Bool, true, false, nat_eq, cond, List, [], ◌∷◌, ◌++◌, length, refl, ap, ◌∙◌, sym, subst, arith, one-add, Option, Some, None, Ok, Err, take, drop, inl, inr}
 use Rattle.std.specs.declared.result.Result.{Result}
 use Rattle.std.specs.Fmt.{decimal}
 use Rattle.std.specs.List.{list_any, list_all, before_first, after_first, position_or_len}
@@ -12,10 +12,10 @@ use Rattle.mk_script.specs.declared.items.At.{At}
 use Rattle.mk_script.specs.declared.faults.LineFault.{LineFault}
 use Rattle.mk_script.specs.declared.faults.LineFault.TheVariants.{Text}
 use Rattle.mk_script.specs.declared.faults.TextKind.TheVariants as kind
-use Rattle.mk_script.specs.Names.{is_name, is_name_byte, name_of, number_of}
-use Rattle.mk_script.specs.Operands.{◌>>=◌, or_fault, name, number, at, is_plus}
+use Rattle.mk_script.specs.Names.{is_name, is_name_byte, name_of, number_of_word}
+use Rattle.mk_script.specs.Operands.{◌>>=◌, name, number, at, is_plus}
 use Rattle.mk_script.specs.Canonical.{at_text}
-use Rattle.mk_script.proofs.PrintedNumbers.{number_of-decimal, number_of-below}
+use Rattle.mk_script.proofs.PrintedNumbers.{number_of_word-decimal, number_of_word-below}
 use Rattle.mk_script.proofs.LineWords.{is_solid, is_word, is_solid-names, is_solid-decimal, is_solid-append, is_word-append}
 
 -- a step that went well, and what comes of it
@@ -27,21 +27,21 @@ pub then_was : {A B : Type 0} (r : Result A LineFault) (f : A → Result B LineF
 then_was (Ok x) f y e = (x, refl, e)
 then_was (Err fault) f y e = absurd cc
 
-or_fault_was : {A : Type 0} (fault : LineFault) (o : Option A) (x : A) → or_fault fault o ≡ Ok x → o ≡ Some x
-or_fault_was fault None x e = absurd cc
-or_fault_was fault (Some y) x e = cc
+ok_or_was : {A : Type 0} (fault : LineFault) (o : Option A) (x : A) → ok_or o fault ≡ Ok x → o ≡ Some x
+ok_or_was fault None x e = absurd cc
+ok_or_was fault (Some y) x e = cc
 
 -- names
 
 pub name_again : (n : List ℕ) → is_name n ≡ true → name n ≡ Ok n
-name_again n h = ap (λ o. or_fault (Text kind.Name) o) (cond-true _ _ _ h)
+name_again n h = ap (λ o. ok_or o (Text kind.Name)) (cond-true _ _ _ h)
 
 name_of_is : (w n : List ℕ) (b : Bool) → is_name w ≡ b → cond b (Some w) None ≡ Some n → is_name n ≡ true
 name_of_is w n true h e = let same : w ≡ n = cc in subst (λ t. is_name t ≡ true) same h
 name_of_is w n false h e = absurd cc
 
 pub name_was : (w n : List ℕ) → name w ≡ Ok n → is_name n ≡ true
-name_was w n e = name_of_is w n (is_name w) refl (or_fault_was (Text kind.Name) (name_of w) n e)
+name_was w n e = name_of_is w n (is_name w) refl (ok_or_was (Text kind.Name) (name_of w) n e)
 
 name_bytes : (n : List ℕ) → is_name n ≡ true → list_all is_name_byte n ≡ true
 name_bytes n h = (and_parts _ _ h).1
@@ -55,10 +55,10 @@ is_word-name n h = and_from _ _ (and_parts _ _ (and_parts _ _ (and_parts _ _ h).
 -- numbers
 
 pub number_again : (n : ℕ) → n < 2 ^ 64 → number (decimal n) ≡ Ok n
-number_again n small = ap (λ o. or_fault (Text kind.Number) o) (number_of-decimal n small)
+number_again n small = ap (λ o. ok_or o (Text kind.Number)) (number_of_word-decimal n small)
 
 pub number_was : (w : List ℕ) (n : ℕ) → number w ≡ Ok n → n < 2 ^ 64
-number_was w n e = number_of-below w n (or_fault_was (Text kind.Number) (number_of w) n e)
+number_was w n e = number_of_word-below w n (ok_or_was (Text kind.Number) (number_of_word w) n e)
 
 -- places of types
 

@@ -5,21 +5,21 @@ use Rattle.std.proofs.lemmas.List.{append-nil}
 use lib.Chars.{codes}
 use Rattle.mk_script.specs.declared.items.At.{At}
 use Rattle.mk_script.specs.Canonical.{at_text, numbers_before, line_text}
-use Rattle.mk_script.specs.Spaced.{spaced, joined}
+use Rattle.mk_script.specs.Spaced.{spaced_words, joined_words}
 
-pub spaced-append : (xs ys : List (List ℕ)) → spaced (xs ++ ys) ≡ spaced xs ++ spaced ys
-spaced-append [] ys = refl
-spaced-append (x ∷ xs) ys = ap (λ t. codes " " ++ (x ++ t)) (spaced-append xs ys) ∙ simp append_assoc
+pub spaced_words-append : (xs ys : List (List ℕ)) → spaced_words (xs ++ ys) ≡ spaced_words xs ++ spaced_words ys
+spaced_words-append [] ys = refl
+spaced_words-append (x ∷ xs) ys = ap (λ t. codes " " ++ (x ++ t)) (spaced_words-append xs ys) ∙ simp append_assoc
 
 pub numbers_before-append : (count : ℕ) (fields : List (List ℕ)) → numbers_before count fields ≡ numbers_before count [] ++ fields
 numbers_before-append zero fields = refl
 numbers_before-append (suc more) fields = refl
 
-pub spaced-numbers_before : (count : ℕ) (fields : List (List ℕ)) → spaced (numbers_before count fields) ≡ spaced (numbers_before count []) ++ spaced fields
-spaced-numbers_before count fields = ap spaced (numbers_before-append count fields) ∙ spaced-append (numbers_before count []) fields
+pub spaced_words-numbers_before : (count : ℕ) (fields : List (List ℕ)) → spaced_words (numbers_before count fields) ≡ spaced_words (numbers_before count []) ++ spaced_words fields
+spaced_words-numbers_before count fields = ap spaced_words (numbers_before-append count fields) ∙ spaced_words-append (numbers_before count []) fields
 
 -- a line is its words with spaces between them, and a newline
-pub line_text-joined : (words : List (List ℕ)) → line_text words ≡ joined words ++ codes "\n"
+pub line_text-joined : (words : List (List ℕ)) → line_text words ≡ joined_words words ++ codes "\n"
 line_text-joined [] = refl
 line_text-joined (word ∷ []) = simp append-nil
 line_text-joined (word ∷ next ∷ words) = ap (λ t. word ++ (codes " " ++ t)) (line_text-joined (next ∷ words)) ∙ simp append_assoc
@@ -34,6 +34,6 @@ pub drop_next : {A : Type 0} (xs : List A) (i : ℕ) (x : A) → i < length xs �
 drop_next xs i x lt is = rw (add-one, drop-cons xs i x) (ap (λ y. y ∷ drop (suc i) xs) (sym is))
 
 -- the numbers before a pointer, and the pointer
-pub pointer_behind : (p q r s : List ℕ) (count : ℕ) (at : At) (fields : List (List ℕ)) → q ≡ p ++ spaced (numbers_before count []) → r ≡ q ++ (codes " " ++ codes "p:") → s ≡ r ++ at_text at
-    → p ++ spaced (numbers_before count ((codes "p:" ++ at_text at) ∷ fields)) ≡ s ++ spaced fields
-pointer_behind p q r s count at fields e f g = rw (g, f, e, spaced-numbers_before count ((codes "p:" ++ at_text at) ∷ fields)) (simp append_assoc)
+pub pointer_behind : (p q r s : List ℕ) (count : ℕ) (at : At) (fields : List (List ℕ)) → q ≡ p ++ spaced_words (numbers_before count []) → r ≡ q ++ (codes " " ++ codes "p:") → s ≡ r ++ at_text at
+    → p ++ spaced_words (numbers_before count ((codes "p:" ++ at_text at) ∷ fields)) ≡ s ++ spaced_words fields
+pointer_behind p q r s count at fields e f g = rw (g, f, e, spaced_words-numbers_before count ((codes "p:" ++ at_text at) ∷ fields)) (simp append_assoc)

@@ -40,10 +40,18 @@ abbrev pub items_of_lines : List (List ℕ) → Result (List Item) TextStop
 items_of_lines [] = Err (stop.Text 1 kind.Header)
 items_of_lines (line ∷ lines) = items_behind (line ∷ lines) []
 
--- The program of a text of at most 1,048,576 bytes: an item a line; or the first fault.
+-- how many bytes a text may have
+abbrev pub longest_text : ℕ
+longest_text = 1048576
+
+-- what is wrong with one that has more
+abbrev pub too_long : LineFault
+too_long = Limit which.Bytes (longest_text + 1)
+
+-- The program of a text: an item a line; or the first fault.
 abbrev pub program_of : List ℕ → Result (List Item) TextStop
 program_of text =
-    if nat_le (length text) 1048576 then items_of_lines (lines_of text) else Err (stop.Limit 0 which.Bytes 1048577)
+    if nat_le (length text) longest_text then items_of_lines (lines_of text) else Err (fault_at 0 too_long)
 
 abbrev pub IsOfSomeText : List Item → Type 0
 IsOfSomeText items = (text : List ℕ) × (program_of text ≡ Ok items)

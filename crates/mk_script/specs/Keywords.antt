@@ -3,7 +3,10 @@ use Rattle.std.specs.Prelude.{ℕ, Bool, ◌==◌, nat_le, if◌then◌else◌, 
 use Rattle.std.specs.Str.{bytes_eq}
 use lib.Chars.{codes}
 use Rattle.mk_script.specs.declared.keywords.Keyword.{Keyword}
-use Rattle.mk_script.specs.declared.keywords.Keyword.TheVariants.{Heap, TypeLine, Global, Script, Ptr, Num, New, Free, Getn, Setn, Getp, Setp, Casp, Lea, Move, Clear, Loadg, Storeg, Same, Isnull, Show, Const, Add, Sub, Print, Repeat, If, Else, End}
+use Rattle.mk_script.specs.declared.keywords.Keyword.TheVariants.{Heap, TypeLine, Global, Script, Ptr, Num, New, Free}
+use Rattle.mk_script.specs.declared.keywords.Keyword.TheVariants.{Getn, Setn, Getp, Setp, Casp, Lea, Move, Clear, Loadg}
+use Rattle.mk_script.specs.declared.keywords.Keyword.TheVariants.{Storeg, Same, Isnull, Show, Const, Add, Sub, Print}
+use Rattle.mk_script.specs.declared.keywords.Keyword.TheVariants.{Repeat, If, Else, End}
 
 -- the words and what they stand for
 abbrev pub keywords : List (List ℕ × Keyword)

@@ -1,11 +1,14 @@
 -- What a line is, behind the lines before it: its item, or the first fault by the order of the six steps.
-use Rattle.std.specs.Prelude.{ℕ, ◌+◌, ◌-◌, ◌^◌, min, Bool, true, false, not, ◌&&◌, nat_le, if◌then◌else◌, List, [], ◌∷◌, ◌++◌, length, Option, Some, None, Ok, Err}
+use Rattle.std.specs.Prelude.{ℕ, ◌+◌, ◌-◌, ◌^◌, min, Bool, true, false, not, ◌&&◌, nat_le, if◌then◌else◌, List, [], ◌∷◌}
+use Rattle.std.specs.Prelude.{◌++◌, length, Option, Some, None, Ok, Err}
 use Rattle.std.specs.declared.result.Result.{Result}
 use Rattle.std.specs.List.{list_any}
+use Rattle.std.specs.Option.{option_or}
 use Rattle.std.specs.Str.{bytes_eq}
 use lib.Chars.{codes}
 use Rattle.mk_script.specs.declared.items.Item.{Item}
-use Rattle.mk_script.specs.declared.items.Item.TheVariants.{Heap, TypeLine, Global, Script, Ptr, Num, Repeat, If, Else, End}
+use Rattle.mk_script.specs.declared.items.Item.TheVariants.{Heap, TypeLine, Global, Script, Ptr, Num, Repeat, If, Else}
+use Rattle.mk_script.specs.declared.items.Item.TheVariants.{End}
 use Rattle.mk_script.specs.declared.keywords.Keyword.{Keyword}
 use Rattle.mk_script.specs.declared.keywords.Keyword.TheVariants as keyword
 use Rattle.mk_script.specs.declared.faults.LineFault.{LineFault}
@@ -15,7 +18,8 @@ use Rattle.mk_script.specs.declared.faults.Which.TheVariants as which
 use Rattle.mk_script.specs.declared.faults.TextKind.TheVariants as kind
 use Rattle.mk_script.specs.Keywords.{keyword_of, has_operands}
 use Rattle.mk_script.specs.Operands.{◌>>=◌, have_form, item_from}
-use Rattle.mk_script.specs.Scopes.{type_names, global_names, script_names, pointer_names, number_names, is_script, is_instruction, this_script, OpenBlock, InRepeat, InFirst, InSecond, open_blocks}
+use Rattle.mk_script.specs.Scopes.{type_names, global_names, script_names, pointer_names, number_names, is_script}
+use Rattle.mk_script.specs.Scopes.{is_instruction, this_script, OpenBlock, InRepeat, InFirst, InSecond, open_blocks}
 
 -- Steps 1 to 3: the form, its place and its operands.
 
@@ -78,15 +82,11 @@ abbrev pub within : ℕ → ℕ → ℕ → Which → Option LineFault
 within least found greatest which =
     if nat_le least found && nat_le found greatest then None else Some (Limit which found)
 
-abbrev pub or_else : Option LineFault → Option LineFault → Option LineFault
-or_else (Some fault) other = Some fault
-or_else None other = other
-
 abbrev pub limit_fault : List Item → Item → Option LineFault
 limit_fault before (Heap pages resident) =
-    or_else (within 1 pages 4096 which.Pages) (within 1 resident pages which.Resident)
+    option_or (within 1 pages 4096 which.Pages) (within 1 resident pages which.Resident)
 limit_fault before (TypeLine name words) =
-    or_else (at_most (length (type_names before) + 1) 64 which.Types) (at_most (length words) 4096 which.Words)
+    option_or (at_most (length (type_names before) + 1) 64 which.Types) (at_most (length words) 4096 which.Words)
 limit_fault before (Global name ty) = at_most (length (global_names before) + 1) 64 which.Globals
 limit_fault before (Script name) = at_most (length (script_names before) + 1) 16 which.Scripts
 limit_fault before (Ptr name at) = at_most (length (pointer_names (this_script before)) + 1) 8 which.Pointers

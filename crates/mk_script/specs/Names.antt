@@ -1,5 +1,6 @@
 -- Names and numbers: what a word can say.
-use Rattle.std.specs.Prelude.{ℕ, ◌+◌, ◌-◌, ◌*◌, ◌^◌, Bool, not, ◌&&◌, ◌||◌, List, [], ◌∷◌, length, nat_lt, nat_le, ◌==◌, if◌then◌else◌, slice_index, Option, Some, None}
+use Rattle.std.specs.Prelude.{ℕ, ◌+◌, ◌-◌, ◌*◌, ◌^◌, Bool, not, ◌&&◌, ◌||◌, List, [], ◌∷◌, length, nat_lt, nat_le, ◌==◌}
+use Rattle.std.specs.Prelude.{if◌then◌else◌, slice_index, Option, Some, None}
 use Rattle.std.specs.List.{list_all}
 use Rattle.std.specs.Char.{is_ascii_alphabetic, is_ascii_alphanumeric}
 use Rattle.std.specs.Str.{all_ascii_digits}
@@ -33,5 +34,5 @@ is_numeral word =
     all_ascii_digits word && nat_lt 0 (length word) && ((length word == 1) || not (slice_index word 0 == 48))
 
 -- a number is a numeral below 2^64
-abbrev pub number_of : List ℕ → Option ℕ
-number_of word = if is_numeral word && nat_lt (value_from 0 word) (2 ^ 64) then Some (value_from 0 word) else None
+abbrev pub number_of_word : List ℕ → Option ℕ
+number_of_word word = if is_numeral word && nat_lt (value_from 0 word) (2 ^ 64) then Some (value_from 0 word) else None

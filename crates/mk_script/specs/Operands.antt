@@ -1,6 +1,8 @@
 -- What the words of a line say, given its form.
-use Rattle.std.specs.Prelude.{◌≡◌, ℕ, Bool, true, ◌==◌, nat_le, if◌then◌else◌, List, [], ◌∷◌, replicate, Option, Some, None, is_some, option_map, option_and_then, unwrap_or, Ok, Err}
+use Rattle.std.specs.Prelude.{◌≡◌, ℕ, Bool, true, ◌==◌, nat_le, if◌then◌else◌, List, [], ◌∷◌, replicate, Option, Some}
+use Rattle.std.specs.Prelude.{None, is_some, option_map, option_and_then, unwrap_or, ok_or, Ok, Err}
 use Rattle.std.specs.declared.result.Result.{Result}
+use Rattle.std.specs.Result.{result_ok}
 use Rattle.std.specs.List.{list_all, list_any, flat_map, before_first, after_first}
 use Rattle.mk_script.specs.declared.items.At.{At}
 use Rattle.mk_script.specs.declared.items.TypeWord.{TypeWord}
@@ -8,26 +10,25 @@ use Rattle.mk_script.specs.declared.items.TypeWord.TheVariants.{Number, Pointer}
 use Rattle.mk_script.specs.declared.items.Item.{Item}
 use Rattle.mk_script.specs.declared.items.Item.TheVariants as item
 use Rattle.mk_script.specs.declared.keywords.Keyword.{Keyword}
-use Rattle.mk_script.specs.declared.keywords.Keyword.TheVariants.{Heap, TypeLine, Global, Script, Ptr, Num, New, Free, Getn, Setn, Getp, Setp, Casp, Lea, Move, Clear, Loadg, Storeg, Same, Isnull, Show, Const, Add, Sub, Print, Repeat, If, Else, End}
+use Rattle.mk_script.specs.declared.keywords.Keyword.TheVariants.{Heap, TypeLine, Global, Script, Ptr, Num, New, Free}
+use Rattle.mk_script.specs.declared.keywords.Keyword.TheVariants.{Getn, Setn, Getp, Setp, Casp, Lea, Move, Clear, Loadg}
+use Rattle.mk_script.specs.declared.keywords.Keyword.TheVariants.{Storeg, Same, Isnull, Show, Const, Add, Sub, Print}
+use Rattle.mk_script.specs.declared.keywords.Keyword.TheVariants.{Repeat, If, Else, End}
 use Rattle.mk_script.specs.declared.faults.LineFault.{LineFault}
 use Rattle.mk_script.specs.declared.faults.LineFault.TheVariants.{Text}
 use Rattle.mk_script.specs.declared.faults.TextKind.TheVariants as kind
-use Rattle.mk_script.specs.Names.{name_of, number_of}
+use Rattle.mk_script.specs.Names.{name_of, number_of_word}
 
 infixl 10 ◌>>=◌
 abbrev pub ◌>>=◌ : {A B : Type 0} → Result A LineFault → (A → Result B LineFault) → Result B LineFault
 (Ok x) >>= f = f x
 (Err e) >>= f = Err e
 
-abbrev pub or_fault : {A : Type 0} → LineFault → Option A → Result A LineFault
-or_fault fault None = Err fault
-or_fault fault (Some x) = Ok x
-
 abbrev pub number : List ℕ → Result ℕ LineFault
-number word = or_fault (Text kind.Number) (number_of word)
+number word = ok_or (number_of_word word) (Text kind.Number)
 
 abbrev pub name : List ℕ → Result (List ℕ) LineFault
-name word = or_fault (Text kind.Name) (name_of word)
+name word = ok_or (name_of word) (Text kind.Name)
 
 abbrev pub is_plus : ℕ → Bool
 is_plus byte = byte == 43
@@ -46,26 +47,23 @@ at word =
     >>= (λ t. number (after_first is_plus word) >>= (λ k. Ok (record { name = t; offset = k })))
     else name word >>= (λ t. Ok (record { name = t; offset = 0 }))
 
-abbrev pub ok_part : {A : Type 0} → Result A LineFault → Option A
-ok_part (Ok x) = Some x
-ok_part (Err e) = None
-
 -- `n*K` with K at least 1
 abbrev pub numbers : ℕ → Option (List TypeWord)
 numbers count = if nat_le 1 count then Some (replicate count Number) else None
 
-abbrev pub starred : List ℕ → Option (List TypeWord)
-starred [] = Some (Number ∷ [])
-starred (star ∷ digits) = if star == 42 then option_and_then numbers (number_of digits) else None
+abbrev pub number_field : List ℕ → Option (List TypeWord)
+number_field [] = Some (Number ∷ [])
+number_field (star ∷ digits) = if star == 42 then option_and_then numbers (number_of_word digits) else None
 
-abbrev pub pointed : List ℕ → Option (List TypeWord)
-pointed [] = None
-pointed (colon ∷ place) = if colon == 58 then option_map (λ a. Pointer a ∷ []) (ok_part (at place)) else None
+abbrev pub pointer_field : List ℕ → Option (List TypeWord)
+pointer_field [] = None
+pointer_field (colon ∷ place) = if colon == 58 then option_map (λ a. Pointer a ∷ []) (result_ok (at place)) else None
 
 -- the words of an F: `n`, `n*K` or `p:AT`
 abbrev pub field_of : List ℕ → Option (List TypeWord)
 field_of [] = None
-field_of (letter ∷ rest) = if letter == 110 then starred rest else (if letter == 112 then pointed rest else None)
+field_of (letter ∷ rest) =
+    if letter == 110 then number_field rest else (if letter == 112 then pointer_field rest else None)
 
 abbrev pub fields_of : List (List ℕ) → List TypeWord
 fields_of fields = flat_map (λ field. unwrap_or (field_of field) []) fields

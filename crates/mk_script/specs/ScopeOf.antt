@@ -8,7 +8,8 @@ use Rattle.mk_script.specs.declared.scope.Scope.{Scope}
 use Rattle.mk_script.specs.declared.faults.LineStop.{LineStop}
 use Rattle.mk_script.specs.declared.faults.LineStop.TheVariants.{Fault, NoMemory}
 use Rattle.mk_script.specs.Lines.{has_script, line_of}
-use Rattle.mk_script.specs.Scopes.{type_names, global_names, script_names, pointer_names, number_names, this_script, is_instruction, open_blocks}
+use Rattle.mk_script.specs.Scopes.{type_names, global_names, script_names, pointer_names, number_names, this_script}
+use Rattle.mk_script.specs.Scopes.{is_instruction, open_blocks}
 
 abbrev pub has_lines : List Item → Bool
 has_lines [] = false
@@ -29,7 +30,8 @@ pub record IsScopeOf (scope : Scope) (before : List Item) : Type 0 where
 pub record BeginsScript (old : Scope) (name : List ℕ) (new : Scope) : Type 0 where
   pub scripts : IsPermutation (old.scripts ++ name ∷ []) new.scripts
   pub new_is :
-      new ≡ record old { has_script = true; has_instruction = false; scripts = new.scripts; pointers = []; numbers = [] }
+      new
+      ≡ record old { has_script = true; has_instruction = false; scripts = new.scripts; pointers = []; numbers = [] }
 
 -- a line was read behind others: there is its item more, and the scope is of all of them
 pub record ReadsLine (before : List Item) (words : List (List ℕ)) (items : List Item) (scope : Scope) : Type 0 where
@@ -39,6 +41,6 @@ pub record ReadsLine (before : List Item) (words : List (List ℕ)) (items : Lis
   pub scope_of : IsScopeOf scope items
 
 -- a line has no item, or there was no memory
-abbrev pub StopsAt : List Item → List (List ℕ) → LineStop → Type 0
-StopsAt before words (Fault fault) = line_of before words ≡ Err fault
-StopsAt before words NoMemory = Unit {0}
+abbrev pub IsStopOfLine : List Item → List (List ℕ) → LineStop → Type 0
+IsStopOfLine before words (Fault fault) = line_of before words ≡ Err fault
+IsStopOfLine before words NoMemory = Unit {0}

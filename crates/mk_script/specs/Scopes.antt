@@ -1,7 +1,10 @@
 -- What the lines before a line say: what is declared, which blocks are open.
 use Rattle.std.specs.Prelude.{ℕ, Bool, if◌then◌else◌, fold, true, false, List, [], ◌∷◌, ◌++◌}
 use Rattle.mk_script.specs.declared.items.Item.{Item}
-use Rattle.mk_script.specs.declared.items.Item.TheVariants.{Heap, TypeLine, Global, Script, Ptr, Num, New, Free, Getn, Setn, Getp, Setp, Casp, Lea, Move, Clear, Loadg, Storeg, Same, Isnull, Show, Const, Add, Sub, Print, Repeat, If, Else, End}
+use Rattle.mk_script.specs.declared.items.Item.TheVariants.{Heap, TypeLine, Global, Script, Ptr, Num, New, Free, Getn}
+use Rattle.mk_script.specs.declared.items.Item.TheVariants.{Setn, Getp, Setp, Casp, Lea, Move, Clear, Loadg, Storeg}
+use Rattle.mk_script.specs.declared.items.Item.TheVariants.{Same, Isnull, Show, Const, Add, Sub, Print, Repeat, If}
+use Rattle.mk_script.specs.declared.items.Item.TheVariants.{Else, End}
 pub use Rattle.mk_script.specs.declared.scope.OpenBlock.{OpenBlock}
 pub use Rattle.mk_script.specs.declared.scope.OpenBlock.TheVariants.{InRepeat, InFirst, InSecond}
 

@@ -7,14 +7,14 @@ use Rattle.mk_script.specs.declared.printing.Operand.{Operand}
 use Rattle.mk_script.specs.declared.printing.Operand.TheVariants.{Name, Number, At}
 
 -- words behind another, each with a space before it
-abbrev pub spaced : List (List ℕ) → List ℕ
-spaced [] = []
-spaced (word ∷ words) = codes " " ++ (word ++ spaced words)
+abbrev pub spaced_words : List (List ℕ) → List ℕ
+spaced_words [] = []
+spaced_words (word ∷ words) = codes " " ++ (word ++ spaced_words words)
 
 -- a line without its newline
-abbrev pub joined : List (List ℕ) → List ℕ
-joined [] = []
-joined (word ∷ words) = word ++ spaced words
+abbrev pub joined_words : List (List ℕ) → List ℕ
+joined_words [] = []
+joined_words (word ∷ words) = word ++ spaced_words words
 
 abbrev pub operand_text : Operand → List ℕ
 operand_text (Name name) = name.now

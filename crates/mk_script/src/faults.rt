@@ -1,8 +1,9 @@
 //! What can be wrong with a text.
 ghost use Rattle.std.specs.Prelude.{◌≡◌};
+ghost use Rattle.mk_script.specs.Grammar.{fault_at};
 ghost use Rattle.mk_script.specs.Stops.{stop_at};
 
-use std::alloc::AllocError;
+use std::alloc::{AllocError, AllocFailed};
 
 /// Why a text has no program: the first line that isn't of the grammar, counted from 1, or no memory.
 #[derive(Clone, Copy, Debug, PartialEq, Eq)]
@@ -53,6 +54,15 @@ pub enum LineFault {
     Limit { which: Which, found: u64 },
 }
 
+/// The greatest length of a text, in bytes.
+pub const TEXT_LIMIT: usize = 1_048_576;
+
+/// A text that is longer, which isn't counted to its end.
+pub const TOO_LONG: LineFault = LineFault::Limit {
+    which: Which::Bytes,
+    found: TEXT_LIMIT as u64 + 1,
+};
+
 /// A line that has no such form, or stands in a wrong place.
 pub const WORD: LineFault = LineFault::Text(TextKind::Word);
 
@@ -63,18 +73,25 @@ pub enum LineStop {
     NoMemory,
 }
 
+impl TextStop {
+    /// What is wrong with the line of this number.
+    pub fn at_line(line: u64, fault: LineFault) -> TextStop
+        ensures { result ≡ fault_at line fault }
+    {
+        match fault {
+            LineFault::Text(kind) => TextStop::Text { line, kind },
+            LineFault::Limit { which, found } => TextStop::Limit { line, which, found },
+        }
+    }
+}
+
 impl LineStop {
     /// The same, of a text whose line of this number it is.
     pub fn at(self, line: u64) -> TextStop
         ensures { result ≡ stop_at line self }
     {
         match self {
-            LineStop::Fault(LineFault::Text(kind)) => TextStop::Text { line, kind },
-            LineStop::Fault(LineFault::Limit { which, found }) => TextStop::Limit {
-                line,
-                which,
-                found,
-            },
+            LineStop::Fault(fault) => TextStop::at_line(line, fault),
             LineStop::NoMemory => TextStop::NoMemory,
         }
     }
@@ -97,7 +114,18 @@ impl From<AllocError> for LineStop {
 
     ghost from_gives = { λ _ stop. stop ≡ NoMemory };
 
-    fn from(_error: AllocError) -> LineStop {
+    fn from(_refused: AllocError) -> LineStop {
+        LineStop::NoMemory
+    }
+}
+
+impl<T: Drop> From<AllocFailed<T>> for LineStop {
+    ghost use Rattle.mk_script.specs.declared.faults.LineStop.{LineStop};
+    ghost use Rattle.mk_script.specs.declared.faults.LineStop.TheVariants.{NoMemory};
+
+    ghost from_gives = { λ _ stop. stop ≡ NoMemory };
+
+    fn from(_refused: AllocFailed<T>) -> LineStop {
         LineStop::NoMemory
     }
 }
@@ -108,7 +136,7 @@ impl From<AllocError> for TextStop {
 
     ghost from_gives = { λ _ stop. stop ≡ NoMemory };
 
-    fn from(_error: AllocError) -> TextStop {
+    fn from(_refused: AllocError) -> TextStop {
         TextStop::NoMemory
     }
 }

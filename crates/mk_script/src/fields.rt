@@ -1,13 +1,15 @@
 //! The fields of a type's line.
-ghost use Rattle.std.specs.Prelude.{◌≡◌, ◌↔◌, ◌++◌, ◌-◌, ◌^◌, min, [], ◌∷◌, length, replicate, option_map, option_and_then, false, IsNone, IfSome, IfOk, OnOk};
-ghost use Rattle.mk_script.specs.Names.{number_of};
+ghost use Rattle.std.specs.Prelude.{◌≡◌, ◌↔◌, ◌++◌, ◌-◌, ◌^◌, min, [], ◌∷◌, length, replicate, option_map};
+ghost use Rattle.std.specs.Prelude.{option_and_then, false, IsNone, IfSome, IfOk, OnOk};
+ghost use Rattle.std.specs.Result.{result_ok};
+ghost use Rattle.mk_script.specs.Names.{number_of_word};
 ghost use Rattle.mk_script.specs.Operands as spec;
-ghost use Rattle.mk_script.specs.Operands.{field_of, are_fields, fields_of, ok_part};
+ghost use Rattle.mk_script.specs.Operands.{field_of, are_fields, fields_of};
 ghost use Rattle.mk_script.specs.Fields.{words_of_field};
 ghost use Rattle.mk_script.specs.Words.{texts_of};
 
 use crate::items::{At, TypeWord, TypeWords};
-use crate::numbers::number;
+use crate::numbers::parse_number;
 use crate::operands::at;
 use std::alloc::{AllocError, Global};
 
@@ -51,9 +53,9 @@ impl Field {
 }
 
 fn numbers(digits: &[u8]) -> Option<Field>
-    ensures { option_map words_of_field result ≡ option_and_then spec.numbers (number_of digits.now) }
+    ensures { option_map words_of_field result ≡ option_and_then spec.numbers (number_of_word digits.now) }
 {
-    let count = number(digits)?;
+    let count = parse_number(digits)?;
     if count == 0 {
         return None;
     }
@@ -61,12 +63,10 @@ fn numbers(digits: &[u8]) -> Option<Field>
 }
 
 fn pointer(place: &[u8]) -> Option<Field>
-    ensures { option_map words_of_field result ≡ option_map (λ a. TypeWord.Pointer a ∷ []) (ok_part (spec.at place.now)) }
+    ensures { option_map words_of_field result
+        ≡ option_map (λ a. TypeWord.Pointer a ∷ []) (result_ok (spec.at place.now)) }
 {
-    match at(place) {
-        Ok(at) => Some(Field::Pointer(at)),
-        Err(_) => None,
-    }
+    Some(Field::Pointer(at(place).ok()?))
 }
 
 fn push_numbers(words: &mut Vec<TypeWord>, count: u64) -> Result<(), AllocError>
@@ -86,9 +86,7 @@ pub fn word_count(fields: &[&[u8]]) -> Option<u64>
 {
     let mut count: u64 = 0;
     for word in fields {
-        let Some(field) = Field::of(word) else {
-            return None;
-        };
+        let field = Field::of(word)?;
         count = count.saturating_add(field.word_count());
     }
     Some(count)

@@ -18,11 +18,11 @@ mod program;
 mod scope;
 mod splitting;
 
-pub use faults::{LineFault, TextKind, TextStop, Which};
+pub use faults::{LineFault, TEXT_LIMIT, TOO_LONG, TextKind, TextStop, Which};
 pub use items::{At, Item, TypeWord, TypeWords};
 pub use names::Name;
-pub use numbers::number;
+pub use numbers::parse_number;
 pub use parsing::parse;
 pub use printing::print;
 pub use program::Program;
-pub use splitting::{lines, words};
+pub use splitting::{split_lines, split_words};

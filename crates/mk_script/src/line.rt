@@ -43,14 +43,13 @@ fn header(words: &[&[u8]]) -> Result<Item, LineFault>
 }
 
 fn other_line(alloc: Global, scope: &Scope, words: &[&[u8]]) -> Result<Item, LineStop>
-    ensures { (before : List Item) → IsScopeOf scope.now before → Gives (checked_behind before (spec.other_line before (texts_of words.now))) result }
+    ensures { (before : List Item) → IsScopeOf scope.now before
+        → Gives (checked_behind before (spec.other_line before (texts_of words.now))) result }
 {
     let [word, operands @ ..] = words else {
         return Err(LineStop::Fault(WORD));
     };
-    let Some(keyword) = Keyword::of(word) else {
-        return Err(LineStop::Fault(WORD));
-    };
+    let keyword = Keyword::of(word).ok_or(WORD)?;
     placed_line(alloc, scope, keyword, operands)
 }
 
@@ -61,7 +60,8 @@ fn placed_line(
     keyword: Keyword,
     operands: &[&[u8]],
 ) -> Result<Item, LineStop>
-    ensures { (before : List Item) → IsScopeOf scope.now before → Gives (checked_behind before (placed_item before (Some keyword) (texts_of operands.now))) result }
+    ensures { (before : List Item) → IsScopeOf scope.now before
+        → Gives (checked_behind before (placed_item before (Some keyword) (texts_of operands.now))) result }
 {
     if !scope.is_placed(keyword) {
         return Err(LineStop::Fault(WORD));
@@ -78,7 +78,8 @@ fn placed_line(
 /// A line that isn't a type's, in its place.
 fn plain_line(scope: &Scope, keyword: Keyword, operands: &[&[u8]]) -> Result<Item, LineFault>
     requires { keyword ≢ Keyword.TypeLine }
-    ensures { (before : List Item) → IsScopeOf scope.now before → result ≡ checked_behind before (item_from keyword (texts_of operands.now)) }
+    ensures { (before : List Item) → IsScopeOf scope.now before
+        → result ≡ checked_behind before (item_from keyword (texts_of operands.now)) }
 {
     let item = forms::item(keyword, operands)?;
     scope.checked(item)
@@ -86,14 +87,15 @@ fn plain_line(scope: &Scope, keyword: Keyword, operands: &[&[u8]]) -> Result<Ite
 
 /// A type's line, in its place.
 fn type_line(alloc: Global, scope: &Scope, word: &[u8], fields: &[&[u8]]) -> Result<Item, LineStop>
-    ensures { (before : List Item) → IsScopeOf scope.now before → spec.is_placed before Keyword.TypeLine ≡ true → Gives (checked_behind before (placed_item before (Some Keyword.TypeLine) (word.now ∷ texts_of fields.now))) result }
+    ensures { (before : List Item) → IsScopeOf scope.now before
+        → spec.is_placed before Keyword.TypeLine ≡ true
+        → Gives (checked_behind before (placed_item before (Some Keyword.TypeLine)
+        (word.now ∷ texts_of fields.now))) result }
 {
     if fields.is_empty() {
         return Err(LineStop::Fault(WORD));
     }
-    let Some(count) = word_count(fields) else {
-        return Err(LineStop::Fault(WORD));
-    };
+    let count = word_count(fields).ok_or(WORD)?;
     let name = name(word)?;
     checked_type(alloc, scope, name, fields, count)
 }
@@ -107,7 +109,8 @@ fn checked_type(
     count: u64,
 ) -> Result<Item, LineStop>
     requires { count ≡ min (length (fields_of (texts_of fields.now))) (2 ^ 64 - 1) }
-    ensures { (before : List Item) → IsScopeOf scope.now before → Gives (checked_item before (Item.TypeLine name (fields_of (texts_of fields.now)))) result }
+    ensures { (before : List Item) → IsScopeOf scope.now before
+        → Gives (checked_item before (Item.TypeLine name (fields_of (texts_of fields.now)))) result }
 {
     if scope.has_type(&name) {
         return Err(LineStop::Fault(LineFault::Text(TextKind::Twice)));

@@ -47,7 +47,8 @@ impl NameSet {
 
     /// Adds a name that isn't among these.
     pub fn insert(&mut self, alloc: Global, name: &Name) -> Result<(), AllocError>
-        ensures { is_among name.now self.old ≡ false → OnOk result (IsPermutation (self.old ++ name.now ∷ []) self.new) }
+        ensures { is_among name.now self.old ≡ false
+            → OnOk result (IsPermutation (self.old ++ name.now ∷ []) self.new) }
     {
         let bytes = Vec::from_slice(alloc, name.as_bytes())?;
         self.names.insert(bytes)?;

@@ -1,10 +1,10 @@
 //! Numbers of a script text.
 ghost use Rattle.std.specs.Prelude.{◌≡◌};
-ghost use Rattle.mk_script.specs.Names.{number_of, value_of_digits};
+ghost use Rattle.mk_script.specs.Names.{number_of_word, value_of_digits};
 
 /// The number that the word is, decimal.
-pub fn number(word: &[u8]) -> Option<u64>
-    ensures { result ≡ number_of word.now }
+pub fn parse_number(word: &[u8]) -> Option<u64>
+    ensures { result ≡ number_of_word word.now }
 {
     match word {
         [] | [b'0', _, ..] => None,

@@ -7,13 +7,13 @@ ghost use Rattle.mk_script.specs.Operands.{is_plus, IsCutAtPlus};
 use crate::faults::{LineFault, TextKind};
 use crate::items::At;
 use crate::names::Name;
-use crate::numbers;
+use crate::numbers::parse_number;
 
 /// The number that stands in a number's place.
 pub fn number(word: &[u8]) -> Result<u64, LineFault>
     ensures { result ≡ spec.number word.now }
 {
-    numbers::number(word).ok_or(LineFault::Text(TextKind::Number))
+    parse_number(word).ok_or(LineFault::Text(TextKind::Number))
 }
 
 /// The name that stands in a name's place.
@@ -38,11 +38,10 @@ pub fn at(word: &[u8]) -> Result<At, LineFault>
 
 /// What stands before the first `+`, and what behind it.
 fn split_at_plus(word: &[u8]) -> Option<(&[u8], &[u8])>
-    ensures { MatchOption result (list_any is_plus word.now ≡ false) (λ parts. IsCutAtPlus word.now parts.0.now parts.1.now) }
+    ensures { MatchOption result (list_any is_plus word.now ≡ false)
+        (λ parts. IsCutAtPlus word.now parts.0.now parts.1.now) }
 {
-    let Some(plus) = place_of_plus(word) else {
-        return None;
-    };
+    let plus = place_of_plus(word)?;
     Some((&word[..plus], &word[plus + 1..]))
 }
 

@@ -2,17 +2,14 @@
 ghost use Rattle.std.specs.Prelude.{◌≡◌, ◌≢◌, IfOk, IfErr, MatchResult, Ok, Err};
 ghost use Rattle.mk_script.specs.Grammar as spec;
 ghost use Rattle.mk_script.specs.Grammar.{program_of, items_of_lines};
-ghost use Rattle.mk_script.specs.ScopeOf.{IsScopeOf, ReadsLine, StopsAt};
+ghost use Rattle.mk_script.specs.ScopeOf.{IsScopeOf, ReadsLine, IsStopOfLine};
 ghost use Rattle.mk_script.specs.Words.{lines_of, words_of};
 
-use crate::faults::{LineStop, TextKind, TextStop, Which};
+use crate::faults::{LineStop, TEXT_LIMIT, TOO_LONG, TextKind, TextStop, Which};
 use crate::scope::Scope;
-use crate::splitting::{lines, words};
+use crate::splitting::{split_lines, split_words};
 use crate::{Item, Program, line};
-use std::alloc::{AllocError, Global};
-
-/// The greatest length of a text, in bytes.
-const TEXT_LIMIT: usize = 1_048_576;
+use std::alloc::Global;
 
 /// The program of a text, or the fault of the first line that has one. Of a line's faults the first is
 /// meant, in the order header, word, number or name, twice, limit, end. `NoMemory` says nothing of the
@@ -22,11 +19,7 @@ pub fn parse(alloc: Global, bytes: &[u8]) -> Result<Program, TextStop>
     ensures fault { IfErr result (λ stop. stop ≢ TextStop.NoMemory → program_of bytes.now ≡ Err stop) }
 {
     if bytes.len() > TEXT_LIMIT {
-        return Err(TextStop::Limit {
-            line: 0,
-            which: Which::Bytes,
-            found: 1_048_577,
-        });
+        return Err(TextStop::at_line(0, TOO_LONG));
     }
     let items = items(alloc, bytes)?;
     Ok(Program::from_items(items))
@@ -37,7 +30,7 @@ fn items(alloc: Global, text: &[u8]) -> Result<Vec<Item>, TextStop>
     ensures items { IfOk result (λ items. items_of_lines (lines_of text.now) ≡ Ok items.items) }
     ensures fault { IfErr result (λ stop. stop ≢ TextStop.NoMemory → items_of_lines (lines_of text.now) ≡ Err stop) }
 {
-    let lines = lines(alloc, text)?;
+    let lines = split_lines(alloc, text)?;
     if lines.is_empty() {
         return Err(TextStop::Text {
             line: 1,
@@ -61,18 +54,21 @@ fn read_line(
     items: &mut Vec<Item>,
     line: &[u8],
 ) -> Result<(), LineStop>
-    ensures { IsScopeOf scope.old items.old.items → MatchResult result (λ _. ReadsLine items.old.items (words_of line.now) items.new.items scope.new) (StopsAt items.old.items (words_of line.now)) }
+    ensures { IsScopeOf scope.old items.old.items
+        → MatchResult result (λ _. ReadsLine items.old.items (words_of line.now) items.new.items scope.new)
+        (IsStopOfLine items.old.items (words_of line.now)) }
 {
-    let words = words(alloc, line)?;
+    let words = split_words(alloc, line)?;
     let item = line::item(alloc, scope, &words)?;
     scope.add(&item)?;
-    items.push(item).map_err(AllocError::from)?;
-    Ok(())
+    Ok(items.push(item)?)
 }
 
 /// The items, where the text may end behind them.
 fn at_end(scope: &Scope, items: Vec<Item>) -> Result<Vec<Item>, TextStop>
-    ensures { IsScopeOf scope.now items.items → MatchResult result (λ kept. spec.at_end items.items ≡ Ok kept.items) (λ stop. spec.at_end items.items ≡ Err stop) }
+    ensures { IsScopeOf scope.now items.items
+        → MatchResult result (λ kept. spec.at_end items.items ≡ Ok kept.items)
+        (λ stop. spec.at_end items.items ≡ Err stop) }
 {
     let line = items.len() as u64;
     if scope.has_open_block() {

@@ -2,8 +2,9 @@
 ghost use Rattle.std.specs.Prelude.{◌≡◌, ◌++◌, [], ◌∷◌, IfOk, map};
 ghost use Rattle.std.specs.Fmt.{decimal};
 ghost use lib.Chars.{codes};
-ghost use Rattle.mk_script.specs.Canonical.{at_text, numbers_before, fields_behind, words_of_item, line_text, canonical_text};
-ghost use Rattle.mk_script.specs.Spaced.{spaced, joined, operand_text};
+ghost use Rattle.mk_script.specs.Canonical.{at_text, numbers_before, fields_behind, words_of_item, line_text};
+ghost use Rattle.mk_script.specs.Canonical.{canonical_text};
+ghost use Rattle.mk_script.specs.Spaced.{spaced_words, joined_words, operand_text};
 
 use crate::{At, Item, Name, Program, TypeWord};
 use mk_never::NoMemory;
@@ -47,19 +48,15 @@ impl Printer {
     fn piece(mut self, piece: &[u8]) -> Result<Printer, NoMemory>
         ensures { IfOk result (λ printer. printer ≡ self ++ piece.now) }
     {
-        match self.text.extend_from_slice(piece) {
-            Ok(()) => Ok(self),
-            Err(_) => Err(NoMemory),
-        }
+        self.text.extend_from_slice(piece)?;
+        Ok(self)
     }
 
     /// Appends a number's digits.
     fn digits(self, number: u64) -> Result<Printer, NoMemory>
         ensures { IfOk result (λ printer. printer ≡ self ++ decimal number) }
     {
-        let Ok(digits) = number.to_string(self.alloc) else {
-            return Err(NoMemory);
-        };
+        let digits = number.to_string(self.alloc)?;
         self.piece(digits.as_bytes())
     }
 
@@ -95,7 +92,7 @@ impl Printer {
 
     /// Appends the field of so many neighbouring numbers, if there are any.
     fn numbers(self, count: u64) -> Result<Printer, NoMemory>
-        ensures { IfOk result (λ printer. printer ≡ self ++ spaced (numbers_before count [])) }
+        ensures { IfOk result (λ printer. printer ≡ self ++ spaced_words (numbers_before count [])) }
     {
         match count {
             0 => Ok(self),
@@ -106,7 +103,7 @@ impl Printer {
 
     /// Appends the fields of a type.
     fn fields(self, words: &[TypeWord]) -> Result<Printer, NoMemory>
-        ensures { IfOk result (λ printer. printer ≡ self ++ spaced (fields_behind words.now 0)) }
+        ensures { IfOk result (λ printer. printer ≡ self ++ spaced_words (fields_behind words.now 0)) }
     {
         let mut printer = self;
         let mut count = 0;
@@ -124,7 +121,7 @@ impl Printer {
 
     /// Appends operands behind another word.
     fn operands(self, operands: &[Operand]) -> Result<Printer, NoMemory>
-        ensures { IfOk result (λ printer. printer ≡ self ++ spaced (map operand_text operands.now)) }
+        ensures { IfOk result (λ printer. printer ≡ self ++ spaced_words (map operand_text operands.now)) }
     {
         let mut printer = self;
         for operand in operands {
@@ -135,14 +132,15 @@ impl Printer {
 
     /// Appends a line's first word, and operands behind it.
     fn line_words(self, keyword: &[u8], operands: &[Operand]) -> Result<Printer, NoMemory>
-        ensures { IfOk result (λ printer. printer ≡ self ++ joined (keyword.now ∷ map operand_text operands.now)) }
+        ensures { IfOk result (λ printer. printer ≡ self ++ joined_words
+            (keyword.now ∷ map operand_text operands.now)) }
     {
         self.piece(keyword)?.operands(operands)
     }
 
     /// Appends the words of a line.
     fn words(self, item: &Item) -> Result<Printer, NoMemory>
-        ensures { IfOk result (λ printer. printer ≡ self ++ joined (words_of_item item.now)) }
+        ensures { IfOk result (λ printer. printer ≡ self ++ joined_words (words_of_item item.now)) }
     {
         match item {
             Item::TypeLine { name, words } => self

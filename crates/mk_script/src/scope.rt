@@ -1,7 +1,8 @@
 //! What the lines before a line say.
 ghost use Rattle.std.specs.Prelude.{◌≡◌, ◌<◌, ◌+◌, ◌^◌, List, [], ◌∷◌, ◌++◌, length, reverse, not, false, OnOk};
 ghost use Rattle.mk_script.specs.Lines as spec;
-ghost use Rattle.mk_script.specs.Lines.{or_else, is_among};
+ghost use Rattle.std.specs.Option.{option_or};
+ghost use Rattle.mk_script.specs.Lines.{is_among};
 ghost use Rattle.mk_script.specs.Scopes.{open_blocks, open_behind, behind_else, this_script, type_names};
 ghost use Rattle.mk_script.specs.ScopeOf.{IsScopeOf, BeginsScript, has_lines};
 
@@ -111,14 +112,17 @@ impl Scope {
     }
 
     fn has_register(&self, name: &Name) -> bool
-        ensures { (before : List Item) → IsScopeOf self.now before → result ≡ spec.is_among name.now (spec.register_names (this_script before)) }
+        ensures { (before : List Item) → IsScopeOf self.now before
+            → result ≡ spec.is_among name.now (spec.register_names (this_script before)) }
     {
         self.pointers.contains(name) || self.numbers.contains(name)
     }
 
     /// The limit that is passed by a type of so many words.
     pub fn type_limit_fault(&self, words: u64) -> Option<LineFault>
-        ensures { (before : List Item) → IsScopeOf self.now before → result ≡ or_else (spec.at_most (length (type_names before) + 1) 64 Which.Types) (spec.at_most words 4096 Which.Words) }
+        ensures { (before : List Item) → IsScopeOf self.now before
+            → result ≡ option_or (spec.at_most (length (type_names before) + 1) 64 Which.Types)
+            (spec.at_most words 4096 Which.Words) }
     {
         type_limits(one_more(self.types.len()), words)
     }
@@ -145,7 +149,8 @@ impl Scope {
 
     /// Whether the item ends no block but one that is open.
     fn ends_rightly(&self, item: &Item) -> bool
-        ensures { (before : List Item) → IsScopeOf self.now before → result ≡ spec.ends_rightly (open_blocks before) item.now }
+        ensures { (before : List Item) → IsScopeOf self.now before
+            → result ≡ spec.ends_rightly (open_blocks before) item.now }
     {
         match item {
             Item::Script { .. } => self.blocks.is_empty(),
@@ -173,7 +178,8 @@ impl Scope {
 
     /// Adds a line that may stand next.
     pub fn add(&mut self, item: &Item) -> Result<(), AllocError>
-        ensures { (before : List Item) → IsScopeOf self.old before → spec.is_twice before item.now ≡ false → OnOk result (IsScopeOf self.new (before ++ item.now ∷ [])) }
+        ensures { (before : List Item) → IsScopeOf self.old before → spec.is_twice before item.now ≡ false
+            → OnOk result (IsScopeOf self.new (before ++ item.now ∷ [])) }
     {
         self.has_header = true;
         follow_blocks(&mut self.blocks, item)?;
@@ -253,13 +259,13 @@ fn within(least: u64, found: u64, greatest: u64, which: Which) -> Option<LineFau
 }
 
 fn heap_limits(pages: u64, resident: u64) -> Option<LineFault>
-    ensures { result ≡ or_else (spec.within 1 pages 4096 Which.Pages) (spec.within 1 resident pages Which.Resident) }
+    ensures { result ≡ option_or (spec.within 1 pages 4096 Which.Pages) (spec.within 1 resident pages Which.Resident) }
 {
     within(1, pages, 4096, Which::Pages).or(within(1, resident, pages, Which::Resident))
 }
 
 fn type_limits(types: u64, words: u64) -> Option<LineFault>
-    ensures { result ≡ or_else (spec.at_most types 64 Which.Types) (spec.at_most words 4096 Which.Words) }
+    ensures { result ≡ option_or (spec.at_most types 64 Which.Types) (spec.at_most words 4096 Which.Words) }
 {
     at_most(types, 64, Which::Types).or(at_most(words, 4096, Which::Words))
 }

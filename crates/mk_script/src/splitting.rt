@@ -6,7 +6,7 @@ ghost use Rattle.mk_script.specs.Words.{lines_of, words_of, texts_of};
 use std::alloc::{AllocError, Global};
 
 /// The lines of a text, without their newlines.
-pub fn lines(alloc: Global, text: &[u8]) -> Result<Vec<&[u8]>, AllocError>
+pub fn split_lines(alloc: Global, text: &[u8]) -> Result<Vec<&[u8]>, AllocError>
     ensures { IfOk result (λ lines. texts_of lines.items ≡ lines_of text.now) }
 {
     let mut lines = between_newlines(alloc, text)?;
@@ -26,7 +26,7 @@ fn between_newlines(alloc: Global, text: &[u8]) -> Result<Vec<&[u8]>, AllocError
 }
 
 /// The words of a line.
-pub fn words(alloc: Global, line: &[u8]) -> Result<Vec<&[u8]>, AllocError>
+pub fn split_words(alloc: Global, line: &[u8]) -> Result<Vec<&[u8]>, AllocError>
     ensures { IfOk result (λ words. texts_of words.items ≡ words_of line.now) }
 {
     line.split(|byte| *byte == b' ')

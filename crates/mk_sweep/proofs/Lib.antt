@@ -8,4 +8,5 @@ pub mod ScannedCells
 pub mod SweepSteps
 pub mod SweptMarks
 pub mod Unswept
+pub mod UnsweptReleased
 pub mod WordLists

@@ -1,14 +1,16 @@
 -- What a sweep doesn't mark.
-use Rattle.std.specs.Prelude.{◌≡◌, ℕ, false, List, [], ◌∷◌, ⊤}
+use Rattle.std.specs.Prelude.{◌≡◌, ℕ, true, false, List, [], ◌∷◌, ◌++◌, ⊤}
 use Rattle.mk_geom.specs.declared.addresses.Cell.{Cell}
 use Rattle.mk_core.specs.declared.config.Config.{Config}
 use Rattle.mk_core.specs.declared.events.Event.{Event}
 use Rattle.mk_core.specs.declared.events.Seat.{Seat}
 use Rattle.mk_core.specs.Allocations.{cell_of_allocation, placed_at}
 use Rattle.mk_core.specs.Cells.{is_marked}
+use Rattle.mk_core.specs.Cycles.{Releasing, IsInSnapshot, before_release}
 use Rattle.mk_core.specs.Growing.{is_same_seat}
 use Rattle.mk_core.specs.History.{World, IsHistory, world_behind}
 use Rattle.mk_words.specs.States.{PassState, now_of, world_of}
+use Rattle.mk_readings.specs.Releases.{allocation_behind}
 use Rattle.mk_cycle.specs.EngineLaw.{IsAtPhase}
 use Rattle.mk_sweep.specs.Swept.{IsSwept}
 use Rattle.mk_sweep.specs.Sweeps.{Sweeps}
@@ -31,3 +33,24 @@ UnsweptStaysUnmarked =
     → OthersLeaveUnmarked p.table.config p.seat
     (cell_of_allocation p.table.config (placed_at (world_of p).allocations i)) (world_of p) s.traces.does.more
     → is_marked (now_of q).words (cell_of_allocation p.table.config (placed_at (world_of p).allocations i)) ≡ false
+
+-- None of the events marks the cell, whoever makes them.
+unfoldable pub LeaveUnmarked : Config → Cell → World → List Event → Type 0
+LeaveUnmarked c cell w [] = ⊤
+LeaveUnmarked c cell w (e ∷ es) =
+    (is_marked w.now.words cell ≡ false → is_marked (world_behind c w e).now.words cell ≡ false)
+    × LeaveUnmarked c cell (world_behind c w e) es
+
+-- So a cycle releases what is in its snapshot and isn't swept, where no step but those of its sweep marks its cell.
+abbrev pub UnsweptIsReleased : Type 0
+UnsweptIsReleased =
+    (p q : PassState) (n : ℕ) (s : Sweeps p q n) (es : List Event) (r : Releasing es) (rest : List Event) (i : ℕ)
+    → IsHistory p.table.config es → IsHistory p.table.config p.seen → before_release r ≡ q.seen ++ rest → IsAtPhase p 1
+    → IsInSnapshot p.table.config r.marking i
+    → (placed_at (world_of p).allocations i).released ≡ false → (IsSwept p.table.config (world_of p) i → ⊥)
+    → is_marked (now_of p).words (cell_of_allocation p.table.config (placed_at (world_of p).allocations i)) ≡ false
+    → OthersLeaveUnmarked p.table.config p.seat
+    (cell_of_allocation p.table.config (placed_at (world_of p).allocations i)) (world_of p) s.traces.does.more
+    → LeaveUnmarked p.table.config
+    (cell_of_allocation p.table.config (placed_at (world_of p).allocations i)) (world_of q) rest
+    → (allocation_behind p.table.config r i).released ≡ true

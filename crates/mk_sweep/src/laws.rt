@@ -1,8 +1,12 @@
 //! Laws of sweeps: facts alone, with no code.
-ghost use Rattle.mk_sweep.specs.Unswept.{UnsweptStaysUnmarked};
+ghost use Rattle.mk_sweep.specs.Unswept.{UnsweptStaysUnmarked, UnsweptIsReleased};
 
-/// What isn't swept is unmarked behind a sweep, where it was so before and no other seat marks it meanwhile: so the cycle
-/// releases it, if it is in its snapshot.
+/// What isn't swept is unmarked behind a sweep, where it was so before and no other seat marks it meanwhile.
 pub fn what_is_not_swept_stays_unmarked()
     ensures { UnsweptStaysUnmarked }
+{}
+
+/// So a cycle releases what is in its snapshot and isn't swept, where no step but those of its sweep marks it.
+pub fn what_is_not_swept_is_released()
+    ensures { UnsweptIsReleased }
 {}

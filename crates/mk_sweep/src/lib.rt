@@ -12,5 +12,5 @@ mod sweep_engine;
 mod sweeping;
 mod values;
 
-pub use laws::what_is_not_swept_stays_unmarked;
+pub use laws::{what_is_not_swept_is_released, what_is_not_swept_stays_unmarked};
 pub use sweep_engine::SweepEngine;

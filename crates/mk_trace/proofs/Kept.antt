@@ -10,7 +10,7 @@ use Rattle.mk_script.specs.Lines.{within}
 use Rattle.mk_script.specs.Operands.{◌>>=◌}
 use Rattle.mk_trace.specs.declared.faults.TraceStop.{TraceStop}
 use Rattle.mk_trace.specs.Grammar.{go_on, along}
-use Rattle.mk_trace.specs.Lines.{unless}
+use Rattle.mk_trace.specs.Lines.{ok_unless}
 use Rattle.mk_trace.specs.Traces.{and_then}
 
 -- the value of a first part, of which a second part makes the whole
@@ -37,7 +37,7 @@ pub then_next : {X Y : Type 0} (first : Result X TraceStop) (next : X → Result
 then_next (Ok x) next y h = record { value = x; is = refl; behind = h }
 then_next (Err fault) next y h = absurd cc
 
-pub unless_none : {X : Type 0} (limit : Option LineFault) (x y : X) → unless limit x ≡ Ok y → (limit ≡ None) × (x ≡ y)
+pub unless_none : {X : Type 0} (limit : Option LineFault) (x y : X) → ok_unless limit x ≡ Ok y → (limit ≡ None) × (x ≡ y)
 unless_none None x y h = (refl, cc)
 unless_none (Some fault) x y h = absurd cc
 

@@ -9,9 +9,9 @@ use Rattle.mk_core.specs.Config.{IsBetween, IsWithinLimits}
 use Rattle.mk_script.specs.Words.{words_of, lines_of}
 use Rattle.mk_trace.specs.declared.lines.HeapPages.{HeapPages}
 use Rattle.mk_trace.specs.declared.lines.Slot.{Slot}
-use Rattle.mk_trace.specs.Grammar.{text_fault, type_fault, read_behind, with_event, written_from, events_from}
+use Rattle.mk_trace.specs.Grammar.{text_fault_at, type_fault_at, read_behind, with_event, written_from, events_from}
 use Rattle.mk_trace.specs.Laws.{IsEventOf, IsPlayable}
-use Rattle.mk_trace.specs.Lines.{Written, nothing, with_line, header_of}
+use Rattle.mk_trace.specs.Lines.{Written, nothing_written, with_line, header_of}
 use Rattle.mk_trace.specs.Playing.{config_of, types_from}
 use Rattle.mk_trace.specs.Traces.{Contents, contents_from, words_of_slots, contents_of, trace_of_lines, IsOfSomeText}
 use Rattle.mk_trace.specs.Typing.{typed_event}
@@ -41,7 +41,7 @@ read : (heap : HeapPages) (written : Written) (trace : Contents) → HeapIsWithi
 read heap written trace pages slots h =
     let some = passed_else (length written.slots == 0) _ _ trace h in
     let found = then_next (events_from written.slots (length written.slots + 2) written.events []) _ trace some.1 in
-    let are = along_keeps type_fault (λ events line. typed_event written.slots line) with_event
+    let are = along_keeps type_fault_at (λ events line. typed_event written.slots line) with_event
     (All (IsEventOf (words_of_slots written.slots)))
     (λ before line event holds is. event_more written.slots before line event is holds)
     (length written.slots + 2) written.events [] found.value
@@ -62,10 +62,10 @@ read heap written trace pages slots h =
 of_lines : (lines : List (List ℕ)) (trace : Contents) → trace_of_lines lines ≡ Ok trace → IsPlayable trace
 of_lines [] trace h = absurd cc
 of_lines (first ∷ lines) trace h =
-    let header = gone_on (text_fault 1) (header_of (words_of first)) _ trace h in
-    let written = then_next (written_from 2 lines nothing) _ trace header.behind in
-    let slots = along_keeps text_fault read_behind with_line (λ (w : Written). AreWithin w.slots)
-    (λ before line given holds is. line_more before (words_of line) given is holds) 2 lines nothing written.value
+    let header = gone_on (text_fault_at 1) (header_of (words_of first)) _ trace h in
+    let written = then_next (written_from 2 lines nothing_written) _ trace header.behind in
+    let slots = along_keeps text_fault_at read_behind with_line (λ (w : Written). AreWithin w.slots)
+    (λ before line given holds is. line_more before (words_of line) given is holds) 2 lines nothing_written written.value
     (record { few = omega arith; sizes = All-nil SlotIsWithin }) written.is in
     read header.value written.value trace (header_within (words_of first) header.value header.is) slots written.behind
 

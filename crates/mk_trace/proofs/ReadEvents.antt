@@ -14,14 +14,14 @@ use Rattle.mk_trace.specs.declared.lines.EventLine.{EventLine}
 use Rattle.mk_trace.specs.declared.trace.TraceEvent.{TraceEvent}
 use Rattle.mk_trace.specs.declared.trace.TraceEvent.TheVariants.{A, K, F, C, W}
 use Rattle.mk_trace.specs.Lines.{slot_number}
-use Rattle.mk_trace.specs.Typing.{write_event, event_on, words_at, on_slot, typed_event}
+use Rattle.mk_trace.specs.Typing.{typed_write, event_on, words_at, on_slot, typed_event}
 use Rattle.mk_trace.specs.Traces.{words_of_slots}
 use Rattle.mk_trace.specs.Laws.{IsEventOf}
 use Rattle.mk_trace.proofs.Kept.{passed_else}
 
 written : (slots : List ℕ) (slot words index value : ℕ) (event : TraceEvent) → slot < length slots
     → get_or slots slot 0 ≡ words
-    → write_event slot words index value ≡ Ok event → IsEventOf slots event
+    → typed_write slot words index value ≡ Ok event → IsEventOf slots event
 written slots slot words index value event inside words_are h =
     let below = passed_else (nat_le words index) _ _ event h in
     let above = passed_else (index == 0) _ _ event below.1 in

@@ -9,13 +9,13 @@ use Rattle.mk_core.specs.Config.{IsBetween}
 use Rattle.mk_script.specs.declared.faults.Which.TheVariants as which
 use Rattle.mk_script.specs.Lines.{at_most, within}
 use Rattle.mk_script.specs.Operands.{name, number}
-use Rattle.mk_check.proofs.GrammarLemmas.{at_most-None, or_else-None}
+use Rattle.mk_check.proofs.GrammarLemmas.{at_most-None, option_or-None}
 use Rattle.mk_trace.specs.declared.lines.HeapPages.{HeapPages}
 use Rattle.mk_trace.specs.declared.lines.Slot.{Slot}
 use Rattle.mk_trace.specs.declared.lines.Line.{Line}
 use Rattle.mk_trace.specs.declared.lines.Line.TheVariants as line
 use Rattle.mk_trace.specs.Lines.{Written, with_line, heap_limit, heap_pages, header_of, slot_number, slot_limit}
-use Rattle.mk_trace.specs.Lines.{checked_slot, slot_of, slot_line, event_of, event_line, line_of}
+use Rattle.mk_trace.specs.Lines.{checked_slot, slot_from, slot_line, event_of, event_line, line_of}
 use Rattle.mk_trace.proofs.Kept.{bound, unless_none, passed_else, passed_then, within_none}
 
 abbrev pub SlotIsWithin : Slot → Type 0
@@ -30,7 +30,7 @@ one_more : (before : List Slot) (slot found : Slot) → checked_slot before slot
 one_more before slot found h are =
     let fresh = passed_else (is_some (slot_number before slot.name)) _ _ found h in
     let is = unless_none (slot_limit (length before + 1) slot.words) slot found fresh.1 in
-    let limits = or_else-None (at_most (length before + 1) 64 which.Types)
+    let limits = option_or-None (at_most (length before + 1) 64 which.Types)
     (within 1 slot.words 4096 which.Words) is.0 in
     let count = at_most-None (length before + 1) 64 which.Types limits.0 in
     let size = within_none 1 slot.words 4096 which.Words limits.1 in
@@ -40,7 +40,7 @@ one_more before slot found h are =
           (All-cons SlotIsWithin found [] (subst SlotIsWithin is.1 size) (All-nil SlotIsWithin));
     }
 
-slot_more : (before : List Slot) (word words : List ℕ) (found : Slot) → slot_of before word words ≡ Ok found
+slot_more : (before : List Slot) (word words : List ℕ) (found : Slot) → slot_from before word words ≡ Ok found
     → AreWithin before → AreWithin (before ++ found ∷ [])
 slot_more before word words found h are =
     let named = bound (name word) _ found h in
@@ -53,7 +53,7 @@ slot_line_more before [] given h are = absurd cc
 slot_line_more before (a ∷ []) given h are = absurd cc
 slot_line_more before (word ∷ words ∷ []) given h are =
     let placed = passed_then (length before.events == 0) _ _ given h in
-    let found = bound (slot_of before.slots word words) _ given placed.1 in
+    let found = bound (slot_from before.slots word words) _ given placed.1 in
     let is : line.Slot found.value ≡ given = cc in
     subst (λ (x : Line). AreWithin (with_line before x).slots) is
     (slot_more before.slots word words found.value found.is are)
@@ -87,7 +87,7 @@ heap_within pages resident heap h =
     let p = bound (number pages) _ heap h in
     let r = bound (number resident) _ heap p.behind in
     let is = unless_none (heap_limit p.value r.value) (record { pages = p.value; resident = r.value }) heap r.behind in
-    let limits = or_else-None (within 1 p.value 4096 which.Pages) (within 1 r.value p.value which.Resident) is.0 in
+    let limits = option_or-None (within 1 p.value 4096 which.Pages) (within 1 r.value p.value which.Resident) is.0 in
     subst HeapIsWithin is.1 (record {
       pages = within_none 1 p.value 4096 which.Pages limits.0;
       resident = within_none 1 r.value p.value which.Resident limits.1;

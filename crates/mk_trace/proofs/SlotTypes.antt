@@ -10,7 +10,8 @@ use Rattle.mk_never.specs.declared.types.Kind.{Kind}
 use Rattle.mk_never.specs.declared.types.Kind.TheVariants.{Num, To}
 use Rattle.mk_never.specs.Types.{kinds_of}
 use Rattle.mk_core.specs.Config.{IsBetween, IsAmong, IsTypeAmong}
-use Rattle.mk_trace.specs.Playing.{slot_type, types_from}
+use Rattle.mk_trace.specs.Playing.{config_of, slot_type, types_from}
+use Rattle.mk_trace.specs.Traces.{Contents}
 
 pub length-types_from : (slot : ℕ) (slots : List ℕ) → length (types_from slot slots) ≡ length slots
 length-types_from slot [] = refl
@@ -54,3 +55,26 @@ range_below first zero limit h = All-nil (λ n. n < limit)
 range_below first (suc count) limit h =
     All-cons (λ n. n < limit) first (range_with_len (first + 1) count) (omega (arith, h))
     (range_below (first + 1) count limit (omega (arith, h)))
+
+-- The first of numbers that are left, and the others.
+pub range_more : (first count : ℕ) → first < count
+    → range_with_len first (count - first) ≡ first ∷ range_with_len (first + 1) (count - (first + 1))
+range_more first count below =
+    ap (λ (n : ℕ). range_with_len first n) (left_is (count - (first + 1)) (omega (arith, below)))
+  where
+    left_is : (n : ℕ) → count - first ≡ suc n → count - first ≡ suc n
+    left_is n h = h
+
+-- The heap that a trace is played on, from its parts.
+pub config_is : (trace : Contents) (pages resident count : ℕ) (slots : List ℕ) (types : List (List Kind)) (globals : List ℕ)
+    → pages ≡ trace.pages → resident ≡ trace.resident → slots ≡ trace.slots → types ≡ types_from 0 slots
+    → count ≡ length slots → globals ≡ range_with_len 0 count
+    → config_of trace ≡ record {
+      pages = pages;
+      resident = resident;
+      callers = 1;
+      markers = 0;
+      types = types;
+      globals = globals;
+    }
+config_is trace pages resident count slots types globals a b d e f g = cc

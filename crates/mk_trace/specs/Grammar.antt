@@ -15,12 +15,12 @@ use Rattle.mk_trace.specs.Lines.{Written, with_line, line_of}
 use Rattle.mk_trace.specs.Typing.{typed_event}
 
 -- a fault at a line
-abbrev pub text_fault : ℕ → LineFault → TraceStop
-text_fault line (Text kind) = stop.Text line kind
-text_fault line (Limit which found) = stop.Limit line which found
+abbrev pub text_fault_at : ℕ → LineFault → TraceStop
+text_fault_at line (Text kind) = stop.Text line kind
+text_fault_at line (Limit which found) = stop.Limit line which found
 
-abbrev pub type_fault : ℕ → TypeKind → TraceStop
-type_fault line kind = stop.IllTyped line kind
+abbrev pub type_fault_at : ℕ → TypeKind → TraceStop
+type_fault_at line kind = stop.IllTyped line kind
 
 -- goes on with what a line gives, or ends with its fault
 abbrev pub go_on : {X Y Fault : Type 0} → (Fault → TraceStop) → Result X Fault → (X → Result Y TraceStop)
@@ -40,7 +40,7 @@ read_behind written line = line_of written (words_of line)
 
 -- the slots and the events of lines behind others
 abbrev pub written_from : ℕ → List (List ℕ) → Written → Result Written TraceStop
-written_from number lines before = along text_fault read_behind with_line number lines before
+written_from number lines before = along text_fault_at read_behind with_line number lines before
 
 abbrev pub with_event : List TraceEvent → TraceEvent → List TraceEvent
 with_event events event = events ++ event ∷ []
@@ -48,4 +48,4 @@ with_event events event = events ++ event ∷ []
 -- the events of lines, behind others
 abbrev pub events_from : List Slot → ℕ → List EventLine → List TraceEvent → Result (List TraceEvent) TraceStop
 events_from slots number lines before =
-    along type_fault (λ events line. typed_event slots line) with_event number lines before
+    along type_fault_at (λ events line. typed_event slots line) with_event number lines before

@@ -6,11 +6,12 @@ use Rattle.std.specs.declared.result.Result.{Result}
 use Rattle.std.specs.List.{position}
 use Rattle.std.specs.Str.{bytes_eq}
 use lib.Chars.{codes}
+use Rattle.std.specs.Option.{option_or}
 use Rattle.mk_script.specs.declared.faults.LineFault.{LineFault}
 use Rattle.mk_script.specs.declared.faults.LineFault.TheVariants.{Text}
 use Rattle.mk_script.specs.declared.faults.TextKind.TheVariants as kind
 use Rattle.mk_script.specs.declared.faults.Which.TheVariants as which
-use Rattle.mk_script.specs.Lines.{at_most, within, or_else}
+use Rattle.mk_script.specs.Lines.{at_most, within}
 use Rattle.mk_script.specs.Operands.{◌>>=◌, name, number}
 use Rattle.mk_trace.specs.declared.lines.HeapPages.{HeapPages}
 use Rattle.mk_trace.specs.declared.lines.Slot.{Slot}
@@ -25,25 +26,25 @@ pub record Written : Type 0 where
   pub slots : List Slot
   pub events : List EventLine
 
-abbrev pub nothing : Written
-nothing = record { slots = []; events = [] }
+abbrev pub nothing_written : Written
+nothing_written = record { slots = []; events = [] }
 
 abbrev pub with_line : Written → Line → Written
 with_line written (line.Slot slot) = record written { slots = written.slots ++ slot ∷ [] }
 with_line written (line.Event event) = record written { events = written.events ++ event ∷ [] }
 
-abbrev pub unless : {A : Type 0} → Option LineFault → A → Result A LineFault
-unless None x = Ok x
-unless (Some fault) x = Err fault
+abbrev pub ok_unless : {A : Type 0} → Option LineFault → A → Result A LineFault
+ok_unless None x = Ok x
+ok_unless (Some fault) x = Err fault
 
 -- line 1: `trace PAGES RESIDENT`
 
 abbrev pub heap_limit : ℕ → ℕ → Option LineFault
-heap_limit pages resident = or_else (within 1 pages 4096 which.Pages) (within 1 resident pages which.Resident)
+heap_limit pages resident = option_or (within 1 pages 4096 which.Pages) (within 1 resident pages which.Resident)
 
 abbrev pub heap_pages : List ℕ → List ℕ → Result HeapPages LineFault
 heap_pages pages resident =
-    number pages >>= (λ p. number resident >>= (λ r. unless (heap_limit p r) (record { pages = p; resident = r })))
+    number pages >>= (λ p. number resident >>= (λ r. ok_unless (heap_limit p r) (record { pages = p; resident = r })))
 
 abbrev pub header_of : List (List ℕ) → Result HeapPages LineFault
 header_of (word ∷ pages ∷ resident ∷ []) =
@@ -58,22 +59,22 @@ slot_number slots name' = position (λ (slot : Slot). bytes_eq name' slot.name) 
 
 -- the limit that is passed by a slot of so many words, as the one of this number, counted from 1
 abbrev pub slot_limit : ℕ → ℕ → Option LineFault
-slot_limit count words = or_else (at_most count 64 which.Types) (within 1 words 4096 which.Words)
+slot_limit count words = option_or (at_most count 64 which.Types) (within 1 words 4096 which.Words)
 
 abbrev pub checked_slot : List Slot → Slot → Result Slot LineFault
 checked_slot before slot =
     if is_some (slot_number before slot.name)
     then Err (Text kind.Twice)
-    else unless (slot_limit (length before + 1) slot.words) slot
+    else ok_unless (slot_limit (length before + 1) slot.words) slot
 
-abbrev pub slot_of : List Slot → List ℕ → List ℕ → Result Slot LineFault
-slot_of before slot words =
+abbrev pub slot_from : List Slot → List ℕ → List ℕ → Result Slot LineFault
+slot_from before slot words =
     name slot >>= (λ s. number words >>= (λ n. checked_slot before (record { name = s; words = n })))
 
 abbrev pub slot_line : Written → List (List ℕ) → Result Line LineFault
 slot_line before (slot ∷ words ∷ []) =
     if length before.events == 0
-    then slot_of before.slots slot words >>= (λ checked. Ok (line.Slot checked))
+    then slot_from before.slots slot words >>= (λ checked. Ok (line.Slot checked))
     else Err (Text kind.Word)
 slot_line before operands = Err (Text kind.Word)
 

@@ -10,14 +10,15 @@ use Rattle.mk_never.specs.declared.operations.Op.TheVariants.{New, Free, SetNum,
 use Rattle.mk_never.specs.NeverHeap.{Call}
 use Rattle.mk_core.specs.declared.config.Config.{Config}
 use Rattle.mk_core.specs.declared.events.Answer.{Answer}
-use Rattle.mk_core.specs.declared.events.Answer.TheVariants as answer
 use Rattle.mk_core.specs.declared.events.Event.{Event}
 use Rattle.mk_core.specs.declared.events.Seat.TheVariants.{Caller}
 use Rattle.mk_core.specs.Calls.{at_rest}
-use Rattle.mk_core.specs.Counts.{is_full_answer, IsTidy}
+use Rattle.mk_core.specs.Counts.{ends, in_a_word, is_full_answer, IsTidy}
 use Rattle.mk_core.specs.Decided.{asked, answered}
 use Rattle.mk_core.specs.History.{left, calls, IsHistory, RefinesNever}
 use Rattle.mk_core.specs.Moments.{flight_of}
+pub use Rattle.mk_check.specs.Feed.{is_refusal}
+use Rattle.mk_heap.specs.Reports as report
 use Rattle.mk_trace.specs.declared.trace.TraceEvent.{TraceEvent}
 use Rattle.mk_trace.specs.declared.trace.TraceEvent.TheVariants.{A, K, F, C, W}
 use Rattle.mk_trace.specs.declared.peaks.Peaks.{Peaks}
@@ -67,13 +68,6 @@ ops_played [] answers = []
 ops_played (event ∷ events) answers =
     let ops = ops_of (begins_full answers) event in ops ++ ops_played events (drop (length ops) answers)
 
-abbrev pub is_refusal : Answer → Bool
-is_refusal answer.Full = true
-is_refusal answer.Fault = true
-is_refusal answer.Null = true
-is_refusal answer.Double = true
-is_refusal answer' = false
-
 -- how many of the events are refused: one of their own answers is a refusal
 abbrev pub refused_events : List TraceEvent → List Answer → ℕ
 refused_events [] answers = 0
@@ -96,6 +90,10 @@ pub record IsPlayed (trace : Contents) (es : List Event) : Type 0 where
       ≡ calls_of_caller (ops_played trace.events (answered (calls (config_of trace) es)))
   pub at_rest : flight_of (left (config_of trace) es).now (Caller 0) ≡ at_rest
 
+-- the history of the heap on which the trace was played
+abbrev pub history_of : Peaks → List Event
+history_of peaks = report.history_of peaks.report
+
 -- what of the peaks a history alone says
 abbrev pub history_peaks : Peaks → HistoryPeaks
 history_peaks peaks =
@@ -106,6 +104,17 @@ history_peaks peaks =
       cycles = peaks.cycles;
       ages = peaks.ages.items;
     }
+
+-- What is counted of a trace whose playing made this history: its events, those that are refused, and the cycles that
+-- ended.
+pub record AreCounted (trace : Contents) (es : List Event) (peaks : Peaks) : Type 0 where
+  pub events : peaks.events ≡ length trace.events
+  pub refused : peaks.refused ≡ refused_events trace.events (answered (calls (config_of trace) es))
+  pub cycles : peaks.cycles ≡ in_a_word (ends es)
+
+-- The most that was held.
+abbrev pub IsMostHeld : Contents → List Event → Peaks → Type 0
+IsMostHeld trace es peaks = peaks.held ≡ (peaks_of (config_of trace) es).held
 
 -- The peaks of a trace whose playing made this history.
 pub record ArePeaks (trace : Contents) (es : List Event) (peaks : Peaks) : Type 0 where

@@ -5,7 +5,7 @@ use Rattle.std.specs.declared.result.Result.{Result}
 use Rattle.mk_script.specs.declared.faults.LineFault.{LineFault}
 use Rattle.mk_trace.specs.declared.faults.TraceStop.{TraceStop}
 use Rattle.mk_trace.specs.declared.lines.Line.{Line}
-use Rattle.mk_trace.specs.Grammar.{text_fault}
+use Rattle.mk_trace.specs.Grammar.{text_fault_at}
 use Rattle.mk_trace.specs.declared.lines.HeapPages.{HeapPages}
 use Rattle.mk_trace.specs.Lines.{Written, with_line, line_of}
 use Rattle.mk_trace.specs.Traces.{trace_of, contents_of}
@@ -14,7 +14,7 @@ use Rattle.mk_trace.specs.Traces.{trace_of, contents_of}
 pub record IsFaultOf {A : Type 0} (number : ℕ) (found : Result A LineFault) (stop : TraceStop) : Type 0 where
   pub fault : LineFault
   pub is_fault : found ≡ Err fault
-  pub told : stop ≡ text_fault number fault
+  pub told : stop ≡ text_fault_at number fault
 
 -- a line was read behind others
 pub record ReadsLine (before : Written) (words : List (List ℕ)) (behind : Written) : Type 0 where

@@ -3,14 +3,16 @@ use Rattle.std.specs.Prelude.{◌≡◌, ℕ, ◌+◌, ◌==◌, nat_le, if◌th
 use Rattle.std.specs.declared.result.Result.{Result}
 use Rattle.mk_script.specs.declared.faults.TextKind.TheVariants as kind
 use Rattle.mk_script.specs.declared.faults.Which.TheVariants as which
+use Rattle.mk_script.specs.Grammar.{longest_text, too_long}
 use Rattle.mk_script.specs.Words.{lines_of, words_of}
 use Rattle.mk_trace.specs.declared.faults.TraceStop.{TraceStop}
 use Rattle.mk_trace.specs.declared.faults.TraceStop.TheVariants as stop
 use Rattle.mk_trace.specs.declared.lines.HeapPages.{HeapPages}
 use Rattle.mk_trace.specs.declared.lines.Slot.{Slot}
 use Rattle.mk_trace.specs.declared.trace.TraceEvent.{TraceEvent}
-use Rattle.mk_trace.specs.Lines.{Written, nothing, header_of}
-use Rattle.mk_trace.specs.Grammar.{text_fault, go_on, written_from, events_from}
+use Rattle.mk_trace.specs.declared.trace.TraceEvent.TheVariants.{A, K, F, C, W}
+use Rattle.mk_trace.specs.Lines.{Written, nothing_written, header_of}
+use Rattle.mk_trace.specs.Grammar.{text_fault_at, go_on, written_from, events_from}
 
 -- What a trace says: the pages of its heap and how many of them may be resident, how many words the objects of each
 -- slot have, and what is done with the slots.
@@ -19,6 +21,14 @@ pub record Contents : Type 0 where
   pub resident : ℕ
   pub slots : List ℕ
   pub events : List TraceEvent
+
+-- the slot of an event
+abbrev pub slot_of : TraceEvent → ℕ
+slot_of (A slot) = slot
+slot_of (K slot) = slot
+slot_of (F slot) = slot
+slot_of (C slot) = slot
+slot_of (W slot index value) = slot
 
 abbrev pub contents_from : ℕ → ℕ → List ℕ → List TraceEvent → Contents
 contents_from pages resident slots events =
@@ -44,13 +54,13 @@ contents_of heap written =
 abbrev pub trace_of_lines : List (List ℕ) → Result Contents TraceStop
 trace_of_lines [] = Err (stop.Text 1 kind.Header)
 trace_of_lines (first ∷ lines) =
-    go_on (text_fault 1) (header_of (words_of first))
-    (λ heap. and_then (written_from 2 lines nothing) (contents_of heap))
+    go_on (text_fault_at 1) (header_of (words_of first))
+    (λ heap. and_then (written_from 2 lines nothing_written) (contents_of heap))
 
--- The trace of a text of at most 1,048,576 bytes, or its first fault. All faults of lines come before those of types.
+-- The trace of a text, or its first fault. All faults of lines come before those of types.
 abbrev pub trace_of : List ℕ → Result Contents TraceStop
 trace_of text =
-    if nat_le (length text) 1048576 then trace_of_lines (lines_of text) else Err (stop.Limit 0 which.Bytes 1048577)
+    if nat_le (length text) longest_text then trace_of_lines (lines_of text) else Err (text_fault_at 0 too_long)
 
 abbrev pub IsOfSomeText : Contents → Type 0
 IsOfSomeText contents = (text : List ℕ) × (trace_of text ≡ Ok contents)

@@ -11,8 +11,8 @@ use Rattle.mk_trace.specs.declared.trace.TraceEvent.{TraceEvent}
 use Rattle.mk_trace.specs.declared.trace.TraceEvent.TheVariants.{A, K, F, C, W}
 use Rattle.mk_trace.specs.Lines.{slot_number}
 
-abbrev pub write_event : ℕ → ℕ → ℕ → ℕ → Result TraceEvent TypeKind
-write_event slot words index value =
+abbrev pub typed_write : ℕ → ℕ → ℕ → ℕ → Result TraceEvent TypeKind
+typed_write slot words index value =
     if nat_le words index then Err kind.Offset else if index == 0 then Err kind.Kind else Ok (W slot index value)
 
 -- the action on the slot of this number, whose objects have so many words
@@ -21,7 +21,7 @@ event_on slot words action.New = Ok (A slot)
 event_on slot words action.Link = Ok (K slot)
 event_on slot words action.Free = Ok (F slot)
 event_on slot words action.Clear = Ok (C slot)
-event_on slot words (action.Write index value) = write_event slot words index value
+event_on slot words (action.Write index value) = typed_write slot words index value
 
 -- how many words the objects of a slot have
 abbrev pub words_at : List Slot → ℕ → ℕ

@@ -27,7 +27,7 @@ impl Model for Draft {
 
 impl Draft {
     pub fn new(alloc: Global) -> Draft
-        ensures { result ≡ spec.nothing }
+        ensures { result ≡ spec.nothing_written }
     {
         Draft {
             slots: Vec::new(alloc),
@@ -105,7 +105,7 @@ pub fn slot_number(slots: &[Slot], name: &Name) -> Option<usize>
 
 /// The slot that two words say, where it may stand behind these.
 fn slot(before: &[Slot], word: &[u8], words: &[u8]) -> Result<Slot, LineFault>
-    ensures { result ≡ spec.slot_of before.now word.now words.now }
+    ensures { result ≡ spec.slot_from before.now word.now words.now }
 {
     let name = name(word)?;
     let words = number(words)?;

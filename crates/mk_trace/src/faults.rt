@@ -4,7 +4,7 @@ ghost use Rattle.mk_trace.specs.Grammar as spec;
 
 use mk_check::TypeKind;
 use mk_script::{LineFault, TextKind, Which};
-use std::alloc::AllocError;
+use std::alloc::{AllocError, AllocFailed};
 
 /// Why a text has no trace, or no memory. Lines are counted from 1.
 #[derive(Clone, Copy, Debug, PartialEq, Eq)]
@@ -21,7 +21,7 @@ pub enum TraceStop {
 impl TraceStop {
     /// What is wrong with the line of this number.
     pub(crate) fn at_line(line: u64, fault: LineFault) -> TraceStop
-        ensures { result ≡ spec.text_fault line fault }
+        ensures { result ≡ spec.text_fault_at line fault }
     {
         match fault {
             LineFault::Text(kind) => TraceStop::Text { line, kind },
@@ -36,7 +36,18 @@ impl From<AllocError> for TraceStop {
 
     ghost from_gives = { λ _ stop. stop ≡ NoMemory };
 
-    fn from(_error: AllocError) -> TraceStop {
+    fn from(_refused: AllocError) -> TraceStop {
+        TraceStop::NoMemory
+    }
+}
+
+impl<T: Drop> From<AllocFailed<T>> for TraceStop {
+    ghost use Rattle.mk_trace.specs.declared.faults.TraceStop.{TraceStop};
+    ghost use Rattle.mk_trace.specs.declared.faults.TraceStop.TheVariants.{NoMemory};
+
+    ghost from_gives = { λ _ stop. stop ≡ NoMemory };
+
+    fn from(_refused: AllocFailed<T>) -> TraceStop {
         TraceStop::NoMemory
     }
 }

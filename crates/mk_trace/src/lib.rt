@@ -1,16 +1,22 @@
 //! Traces: the reader of their texts, and the peaks of playing them.
 #![tactic(auto)]
 
+mod calls;
+mod configs;
 mod draft;
 mod faults;
 pub mod laws;
+mod ledger;
 mod lines;
+mod operations;
 mod parsing;
 mod peaks;
+mod playing;
 mod resolving;
 mod trace;
 
 pub use faults::TraceStop;
 pub use parsing::parse_trace;
 pub use peaks::{Peaks, print_peaks};
+pub use playing::play;
 pub use trace::{Trace, TraceEvent};

@@ -5,7 +5,7 @@ ghost use Rattle.mk_script.specs.Operands as operands;
 ghost use Rattle.mk_script.specs.Words.{texts_of};
 ghost use Rattle.mk_trace.specs.Lines as spec;
 
-use mk_script::{LineFault, Name, TextKind, Which, number as parse_number};
+use mk_script::{LineFault, Name, TextKind, Which, parse_number};
 
 /// `trace PAGES RESIDENT`
 #[derive(Clone, Copy)]

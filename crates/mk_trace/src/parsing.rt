@@ -2,7 +2,7 @@
 ghost use Rattle.std.specs.Prelude.{◌≡◌, ◌≢◌, ◌≤◌, ◌<◌, ◌+◌, ◌^◌, List, length, MatchResult, Ok, Err, IfOk, IfErr};
 ghost use Rattle.mk_script.specs.Words.{words_of, texts_of, lines_of};
 ghost use Rattle.mk_trace.specs.Grammar.{written_from};
-ghost use Rattle.mk_trace.specs.Lines.{nothing, header_of, line_of};
+ghost use Rattle.mk_trace.specs.Lines.{nothing_written, header_of, line_of};
 ghost use Rattle.mk_trace.specs.Reading.{IsFaultOf, ReadsLine, IsReadFrom};
 ghost use Rattle.mk_trace.specs.Traces as spec;
 ghost use Rattle.mk_trace.specs.Traces.{trace_of, contents_of};
@@ -12,11 +12,8 @@ use crate::faults::TraceStop;
 use crate::lines::{HeapPages, Slot, header};
 use crate::resolving::events;
 use crate::trace::Trace;
-use mk_script::{TextKind, Which, lines, words};
+use mk_script::{TEXT_LIMIT, TOO_LONG, TextKind, Which, split_lines, split_words};
 use std::alloc::{AllocError, Global};
-
-/// The greatest length of a text, in bytes.
-const TEXT_LIMIT: usize = 1_048_576;
 
 /// The trace of a text, or its first fault: that of the first line that isn't of the grammar or passes a limit, and
 /// where there is none, that of the first event that isn't well typed. `NoMemory` says nothing of the text.
@@ -25,13 +22,9 @@ pub fn parse_trace(alloc: Global, bytes: &[u8]) -> Result<Trace, TraceStop>
     ensures fault { IfErr result (λ stop. stop ≢ TraceStop.NoMemory → trace_of bytes.now ≡ Err stop) }
 {
     if bytes.len() > TEXT_LIMIT {
-        return Err(TraceStop::Limit {
-            line: 0,
-            which: Which::Bytes,
-            found: 1_048_577,
-        });
+        return Err(TraceStop::at_line(0, TOO_LONG));
     }
-    let lines = lines(alloc, bytes)?;
+    let lines = split_lines(alloc, bytes)?;
     let [first, lines @ ..] = lines.as_slice() else {
         return Err(TraceStop::Text {
             line: 1,
@@ -49,7 +42,7 @@ fn read_header(alloc: Global, line: &[u8]) -> Result<HeapPages, TraceStop>
     ensures fault { IfErr result (λ stop. stop ≢ TraceStop.NoMemory
         → IsFaultOf 1 (header_of (words_of line.now)) stop) }
 {
-    let words = words(alloc, line)?;
+    let words = split_words(alloc, line)?;
     match header(&words) {
         Ok(heap) => Ok(heap),
         Err(fault) => Err(TraceStop::at_line(1, fault)),
@@ -58,9 +51,9 @@ fn read_header(alloc: Global, line: &[u8]) -> Result<HeapPages, TraceStop>
 
 /// The lines behind the first.
 fn read_lines(alloc: Global, lines: &[&[u8]]) -> Result<Draft, TraceStop>
-    ensures draft { IfOk result (λ draft. written_from 2 (texts_of lines.now) nothing ≡ Ok draft) }
+    ensures draft { IfOk result (λ draft. written_from 2 (texts_of lines.now) nothing_written ≡ Ok draft) }
     ensures fault { IfErr result (λ stop. stop ≢ TraceStop.NoMemory
-        → written_from 2 (texts_of lines.now) nothing ≡ Err stop) }
+        → written_from 2 (texts_of lines.now) nothing_written ≡ Err stop) }
 {
     let mut draft = Draft::new(alloc);
     for (index, line) in lines.iter().enumerate() {
@@ -74,7 +67,7 @@ fn read_line(alloc: Global, number: u64, draft: &mut Draft, line: &[u8]) -> Resu
     ensures { MatchResult result (λ _. ReadsLine draft.old (words_of line.now) draft.new)
         (λ stop. stop ≢ TraceStop.NoMemory → IsFaultOf number (line_of draft.old (words_of line.now)) stop) }
 {
-    let words = words(alloc, line)?;
+    let words = split_words(alloc, line)?;
     match draft.line(&words) {
         Ok(line) => Ok(draft.push(line)?),
         Err(fault) => Err(TraceStop::at_line(number, fault)),

@@ -6,6 +6,7 @@ ghost use lib.Chars.{codes};
 ghost use Rattle.mk_script.specs.Canonical.{line_text};
 ghost use Rattle.mk_trace.specs.Printed.{text_of_counts, text_of_ages, peaks_text};
 
+use mk_heap::Report;
 use mk_never::NoMemory;
 use std::alloc::Global;
 
@@ -24,6 +25,7 @@ pub struct Peaks {
     /// For each age at which an allocation was released, how many were; the ages ascend. An age is the number of
     /// ends of cycles behind the free, with that of the cycle that released it.
     pub ages: Vec<(u64, u64)>,
+    pub(crate) report: Report,
 }
 
 /// The lines of the peaks.
@@ -50,10 +52,7 @@ fn push_counts(text: &mut String, peaks: &Peaks) -> Result<(), NoMemory>
 fn push_count(text: &mut String, name: &str, count: u64) -> Result<(), NoMemory>
     ensures { OnOk result (string_bytes text.new ≡ string_bytes text.old ++ line_text (name.now ∷ decimal count ∷ [])) }
 {
-    match write!(text, "{name} {count}\n") {
-        Ok(()) => Ok(()),
-        Err(_) => Err(NoMemory),
-    }
+    Ok(writeln!(text, "{name} {count}")?)
 }
 
 fn push_ages(text: &mut String, ages: &[(u64, u64)]) -> Result<(), NoMemory>
@@ -69,8 +68,5 @@ fn push_age(text: &mut String, age: u64, count: u64) -> Result<(), NoMemory>
     ensures { OnOk result (string_bytes text.new
         ≡ string_bytes text.old ++ line_text (codes "age" ∷ decimal age ∷ decimal count ∷ [])) }
 {
-    match write!(text, "age {age} {count}\n") {
-        Ok(()) => Ok(()),
-        Err(_) => Err(NoMemory),
-    }
+    Ok(writeln!(text, "age {age} {count}")?)
 }

@@ -8,7 +8,7 @@ use crate::faults::TraceStop;
 use crate::lines::{Action, EventLine, Slot};
 use crate::trace::TraceEvent;
 use mk_check::TypeKind;
-use std::alloc::{AllocError, Global};
+use std::alloc::Global;
 
 /// The events of lines of which the first has this number.
 pub fn events(
@@ -25,7 +25,7 @@ pub fn events(
     let mut events = Vec::new(alloc);
     for (index, line) in lines.iter().enumerate() {
         match event(slots, line) {
-            Ok(event) => events.push(event).map_err(AllocError::from)?,
+            Ok(event) => events.push(event)?,
             Err(kind) => {
                 return Err(TraceStop::IllTyped {
                     line: first + index as u64,
@@ -62,7 +62,7 @@ fn event_on(slot: u64, words: u64, action: Action) -> Result<TraceEvent, TypeKin
 
 /// A write of a number, which word 0 isn't.
 fn write_event(slot: u64, words: u64, index: u64, value: u64) -> Result<TraceEvent, TypeKind>
-    ensures { result ≡ typing.write_event slot words index value }
+    ensures { result ≡ typing.typed_write slot words index value }
 {
     if index >= words {
         return Err(TypeKind::Offset);

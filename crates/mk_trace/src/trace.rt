@@ -1,5 +1,6 @@
 //! Traces.
-ghost use Rattle.std.specs.Prelude.{◌≡◌};
+ghost use Rattle.std.specs.Prelude.{◌≡◌, ◌<◌, length, get_or};
+ghost use Rattle.mk_trace.specs.Traces.{slot_of};
 ghost use Rattle.mk_trace.specs.Traces.{contents_from, IsOfSomeText};
 
 use std::marker::Model;
@@ -17,6 +18,19 @@ pub enum TraceEvent {
     C(u64),
     /// A number is stored into a word of the slot's object.
     W { slot: u64, index: u64, value: u64 },
+}
+
+impl TraceEvent {
+    /// The number of its slot.
+    pub fn slot(self) -> u64
+        ensures { result ≡ slot_of self }
+    {
+        match self {
+            TraceEvent::A(slot) | TraceEvent::K(slot) | TraceEvent::F(slot) | TraceEvent::C(slot) =>
+                { slot }
+            TraceEvent::W { slot, .. } => slot,
+        }
+    }
 }
 
 /// A trace of some text: its heap's pages and how many of them may be resident, how many words the objects of
@@ -80,6 +94,15 @@ impl Trace {
         ensures of_some_text { IsOfSomeText self.now }
     {
         self.slots.as_slice()
+    }
+
+    /// How many words the objects of one of its slots have.
+    pub fn words_of(&self, slot: u64) -> u64
+        requires { slot < length self.now.slots }
+        ensures words { result ≡ get_or self.now.slots slot 0 }
+        ensures of_some_text { IsOfSomeText self.now }
+    {
+        self.slots[slot as usize]
     }
 
     /// Its events, in the order of their lines.

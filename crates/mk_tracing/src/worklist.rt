@@ -22,7 +22,7 @@ impl Worklist {
     {
         let room = 64 + 8 * pages as usize;
         let nothing = Cell { page: 0, index: 0 };
-        let cells = Vec::from_elem(alloc, nothing, room).map_err(|_| NoMemory)?;
+        let cells = Vec::from_elem(alloc, nothing, room)?;
         Ok(Worklist {
             cells,
             count: 0,

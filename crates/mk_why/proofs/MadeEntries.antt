@@ -1,6 +1,6 @@
 -- Chains followed back, and the entries of the kept allocations.
 use Rattle.std.proofs.Common.{◌≡◌, ◌∙◌, ℕ, ◌+◌, ◌*◌, ◌<◌, Bool, true, false, List, [], ◌∷◌, ◌++◌, refl, sym, ap, subst, inl, inr, arith, length}
-use Rattle.std.specs.Prelude.{Option, None, Some, Result, Ok, Err, if◌then◌else◌, is_err, is_ok, is_some, map, reverse, slice_index, slice_index_or, not, ◌&&◌}
+use Rattle.std.specs.Prelude.{Option, None, Some, if◌then◌else◌, is_some, map, reverse, slice_index, slice_index_or, not, ◌&&◌}
 use Rattle.std.specs.List.Sorted.{IsStrictlyIncreasing}
 use Rattle.std.proofs.Math.ListN.{get_or-append}
 use Rattle.std.proofs.Math.Seq.{get_or-append_seam}
@@ -23,10 +23,6 @@ use Rattle.mk_why.specs.Entries.{AreEntriesBelow, IsLed, IsLedBack, IsMadeOf, Is
 use Rattle.mk_why.specs.Listing.{IsKeptAt, IsTold}
 use Rattle.mk_why.specs.Searching.{AreApart, AreWays, IsOnward, IsWay, at}
 use Rattle.mk_why.specs.Stops.{View, base_at, world_in}
-
-pub ok_of : {T E : Type 0} → (r : Result T E) → is_err r ≡ false → is_ok r ≡ true
-ok_of (Ok x) h = refl
-ok_of (Err e) h = absurd (true≢false h)
 
 -- what is read of a table
 pub read_at : {A : Type 0} → (xs : List (Option A)) (i : ℕ) (o : Option A) → o ≡ slice_index_or xs i o → i < length xs

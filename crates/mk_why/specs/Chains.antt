@@ -1,5 +1,6 @@
 -- Chains: how words lead from a root to an allocation, at the close of the marks.
-use Rattle.std.specs.Prelude.{◌≡◌, ℕ, ◌<◌, ◌≤◌, Bool, true, ◌&&◌, List, [], ◌∷◌, length, map, slice_index, Option, Some, None}
+use Rattle.std.specs.Prelude.{◌≡◌, ℕ, ◌<◌, ◌≤◌, Bool, true, ◌&&◌, List, [], ◌∷◌, length, map, slice_index, Option, Some}
+use Rattle.std.specs.Prelude.{None}
 use Rattle.std.specs.List.{Contains}
 use Rattle.std.specs.List.Sorted.{IsStrictlyIncreasing}
 use Rattle.mk_geom.specs.Addresses.{address_of}
@@ -56,7 +57,8 @@ IsWhy c w b None links = (links ≡ []) × ((root : Root) (others : List ℕ) �
 -- The allocation is of the cycle's snapshot, and its cell is marked.
 abbrev pub is_kept : Config → World → ℕ → Bool
 is_kept c w b =
-    is_in_snapshot_of_cycle (placed_at w.allocations b) && is_marked_allocation c w.now.words (placed_at w.allocations b)
+    is_in_snapshot_of_cycle (placed_at w.allocations b)
+    && is_marked_allocation c w.now.words (placed_at w.allocations b)
 
 -- The entry is that of this allocation.
 pub record IsEntryOf (c : Config) (w : World) (entry : Kept) (b : ℕ) : Type 0 where

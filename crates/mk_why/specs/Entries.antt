@@ -1,6 +1,7 @@
 -- Chains, followed back through the tables, and the entries that are made of them. Private functions alone cite these
 -- words.
-use Rattle.std.specs.Prelude.{◌≡◌, ℕ, ◌+◌, ◌*◌, ◌<◌, true, List, [], ◌∷◌, ◌++◌, length, map, nat_lt, reverse, slice_index, Option, Some, None, ⊤, if◌then◌else◌}
+use Rattle.std.specs.Prelude.{◌≡◌, ℕ, ◌+◌, ◌*◌, ◌<◌, true, List, [], ◌∷◌, ◌++◌, length, map, nat_lt, reverse}
+use Rattle.std.specs.Prelude.{slice_index, Option, Some, None, ⊤, if◌then◌else◌}
 use Rattle.std.specs.List.{Contains}
 use Rattle.std.specs.List.Sorted.{IsStrictlyIncreasing}
 use Rattle.mk_core.specs.declared.config.Config.{Config}

@@ -1,4 +1,4 @@
--- The kept allocations of a view, in a table. Private functions alone cite these words.
+-- The kept allocations of a view, in a table. `Why` cites `IsTold`; all other words private functions alone cite.
 use Rattle.std.specs.Prelude.{◌≡◌, ℕ, true, List, length, Option, Some}
 use Rattle.mk_geom.specs.Addresses.{address_of}
 use Rattle.mk_core.specs.declared.config.Config.{Config}

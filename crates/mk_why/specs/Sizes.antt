@@ -1,4 +1,4 @@
--- How many pages an engine and its tables are made for. Private functions alone cite these words.
+-- How many pages an engine and its tables are made for.
 use Rattle.std.specs.Prelude.{ℕ, ◌*◌, ◌==◌, min, if◌then◌else◌}
 
 -- The number of pages of the inner engine, where tables of so many words fit it, and else 0.

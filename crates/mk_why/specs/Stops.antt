@@ -1,4 +1,5 @@
--- What stays still in the stop, behind the inner engine's marks. Private functions alone cite these words.
+-- What stays still in the stop, behind the inner engine's marks. `Why` cites `view_of` and `IsToldBefore`; all other
+-- words private functions alone cite.
 use Rattle.std.specs.Prelude.{◌≡◌, ℕ, Bool, true, false, List, []}
 use Rattle.mk_core.specs.declared.events.Step.{Step}
 use Rattle.mk_core.specs.declared.events.Step.TheVariants as step

@@ -17,10 +17,7 @@ use std::alloc::Global;
 fn append<T: Drop>(list: &mut Vec<T>, element: T) -> Result<(), NoMemory>
     ensures { OnOk result (list.new.items ≡ list.old.items ++ element ∷ []) }
 {
-    if list.push(element).is_err() {
-        return Err(NoMemory);
-    }
-    Ok(())
+    Ok(list.push(element)?)
 }
 
 /// The link through which an allocation was found, and how the allocation that has it was found.

@@ -1,5 +1,6 @@
 //! The kept allocations: those of the snapshot whose cells are marked.
-ghost use Rattle.std.specs.Prelude.{◌≡◌, ◌+◌, ◌*◌, ◌<◌, ◌≤◌, ℕ, None, Some, false, true, length, slice_index, slice_set};
+ghost use Rattle.std.specs.Prelude.{◌≡◌, ◌+◌, ◌*◌, ◌<◌, ◌≤◌, ℕ, None, Some, false, true, length, slice_index};
+ghost use Rattle.std.specs.Prelude.{slice_set};
 ghost use Rattle.mk_core.specs.Allocations.{cell_of_allocation, placed_at};
 ghost use Rattle.mk_core.specs.Words.{header_at};
 ghost use Rattle.mk_why.specs.Chains.{is_kept};

@@ -4,7 +4,8 @@ ghost use Rattle.std.specs.Prelude.{◌≡◌, ◌+◌, ◌*◌, ◌<◌, ◌≤
 ghost use Rattle.mk_core.specs.Touched.{PointsIntoAllocation};
 ghost use Rattle.mk_why.specs.declared.kept.Root.TheVariants.{Register, Global};
 ghost use Rattle.mk_why.specs.Chains.{IsRoot, word_of_root};
-ghost use Rattle.mk_why.specs.Searching.{AreScannedFrom, AreWays, Grows, IsDone, IsExplored, IsFound, IsFoundThrough, IsNoted, IsSearch, IsWay, SearchesOn, at, links_in, links_of, root_word};
+ghost use Rattle.mk_why.specs.Searching.{AreScannedFrom, AreWays, Grows, IsDone, IsExplored, IsFound, IsFoundThrough};
+ghost use Rattle.mk_why.specs.Searching.{IsNoted, IsSearch, IsWay, SearchesOn, at, links_in, links_of, root_word};
 ghost use Rattle.mk_why.specs.Stops.{IsStill, LooksOn, view_by, world_in};
 
 use crate::found::{Found, Way};

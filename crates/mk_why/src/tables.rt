@@ -29,9 +29,9 @@ impl Tables {
         ensures none { IfOk result (λ made. (base : ℕ) → at made.kept.items base ≡ None) }
     {
         let words = 64 * pages as usize;
-        let found = vec![in alloc; None; words].map_err(|_| NoMemory)?;
-        let queue = vec![in alloc; 0; words].map_err(|_| NoMemory)?;
-        let kept = vec![in alloc; None; words].map_err(|_| NoMemory)?;
+        let found = vec![in alloc; None; words]?;
+        let queue = vec![in alloc; 0; words]?;
+        let kept = vec![in alloc; None; words]?;
         Ok(Tables {
             found,
             queue,

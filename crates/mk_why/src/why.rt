@@ -36,7 +36,8 @@ impl<E: Engine> Why<E> {
     pub fn kept(&self, alloc: Global) -> Result<Vec<Kept>, NoMemory>
         ensures kept { (c : Config) (w : World) → ⟦<Why<E> as Engine>⟧.tells self.now c w
             → IfOk result (λ entries. AreKept c w entries.items) }
-        ensures none { ((base : ℕ) → at self.now.tables.kept.items base ≡ None) → IfOk result (λ entries. entries.items ≡ []) }
+        ensures none { ((base : ℕ) → at self.now.tables.kept.items base ≡ None)
+            → IfOk result (λ entries. entries.items ≡ []) }
     {
         list_entries(&self.tables, alloc)
     }
@@ -53,7 +54,8 @@ impl<E: Engine> Engine for Why<E> {
         × IsTold c why.tables.found.items why.tables.kept.items (view_of w) };
 
     fn make(alloc: Global, pages: u64) -> Result<Why<E>, NoMemory>
-        ensures made_for { IfOk result (λ why. pages_for (E.made_for why.inner) (length why.tables.found.items) ≡ pages) }
+        ensures made_for { IfOk result (λ why.
+            pages_for (E.made_for why.inner) (length why.tables.found.items) ≡ pages) }
         ensures none { IfOk result (λ why. (base : ℕ) → at why.tables.kept.items base ≡ None) }
     {
         let inner = E::make(alloc, pages)?;

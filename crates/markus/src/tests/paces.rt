@@ -13,46 +13,30 @@ use std::thread::{Threads, yield_now};
 /// How often one waits for a moment that doesn't come.
 const MOST_YIELDS: u64 = 10_000_000;
 
-/// A moment of a run: before an instruction of a script, when one is answered, or when a marker scanned a cell.
+/// What a pace is told of: an instruction that is about to run, or is answered, or a marker that scanned a cell.
 #[derive(Clone, Copy, PartialEq, Eq)]
 enum Moment {
-    Before(u64, u64),
-    Answered(u64, u64),
+    Before,
+    Answered,
     Marked,
 }
 
-/// An instruction of a script is held back until this moment.
+/// An instruction of a script, counted from 0.
 #[derive(Clone, Copy)]
-struct Hold {
+struct Place {
     script: u64,
     instruction: u64,
-    until: Moment,
 }
 
-/// Two holds of a run, whether their moments came, and whether one was waited for in vain.
+/// Holds an instruction back until the moment came, of the other instruction. Whether it came, and whether it was waited
+/// for in vain.
 #[derive(Drop)]
-struct Holding {
-    holds: [Hold; 2],
-    came: [AtomicBool; 2],
+struct Hold {
+    held: Place,
+    until: Moment,
+    other: Place,
+    came: AtomicBool,
     in_vain: AtomicBool,
-}
-
-impl Holding {
-    fn new(holds: [Hold; 2]) -> Holding {
-        Holding {
-            holds,
-            came: [AtomicBool::new(false), AtomicBool::new(false)],
-            in_vain: AtomicBool::new(false),
-        }
-    }
-
-    fn came(&self, moment: Moment) {
-        for (hold, came) in self.holds.iter().zip(&self.came) {
-            if hold.until == moment {
-                came.store(true, Ordering::SeqCst);
-            }
-        }
-    }
 }
 
 /// Whether it comes to be set.
@@ -66,115 +50,160 @@ fn is_awaited(came: &AtomicBool) -> bool {
     false
 }
 
-impl Pace for Holding {
-    fn before(&self, script: u64, instruction: u64) {
-        self.came(Moment::Before(script, instruction));
-        for (hold, came) in self.holds.iter().zip(&self.came) {
-            if hold.script == script && hold.instruction == instruction && !is_awaited(came) {
-                self.in_vain.store(true, Ordering::SeqCst);
-            }
+impl Hold {
+    fn new(held: Place, until: Moment, other: Place) -> Hold {
+        Hold {
+            held,
+            until,
+            other,
+            came: AtomicBool::new(false),
+            in_vain: AtomicBool::new(false),
         }
     }
 
+    /// Takes note of a moment of an instruction.
+    fn note(&self, moment: Moment, script: u64, instruction: u64) {
+        if moment == self.until
+            && script == self.other.script
+            && instruction == self.other.instruction
+        {
+            self.came.store(true, Ordering::SeqCst);
+        }
+    }
+
+    fn hold_back(&self, script: u64, instruction: u64) {
+        if script == self.held.script
+            && instruction == self.held.instruction
+            && !is_awaited(&self.came)
+        {
+            self.in_vain.store(true, Ordering::SeqCst);
+        }
+    }
+
+    fn was_in_vain(&self) -> bool {
+        self.in_vain.load(Ordering::SeqCst)
+    }
+}
+
+impl Pace for Hold {
+    fn before(&self, script: u64, instruction: u64) {
+        self.note(Moment::Before, script, instruction);
+        self.hold_back(script, instruction);
+    }
+
     fn answered(&self, script: u64, instruction: u64) {
-        self.came(Moment::Answered(script, instruction));
+        self.note(Moment::Answered, script, instruction);
     }
 
+    /// Whatever the instruction is.
     fn marked(&self, _marker: u64) {
-        self.came(Moment::Marked);
+        self.note(Moment::Marked, self.other.script, self.other.instruction);
     }
 }
 
-/// Three scripts of two instructions each.
-const THREE: &str =
-    "heap 1 1/type A n/script a/ptr p A/new p A/show p/script b/ptr p A/new p A/show p/\
-    script c/ptr p A/new p A/show p/";
-
-/// A store to a global beside a load of it.
-const STORE_AND_LOAD: &str =
-    "heap 1 1/type A n/global g A/script a/ptr p A/new p A/storeg p g/script b/ptr q A/loadg q g/show q/";
-
-/// A free that is due.
-const DUE: &str = "heap 1 1/type A n*32/script s/ptr p A/new p A/free p/show p/";
-
-const ALL_THREE: &str = "script a/ptr/script b/ptr/script c/ptr/";
-
-/// A text, the words and the holds, and what is written.
-#[derive(Clone, Copy)]
-struct Run {
-    words: &'static [&'static str],
-    text: &'static str,
-    holds: [Hold; 2],
-    written: &'static str,
+/// Two holds at once.
+#[derive(Drop)]
+struct Both {
+    one: Hold,
+    other: Hold,
 }
 
-fn held_back(script: u64, instruction: u64, until: Moment) -> Hold {
-    Hold {
+impl Pace for Both {
+    fn before(&self, script: u64, instruction: u64) {
+        self.one.note(Moment::Before, script, instruction);
+        self.other.note(Moment::Before, script, instruction);
+        self.one.hold_back(script, instruction);
+        self.other.hold_back(script, instruction);
+    }
+
+    fn answered(&self, script: u64, instruction: u64) {
+        self.one.answered(script, instruction);
+        self.other.answered(script, instruction);
+    }
+
+    fn marked(&self, marker: u64) {
+        self.one.marked(marker);
+        self.other.marked(marker);
+    }
+}
+
+fn place_of(script: u64, instruction: u64) -> Place {
+    Place {
         script,
         instruction,
-        until,
     }
 }
 
-/// Runs the text, and compares what it writes.
-fn holds_up<R: Threads + Wait + Sync>(rt: &R, alloc: Global, run: &Run) -> Result<bool, Fail> {
-    let text = behind(alloc, "", run.text)?;
-    let written = behind(alloc, "", run.written)?;
-    let pace = Holding::new(run.holds);
-    let (status, found) = run_at(rt, alloc, &ample(run.words, text.as_bytes()), &pace)?;
-    let in_vain = pace.in_vain.load(Ordering::SeqCst);
-    Ok(!in_vain && status == Status::Ok && found.as_slice() == written.as_bytes())
+/// Three scripts of two instructions each, and behind ` -> ` what they print.
+const THREE: &str =
+    "heap 1 1/type A n/script a/ptr p A/new p A/show p/script b/ptr p A/new p A/show p/\
+    script c/ptr p A/new p A/show p/ -> script a/ptr/script b/ptr/script c/ptr/";
+
+/// A load of a global behind a store to it, and before it.
+const LOAD_BEHIND: &str = "heap 1 1/type A n/global g A/script a/ptr p A/new p A/storeg p g/\
+    script b/ptr q A/loadg q g/show q/ -> script a/script b/ptr/";
+
+const LOAD_BEFORE: &str = "heap 1 1/type A n/global g A/script a/ptr p A/new p A/storeg p g/\
+    script b/ptr q A/loadg q g/show q/ -> script a/script b/null/";
+
+/// A free that is due.
+const DUE: &str = "heap 1 1/type A n*32/script s/ptr p A/new p A/free p/show p/ -> script s/ptr/";
+
+/// Whether a run writes what the row says.
+fn writes<P: Pace + Sync, R: Threads + Wait + Sync>(
+    rt: &R,
+    alloc: Global,
+    words: &[&str],
+    row: &str,
+    pace: &P,
+) -> Result<bool, Fail> {
+    let row = behind(alloc, "", row)?;
+    let Some((text, written)) = row.split_once(" -> ") else {
+        return Ok(false);
+    };
+    let (status, found) = run_at(rt, alloc, &ample(words, text.as_bytes()), pace)?;
+    Ok(status == Status::Ok && found.as_slice() == written.as_bytes())
 }
 
-/// No order of whole scripts and no single thread ends the first two. In the other two a load comes behind a store, or
-/// before it, and is answered so.
+/// Whether it does so while an instruction is held back, and the moment for which it waits comes.
+fn writes_held<R: Threads + Wait + Sync>(
+    rt: &R,
+    alloc: Global,
+    words: &[&str],
+    row: &str,
+    hold: &Hold,
+) -> Result<bool, Fail> {
+    Ok(writes(rt, alloc, words, row, hold)? && !hold.was_in_vain())
+}
+
+/// No order of whole scripts and no single thread ends these.
 #[test]
 fn scripts_run_beside_each_other(rt: HostRuntime) -> Result<(), Fail> {
-    let behind_the_other = held_back(1, 0, Moment::Answered(2, 0));
-    let load_later = held_back(1, 0, Moment::Answered(0, 1));
-    let store_later = held_back(0, 1, Moment::Answered(1, 0));
-    for (text, holds, written) in [
-        (THREE, [behind_the_other, behind_the_other], ALL_THREE),
-        (
-            THREE,
-            [
-                held_back(1, 1, Moment::Before(2, 1)),
-                held_back(2, 1, Moment::Before(1, 1)),
-            ],
-            ALL_THREE,
-        ),
-        (
-            STORE_AND_LOAD,
-            [load_later, load_later],
-            "script a/script b/ptr/",
-        ),
-        (
-            STORE_AND_LOAD,
-            [store_later, store_later],
-            "script a/script b/null/",
-        ),
-    ] {
-        let run = Run {
-            words: &["run"],
-            text,
-            holds,
-            written,
-        };
-        assert!(rt; holds_up(&rt, rt.alloc(), &run)?, "{text} {written}");
-    }
+    let behind_the_other = Hold::new(place_of(1, 0), Moment::Answered, place_of(2, 0));
+    assert!(rt; writes_held(&rt, rt.alloc(), &["run"], THREE, &behind_the_other)?);
+    let both = Both {
+        one: Hold::new(place_of(1, 1), Moment::Before, place_of(2, 1)),
+        other: Hold::new(place_of(2, 1), Moment::Before, place_of(1, 1)),
+    };
+    assert!(rt; writes(&rt, rt.alloc(), &["run"], THREE, &both)?);
+    assert!(rt; !both.one.was_in_vain() && !both.other.was_in_vain());
+    Ok(())
+}
+
+/// A load that comes behind a store, or before it, is answered so.
+#[test]
+fn loads_are_answered_in_their_order(rt: HostRuntime) -> Result<(), Fail> {
+    let load_later = Hold::new(place_of(1, 0), Moment::Answered, place_of(0, 1));
+    assert!(rt; writes_held(&rt, rt.alloc(), &["run"], LOAD_BEHIND, &load_later)?);
+    let store_later = Hold::new(place_of(0, 1), Moment::Answered, place_of(1, 0));
+    assert!(rt; writes_held(&rt, rt.alloc(), &["run"], LOAD_BEFORE, &store_later)?);
     Ok(())
 }
 
 /// The free begins a cycle that goes on behind it, and what comes next waits until a marker scanned a cell.
 #[test]
 fn a_marker_marks_beside_a_script(rt: HostRuntime) -> Result<(), Fail> {
-    let scanned = held_back(0, 2, Moment::Marked);
-    let run = Run {
-        words: &["run", "--markers", "1"],
-        text: DUE,
-        holds: [scanned, scanned],
-        written: "script s/ptr/",
-    };
-    assert!(rt; holds_up(&rt, rt.alloc(), &run)?);
+    let scanned = Hold::new(place_of(0, 2), Moment::Marked, place_of(0, 2));
+    assert!(rt; writes_held(&rt, rt.alloc(), &["run", "--markers", "1"], DUE, &scanned)?);
     Ok(())
 }

@@ -252,7 +252,7 @@ fn is_kept<R: Threads + Wait + Sync>(rt: &R, alloc: Global, row: &str) -> Result
     let [front, word, end, greatest, back, line] = parts.as_slice() else {
         return Ok(false);
     };
-    let Some(greatest) = mk_script::number(greatest.as_bytes()) else {
+    let Some(greatest) = mk_script::parse_number(greatest.as_bytes()) else {
         return Ok(false);
     };
     let greatest = (greatest as usize).min(64);

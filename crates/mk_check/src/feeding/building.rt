@@ -40,21 +40,19 @@ impl Model for Builder {
 }
 
 impl Builder {
-    ghost use Rattle.mk_check.specs.Building.{Built, IsSound, parts_in, with_part, grown, Adds, innermost_steps};
+    ghost use Rattle.mk_check.specs.Building.{Built, IsSound, parts_in, with_part, with_node_and_part, AddsLine};
+    ghost use Rattle.mk_check.specs.Building.{innermost_steps};
 
     fn put(&mut self, part: Part) -> Result<(), NoMemory>
         ensures { OnOk result (self.new ≡ with_part self.old part.steps part.second) }
     {
-        match self.parts.push(part) {
-            Ok(()) => Ok(()),
-            Err(_) => Err(NoMemory),
-        }
+        Ok(self.parts.push(part)?)
     }
 
     /// Adds a node, with which a block begins.
     fn grow(&mut self, node: Node, second: usize) -> Result<(), NoMemory>
         requires { IsBelow (length self.old.nodes) node }
-        ensures { OnOk result (self.new ≡ grown self.old node second) }
+        ensures { OnOk result (self.new ≡ with_node_and_part self.old node second) }
     {
         let steps = self.tree.count();
         self.tree.push(node)?;
@@ -76,7 +74,7 @@ impl Builder {
 
     fn add_line(&mut self, line: u64, instruction: Instruction) -> Result<(), NoMemory>
         requires { IsSound self.old }
-        ensures { OnOk result (Adds line (element.Line instruction) self.old self.new) }
+        ensures { OnOk result (AddsLine line (element.Line instruction) self.old self.new) }
     {
         let Some(part) = self.parts.pop() else {
             return Ok(());
@@ -91,7 +89,7 @@ impl Builder {
 
     fn add_repeat(&mut self, rounds: u64) -> Result<(), NoMemory>
         requires { IsSound self.old }
-        ensures { OnOk result ((line : ℕ) → Adds line (element.Repeat rounds) self.old self.new) }
+        ensures { OnOk result ((line : ℕ) → AddsLine line (element.Repeat rounds) self.old self.new) }
     {
         let Some(body) = self.parts.pop() else {
             return Ok(());
@@ -109,7 +107,7 @@ impl Builder {
 
     fn add_if(&mut self, number: usize) -> Result<(), NoMemory>
         requires { IsSound self.old }
-        ensures { OnOk result ((line : ℕ) → Adds line (element.If number) self.old self.new) }
+        ensures { OnOk result ((line : ℕ) → AddsLine line (element.If number) self.old self.new) }
     {
         let Some(branches) = self.parts.pop() else {
             return Ok(());
@@ -128,7 +126,7 @@ impl Builder {
 
     fn add_else(&mut self) -> Result<(), NoMemory>
         requires { IsSound self.old }
-        ensures { OnOk result ((line : ℕ) → Adds line element.Else self.old self.new) }
+        ensures { OnOk result ((line : ℕ) → AddsLine line element.Else self.old self.new) }
     {
         let Some(branch) = self.parts.pop() else {
             return Ok(());
@@ -141,7 +139,7 @@ impl Builder {
 
     fn add_end(&mut self) -> Result<(), NoMemory>
         requires { IsSound self.old }
-        ensures { OnOk result ((line : ℕ) → Adds line element.End self.old self.new) }
+        ensures { OnOk result ((line : ℕ) → AddsLine line element.End self.old self.new) }
     {
         self.put(Part {
             steps: END,
@@ -152,7 +150,7 @@ impl Builder {
     /// Adds a line before those that were added.
     pub fn add(&mut self, line: u64, element: Element) -> Result<(), NoMemory>
         requires { IsSound self.old }
-        ensures { OnOk result (Adds line element self.old self.new) }
+        ensures { OnOk result (AddsLine line element self.old self.new) }
     {
         match element {
             Element::Line(instruction) => self.add_line(line, instruction),

@@ -40,9 +40,7 @@ fn names_among(alloc: Global, sort: Sort, items: &[Item]) -> Result<Vec<&Name>, 
     let mut names = Vec::new(alloc);
     for item in items {
         if let Some(name) = declared(sort, item) {
-            let Ok(()) = names.push(name) else {
-                return Err(NoMemory);
-            };
+            names.push(name)?;
         }
     }
     Ok(names)

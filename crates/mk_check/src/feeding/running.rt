@@ -1,9 +1,12 @@
 //! A script that runs.
-ghost use Rattle.std.specs.Prelude.{◌≡◌, ◌+◌, ◌*◌, ◌<◌, ◌++◌, [], ◌∷◌, true, false, length, slice_index, slice_set, IsTrue, IfOk, OnOk, OnErr, is_some, replicate, codes};
+ghost use Rattle.std.specs.Prelude.{◌≡◌, ◌+◌, ◌*◌, ◌<◌, ◌++◌, [], ◌∷◌, true, false, length, slice_index, slice_set};
+ghost use Rattle.std.specs.Prelude.{IsTrue, IfOk, OnOk, OnErr, is_some, replicate, codes};
 ghost use Rattle.std.specs.Fmt.{decimal};
-ghost use Rattle.mk_check.specs.Feed.{refusal_line, refusal_text, newline, number_of, shown};
+ghost use Rattle.mk_check.specs.Feed.{refusal_line, refusal_text, newline, answered_number, show_text};
 ghost use Rattle.mk_check.specs.Steps as steps;
-ghost use Rattle.mk_check.specs.Trees.{kept_in, with_kept, left_in, stopped_in, IsWithin, entered, left_block, branched, LeavesBlock, GoesOn, HasStopped};
+ghost use Rattle.mk_check.specs.Trees.{kept_in, with_kept, left_in, stopped_in, IsWithin, place_in_rounds};
+ghost use Rattle.mk_check.specs.Trees.{place_behind_block};
+ghost use Rattle.mk_check.specs.Trees.{place_in_branch, LeavesBlock, MovesOn, HasStopped};
 
 use crate::feeding::instructions::Instruction;
 use crate::feeding::tree::{Frame, Node, Tree};
@@ -12,6 +15,7 @@ use mk_never::{NoMemory, Op};
 use mk_script::Name;
 use std::alloc::Global;
 use std::marker::Model;
+use std::mem;
 
 /// Where a script is: its node, its open blocks, the outermost first, its number registers, and its
 /// text so far.
@@ -32,7 +36,7 @@ impl Model for Running {
 }
 
 fn answered_number(answer: Answer) -> u64
-    ensures { result ≡ number_of answer }
+    ensures { result ≡ answered_number answer }
 {
     match answer {
         Answer::Num(number) => number,
@@ -50,13 +54,10 @@ impl Running {
           text = codes "script " ++ (name.now ++ newline);
         }) }
     {
-        let Ok(numbers) = Vec::from_elem(alloc, 0, numbers) else {
-            return Err(NoMemory);
-        };
         let mut running = Running {
             at,
             frames: Vec::new(alloc),
-            numbers,
+            numbers: Vec::from_elem(alloc, 0, numbers)?,
             text: Vec::new(alloc),
         };
         running.print(b"script ")?;
@@ -65,39 +66,40 @@ impl Running {
         Ok(running)
     }
 
-    /// A copy at another node, with no text.
-    pub fn copy_at(&self, alloc: Global, at: usize) -> Result<Running, NoMemory>
-        ensures { IfOk result (λ r. r ≡ record self.now { at = at; text = [] }) }
+    /// Room for a script, which takes no memory yet.
+    pub fn empty(alloc: Global) -> Running
+        ensures { result ≡ record { at = 0; frames = []; numbers = []; text = [] } }
     {
-        let Ok(frames) = Vec::from_slice(alloc, &self.frames) else {
-            return Err(NoMemory);
-        };
-        let Ok(numbers) = Vec::from_slice(alloc, &self.numbers) else {
-            return Err(NoMemory);
-        };
-        Ok(Running {
-            at,
-            frames,
-            numbers,
+        Running {
+            at: 0,
+            frames: Vec::new(alloc),
+            numbers: Vec::new(alloc),
             text: Vec::new(alloc),
-        })
+        }
     }
 
-    /// Goes to where another is, with its text behind the text so far.
-    pub fn follow(&mut self, later: Running) -> Result<(), NoMemory>
-        ensures ok { OnOk result (self.new ≡ record later { text = self.old.text ++ later.text }) }
+    /// Becomes a copy of another at another node, with no text, in the memory that it has.
+    pub fn copy_at(&mut self, other: &Running, at: usize) -> Result<(), NoMemory>
+        ensures { OnOk result (self.new ≡ record other.now { at = at; text = [] }) }
+    {
+        self.at = at;
+        self.frames.clear();
+        self.frames.extend_from_slice(&other.frames)?;
+        self.numbers.clear();
+        self.numbers.extend_from_slice(&other.numbers)?;
+        self.text.clear();
+        Ok(())
+    }
+
+    /// Goes to where another is, with its text behind the text so far, and leaves it its own memory.
+    pub fn follow(&mut self, later: &mut Running) -> Result<(), NoMemory>
+        ensures ok { OnOk result (self.new ≡ record later.old { text = self.old.text ++ later.old.text }) }
         ensures err { OnErr result (self.new ≡ self.old) }
     {
-        let Running {
-            at,
-            frames,
-            numbers,
-            text,
-        } = later;
-        self.print(&text)?;
-        self.at = at;
-        self.frames = frames;
-        self.numbers = numbers;
+        self.print(&later.text)?;
+        self.at = later.at;
+        mem::swap(&mut self.frames, &mut later.frames);
+        mem::swap(&mut self.numbers, &mut later.numbers);
         Ok(())
     }
 
@@ -118,19 +120,14 @@ impl Running {
         ensures ok { OnOk result (self.new ≡ record self.old { text = self.old.text ++ piece.now }) }
         ensures err { OnErr result (self.new ≡ self.old) }
     {
-        match self.text.extend_from_slice(piece) {
-            Ok(()) => Ok(()),
-            Err(_) => Err(NoMemory),
-        }
+        Ok(self.text.extend_from_slice(piece)?)
     }
 
     /// Appends a number in decimal.
     fn print_number(&mut self, alloc: Global, number: u64) -> Result<(), NoMemory>
         ensures { OnOk result (self.new ≡ record self.old { text = self.old.text ++ decimal number }) }
     {
-        let Ok(digits) = number.to_string(alloc) else {
-            return Err(NoMemory);
-        };
+        let digits = number.to_string(alloc)?;
         self.print(digits.as_bytes())
     }
 
@@ -171,7 +168,7 @@ impl Running {
 
     /// The operation that an instruction asks for.
     pub fn asked(&self, instruction: Instruction) -> Option<Op>
-        ensures { result ≡ steps.asked self.now.numbers instruction }
+        ensures { result ≡ steps.op_asked self.now.numbers instruction }
     {
         match instruction {
             Instruction::Ask { op } | Instruction::Load { op, .. } => Some(op),
@@ -213,15 +210,12 @@ impl Running {
     fn open(&mut self, frame: Frame) -> Result<(), NoMemory>
         ensures { OnOk result (self.new ≡ record self.old { frames = self.old.frames ++ frame ∷ [] }) }
     {
-        match self.frames.push(frame) {
-            Ok(()) => Ok(()),
-            Err(_) => Err(NoMemory),
-        }
+        Ok(self.frames.push(frame)?)
     }
 
     /// Begins a round, or goes on behind the `repeat` where no round is left.
     fn enter(&mut self, rounds: u64, body: usize, next: usize) -> Result<(), NoMemory>
-        ensures { OnOk result (self.new ≡ entered self.old rounds body next) }
+        ensures { OnOk result (self.new ≡ place_in_rounds self.old rounds body next) }
     {
         if rounds == 0 {
             self.at = next;
@@ -244,7 +238,7 @@ impl Running {
         second: usize,
         next: usize,
     ) -> Result<(), NoMemory>
-        ensures { OnOk result (self.new ≡ branched self.old number first second next) }
+        ensures { OnOk result (self.new ≡ place_in_branch self.old number first second next) }
     {
         self.at = if self.number(number) == 0 {
             second
@@ -272,7 +266,7 @@ impl Running {
     /// Moves on, unless it is at an operation or at the end.
     fn step(&mut self, alloc: Global, tree: &Tree) -> Result<bool, NoMemory>
         requires { IsWithin (length tree.now) self.old }
-        ensures goes_on { IfOk result (λ more. IsTrue more → GoesOn tree.now self.old self.new) }
+        ensures goes_on { IfOk result (λ more. IsTrue more → MovesOn tree.now self.old self.new) }
         ensures stops { IfOk result (λ more. more ≡ false → HasStopped tree.now self.old self.new) }
     {
         match tree.node(self.at) {
@@ -316,7 +310,8 @@ impl Running {
 
     /// The instruction takes its answer.
     pub fn take(&mut self, instruction: Instruction, answer: Answer) -> Result<(), NoMemory>
-        ensures { OnOk result (self.new ≡ with_kept self.old (steps.answered instruction answer (kept_in self.old))) }
+        ensures { OnOk result (self.new ≡ with_kept self.old
+            (steps.after_answer instruction answer (kept_in self.old))) }
     {
         match instruction {
             Instruction::Load { number, .. } => self.set(number, answered_number(answer)),

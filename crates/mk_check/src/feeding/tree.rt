@@ -81,10 +81,7 @@ impl Tree {
         requires { IsBelow (length self.old) node }
         ensures { OnOk result (self.new ≡ self.old ++ node ∷ []) }
     {
-        match self.nodes.push(node) {
-            Ok(()) => Ok(()),
-            Err(_) => Err(NoMemory),
-        }
+        Ok(self.nodes.push(node)?)
     }
 
     pub fn node(&self, at: usize) -> Node

@@ -2,7 +2,7 @@ use Rattle.std.proofs.Common.{◌≡◌, ℕ, ◌+◌, ◌<◌, List, length, ge
 use Rattle.std.specs.Prelude.{string_bytes, option_and_then, Some, None, Option}
 use Rattle.mk_script.proofs.Spacing.{drop_next}
 use Rattle.markus.specs.declared.given.Given.{Given}
-use Rattle.markus.specs.Given.{with_word, with_words, whole}
+use Rattle.markus.specs.Given.{with_word, with_words, complete_given}
 use Rattle.markus.proofs.given.given_by.Goals as goal
 
 -- what a word more makes of what is left
@@ -26,4 +26,4 @@ returns-in_err-given c =
     let l = c.loop-word in
     let made = ap (with_word l.given) (sym c.as_str.ensures.value) ∙ (sym c.with_word.ensures ∙ c.in_err-given.was) in
     let read = l.invariant ∙ read_next c.args.words.now l.word-index c.word-item.result l.given None c.loop-word-test.true c.word-item.is made in
-    c.from_residual.ensures ∙ sym (ap (option_and_then whole) read)
+    c.from_residual.ensures ∙ sym (ap (option_and_then complete_given) read)

@@ -2,7 +2,7 @@ use Rattle.std.proofs.Common.{◌+◌, reverse, refl, ap, sym, ◌∙◌}
 use Rattle.std.proofs.lemmas.List.{reverse-reverse, reverse-append, map-append}
 use Rattle.std.proofs.lemmas.Iterator.Adapters.{YieldsList-from_rev_slice}
 use Rattle.std.proofs.lemmas.Iterator.Consumers.{YieldsList-at, YieldsList-end}
-use Rattle.mk_check.specs.Counts.{counts_of, counts_with, innermost}
+use Rattle.mk_check.specs.Counts.{counts_of, counts_with, innermost_count}
 use Rattle.mk_check.specs.Blocks.{parts_from}
 use Rattle.mk_check.proofs.CountLemmas.{counts-with_item, lines-innermost}
 use Rattle.mk_check.proofs.lengths.script_length.Goals as goal
@@ -14,7 +14,7 @@ returns c line =
     c.loop-item.yielded _ c.loop-item.yielded_by _ _ c.in-None.is c.next.ensures.steps in
     let all = ap reverse seen.0 ∙ reverse-reverse c.args.items.now in
     let parts = c.loop-item.invariant line ∙ ap (λ items. counts_of (parts_from line items)) all in
-    ap (λ count. count.lines) (c.close.ensures.count ∙ ap innermost parts) ∙ lines-innermost (parts_from line c.args.items.now)
+    ap (λ count. count.lines) (c.close.ensures.count ∙ ap innermost_count parts) ∙ lines-innermost (parts_from line c.args.items.now)
 
 pub loop-item-init : goal.loop-item-init
 loop-item-init c line = rw (c.in_ok-open.ensures, c.new-parts.ensures) refl

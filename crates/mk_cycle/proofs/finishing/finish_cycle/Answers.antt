@@ -1,7 +1,11 @@
-use Rattle.std.proofs.Common.{refl, ap, ◌∙◌, append_assoc}
+use Rattle.std.proofs.Common.{refl, sym, ap, ◌∙◌, append_assoc}
+use Rattle.mk_geom.specs.PageUses.{words_held_among}
+use Rattle.mk_geom.specs.PageWords.{uses_of_pages}
 use Rattle.mk_core.specs.declared.events.Step.TheVariants as step
+use Rattle.mk_core.specs.Frames.{Steady}
 use Rattle.mk_words.specs.States.{PassState}
 use Rattle.mk_cycle.specs.Kinds.{sets_tallies}
+use Rattle.mk_cycle.proofs.EndSteps.{steady_ended}
 use Rattle.mk_cycle.proofs.FinishedCycles.{ended_free, finishes_cycle, gives_call, gives_free, has_released}
 use Rattle.mk_turns.proofs.Sweeping.{does_sweep, only_seen_by, other_step_sweeps, sweeps_then}
 use Rattle.mk_cycle.proofs.Sweepless.{setting_marks_nothing}
@@ -14,6 +18,13 @@ count_cycle-requires-clause-free g c =
     let x = c.end.ensures in
     ended_free _ _ x.was c.give_all_back-turn.ensures.gives.phase x.is x.acts
     (gives_free p _ c.give_all_back-turn.ensures.gives c.requires.free)
+
+pub count_cycle-requires-clause-held : goal.count_cycle-requires-clause-held
+count_cycle-requires-clause-held g c =
+    let x = c.end.ensures in
+    c.give_all_back-turn.ensures.held
+    ∙ sym (ap (λ (s : Steady). words_held_among (uses_of_pages s.pages))
+    (steady_ended _ _ x.was c.give_all_back-turn.ensures.gives.phase x.is x.acts))
 
 pub returns-clause-law : goal.returns-clause-law
 returns-clause-law g c =

@@ -10,21 +10,19 @@ use Rattle.mk_cycle.proofs.Sweepless.{giving_marks_nothing, holding_marks_nothin
 use Rattle.mk_cycle.proofs.Told.{told_earlier, told_later}
 use Rattle.mk_cycle.proofs.giving.give_all_back.Goals as goal
 
-pub settle_pages-requires-clause-cells : goal.settle_pages-requires-clause-cells
-settle_pages-requires-clause-cells g c page lt =
+pub settle_pages-settled-requires-clause-cells : goal.settle_pages-settled-requires-clause-cells
+settle_pages-settled-requires-clause-cells g c page lt =
     let opens = c.open_gates-turn.ensures.opens in
-    let counts = c.count_released-released.ensures.frees in
-    free_cells_stay _ _ page counts.frees (counts.same page)
-    (free_cells_stay _ _ page opens.frees (opens.same page) (c.release_unmarked.ensures.cells page))
+    free_cells_stay _ _ page opens.frees (opens.same page) (c.release_unmarked.ensures.cells page)
 
 pub returns-clause-gives : goal.returns-clause-gives
 returns-clause-gives g c =
     let p = c.args.turn.pass in
     let holds = subst (λ (t : TurnState). HoldsGates p t.pass) (sym c.stopped-stop.ensures) c.hold_gates.ensures.holds in
     gives_all_back p c.stopped-stop.result.pass c.release_unmarked.new.stop.pass c.open_gates-turn.result.pass
-    c.settle_pages.new.turn.pass holds c.release_unmarked.ensures.releases c.open_gates-turn.ensures.opens
-    (frees_then _ _ _ c.count_released-released.ensures.frees.frees c.settle_pages.ensures.frees) c.open_gates-turn.ensures.gates
-    (λ page lt. c.settle_pages.ensures.settled page
+    c.settle_pages-settled.new.turn.pass holds c.release_unmarked.ensures.releases c.open_gates-turn.ensures.opens
+    c.settle_pages-settled.ensures.frees c.open_gates-turn.ensures.gates
+    (λ page lt. c.settle_pages-settled.ensures.settled page
     (subst (λ (w : WordsState). page < w.config.pages) c.requires.one_table lt))
 
 pub returns-clause-told : goal.returns-clause-told
@@ -32,19 +30,17 @@ returns-clause-told g c =
     let p = c.args.turn.pass in
     let holds = subst (λ (t : TurnState). HoldsGates p t.pass) (sym c.stopped-stop.ensures) c.hold_gates.ensures.holds in
     all_told p c.stopped-stop.result.pass c.release_unmarked.new.stop.pass c.open_gates-turn.result.pass
-    c.count_released-released.new.turn.pass c.settle_pages.new.turn.pass _ _ holds c.open_gates-turn.ensures.opens
-    c.count_released-released.ensures.frees.frees c.settle_pages.ensures.frees
-    c.release_unmarked.ensures.told c.count_released-released.ensures.exact
+    c.settle_pages-settled.new.turn.pass _ _ holds c.open_gates-turn.ensures.opens c.settle_pages-settled.ensures.frees
+    c.release_unmarked.ensures.told c.settle_pages-settled.ensures.released
 
 pub returns-clause-reached : goal.returns-clause-reached
 returns-clause-reached g c none =
     let p = c.args.turn.pass in
     let h = c.stopped-stop.result.pass in
     let r = c.release_unmarked.new.stop.pass in
-    let q = c.settle_pages.new.turn.pass in
+    let q = c.settle_pages-settled.new.turn.pass in
     let holds = subst (λ (t : TurnState). HoldsGates p t.pass) (sym c.stopped-stop.ensures) c.hold_gates.ensures.holds in
-    let frees = frees_then r _ q c.open_gates-turn.ensures.opens.frees
-    (frees_then _ _ q c.count_released-released.ensures.frees.frees c.settle_pages.ensures.frees) in
+    let frees = frees_then r _ q c.open_gates-turn.ensures.opens.frees c.settle_pages-settled.ensures.frees in
     sweeps_then p h q holds.keeps.call.pass (does_sweep holds_gates p h holding_marks_nothing holds.does)
     (sweeps_then h r q c.release_unmarked.ensures.releases.call.pass (c.release_unmarked.ensures.reached none)
     (does_sweep gives_back r q giving_marks_nothing frees.does))
@@ -54,10 +50,9 @@ returns-clause-told_at_close g c =
     let p = c.args.turn.pass in
     let h = c.stopped-stop.result.pass in
     let r = c.release_unmarked.new.stop.pass in
-    let q = c.settle_pages.new.turn.pass in
+    let q = c.settle_pages-settled.new.turn.pass in
     let holds = subst (λ (t : TurnState). HoldsGates p t.pass) (sym c.stopped-stop.ensures) c.hold_gates.ensures.holds in
-    let frees = frees_then r _ q c.open_gates-turn.ensures.opens.frees
-    (frees_then _ _ q c.count_released-released.ensures.frees.frees c.settle_pages.ensures.frees) in
+    let frees = frees_then r _ q c.open_gates-turn.ensures.opens.frees c.settle_pages-settled.ensures.frees in
     told_earlier _ p h holds.does.more q holds.does.is
     (told_later _ h r q frees.does.more (ap (λ (x : PassState). x.seen) frees.does.is)
     c.release_unmarked.ensures.told_at_close)

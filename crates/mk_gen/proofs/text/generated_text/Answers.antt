@@ -2,7 +2,7 @@
 use Rattle.std.proofs.Common.{ℕ, ◌+◌, List, [], ◌∷◌, Bor, ap, ◌∙◌}
 use lib.Chars.{codes}
 use Rattle.std.specs.String.{string_bytes}
-use Rattle.mk_gen.specs.Draws.{next, draw}
+use Rattle.mk_gen.specs.Draws.{next_state, draw}
 use Rattle.mk_gen.specs.Generated.{turns_of, all_names}
 use Rattle.mk_gen.proofs.Written.{all_scripts_left, name_read, one_script_more}
 use Rattle.mk_gen.proofs.text.generated_text.Goals as goal
@@ -11,8 +11,8 @@ pub loop-name-init : goal.loop-name-init
 loop-name-init c =
     all_scripts_left c.args.start c.args.count (1 + c.below-numbers.result) c.below-numbers.new.self
     (string_bytes c.in_ok-text.text)
-    (ap (λ drawn. 1 + drawn) (c.below-numbers.ensures.drawn ∙ ap (λ x. draw (next x) 100) c.new-draws.ensures))
-    (c.below-numbers.ensures.state ∙ ap next c.new-draws.ensures)
+    (ap (λ drawn. 1 + drawn) (c.below-numbers.ensures.drawn ∙ ap (λ x. draw (next_state x) 100) c.new-draws.ensures))
+    (c.below-numbers.ensures.state ∙ ap next_state c.new-draws.ensures)
     c.in_ok-text.ensures
 
 pub loop-name-preserved : goal.loop-name-preserved

@@ -4,5 +4,5 @@ use Rattle.std.specs.Fmt.{decimal}
 use lib.Chars.{codes}
 use Rattle.mk_gen.proofs.text.push_script.Goals as goal
 
-pub returns-in-Ok : goal.returns-in-Ok
-returns-in-Ok c = rw (append_assoc (decimal c.args.place) (codes " n")) c.in-Ok.ensures.bytes
+pub returns : goal.returns
+returns c = rw (append_assoc (decimal c.args.place) (codes " n")) c.in_ok-write.ensures.bytes

@@ -1,7 +1,7 @@
-use Rattle.std.proofs.Common.{◌≡◌, ◌+◌, ◌<◌, ◌≤◌, true, false, List, length, sym, ap, ◌∙◌, arith}
-use Rattle.std.specs.Prelude.{slice_index_or}
+use Rattle.std.proofs.Common.{◌≡◌, ◌+◌, ◌-◌, ◌<◌, true, false, List, length, sym, ap, ◌∙◌, arith}
+use Rattle.std.specs.Prelude.{None, option_map, nat_le, if◌then◌else◌, slice_index_or}
 use Rattle.mk_geom.specs.declared.pages.Page.{Page}
-use Rattle.mk_geom.specs.PageUses.{large_place}
+use Rattle.mk_geom.specs.PageUses.{carved, large_place}
 use Rattle.mk_geom.specs.PageWords.{uses_of_pages}
 use Rattle.mk_geom.specs.Storages.{free_page}
 use Rattle.mk_core.proofs.Lengths.{histories_keep_lengths}
@@ -9,7 +9,7 @@ use Rattle.mk_words.specs.States.{PassState, WordsState, now_of}
 use Rattle.mk_books.proofs.PlaceLemmas.{resident_from-next}
 use Rattle.mk_books.proofs.FreeRangeLemmas.{free_range_from-free, free_range_from-taken, first-skip, first-here, first-known}
 use Rattle.mk_objects.proofs.JoinedLooks.{looks_joined, looks_pages}
-use Rattle.mk_objects.proofs.SoughtPlaces.{free_told, place_of_range, ranged_none, resident_told, taken_told}
+use Rattle.mk_objects.proofs.SoughtPlaces.{free_told, place_at_once, place_of_range, ranged_none, resident_told, taken_told}
 use Rattle.mk_objects.proofs.seeking.seek_large.Goals as goal
 use Rattle.mk_objects.proofs.seeking.seek_large.Goals.{then-is_resident, else-is_resident, then-header-ne0, else-header-ne0+then-number-range, else-header-ne0+else-number-range}
 
@@ -150,6 +150,25 @@ returns-clause-place c =
       ap (λ (w : WordsState). w.config.pages) c.requires.one_table,
     ) in
     c.free_range.ensures
-    ∙ place_of_range c.resident.result c.args.count c.loop-number.resident c.loop-number.range c.loop-number.number c.loop-number.first
+    ∙ place_of_range c.resident-limit.result c.args.count c.loop-number.resident c.loop-number.range c.loop-number.number c.loop-number.first
     pages all i.begun i.counted i.short i.starts
-    ∙ ap (λ n. large_place n c.args.count (uses_of_pages pages)) c.resident.ensures
+    ∙ ap (λ n. large_place n c.args.count (uses_of_pages pages)) c.resident-limit.ensures
+
+pub returns-in-Some-clause-place : goal.returns-in-Some-clause-place
+returns-in-Some-clause-place c =
+    let p : PassState = c.args.turn.now.pass in
+    let pages : List Page = (now_of p).words.pages in
+    let i = c.loop-number.invariant in
+    let n = c.loop-number.number in
+    let long : length pages ≡ c.pages-pages.result = omega (
+      arith,
+      (histories_keep_lengths p.table.config p.seen).pages,
+      c.pages-pages.ensures,
+      ap (λ (w : WordsState). w.config.pages) c.requires.one_table,
+    ) in
+    place_at_once c.resident-limit.result c.args.count c.loop-number.resident c.loop-number.range n c.loop-number.first _ pages
+    (omega (arith, long, c.loop-number-test.true)) i.counted i.starts
+    (ap (λ m. if nat_le (c.loop-number.resident + (m - n) + c.args.count) c.resident-limit.result
+    then option_map carved c.loop-number.first else None) long
+    ∙ sym c.free_range-settled.ensures ∙ c.in-Some.is)
+    ∙ ap (λ m. large_place m c.args.count (uses_of_pages pages)) c.resident-limit.ensures

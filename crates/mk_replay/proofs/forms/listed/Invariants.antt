@@ -1,9 +1,9 @@
 use Rattle.std.proofs.Common.{◌≡◌, map, drop}
-use Rattle.mk_replay.specs.Forms.{among}
+use Rattle.mk_replay.specs.Forms.{value_among}
 use Rattle.mk_replay.proofs.forms.listed.Given as goal
 
 -- the entries that are left decide
 abbrev pub invariant-loop-name : goal.invariant-loop-name
 invariant-loop-name g l =
-    among (map (λ entry. (entry.0.now, entry.1)) (drop l.name-index l.table)) l.word
-    ≡ among (map (λ entry. (entry.0.now, entry.1)) l.table) l.word
+    value_among (map (λ entry. (entry.0.now, entry.1)) (drop l.name-index l.table)) l.word
+    ≡ value_among (map (λ entry. (entry.0.now, entry.1)) l.table) l.word

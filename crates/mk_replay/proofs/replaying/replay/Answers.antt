@@ -1,11 +1,17 @@
-use Rattle.std.proofs.Common.{◌≡◌, ◌≢◌, ◌<◌, rules}
+use Rattle.std.proofs.Common.{◌≡◌, ◌≢◌, ◌<◌, Ok, Err, Result, sym, subst, rules}
 use Rattle.std.specs.Prelude.{Some}
+use Rattle.std.specs.Result.{IfErr, IsErrAnd}
 use Rattle.mk_replay.specs.declared.replaying.ReplayStop.TheVariants.{NoMemory}
 use Rattle.mk_check.specs.Laws.{IsChecked}
 use Rattle.mk_replay.specs.Replays.{refusal_of, history_of}
 use Rattle.mk_replay.proofs.UnderWay.{room_of, next_under_way, refused_here, over}
 use Rattle.mk_replay.proofs.AdmittedSchedules.{schedule_is_history, schedule_keeps_all_promises}
 use Rattle.mk_replay.proofs.replaying.replay.Goals as goal
+
+-- what holds of the stop that a `?` hands on
+handed_on : {X Stop : Type 0} (found : Result X Stop) (stop : Stop) (P : Stop → Type 0) → IsErrAnd found (λ handed. handed ≡ stop) → P stop → IfErr found P
+handed_on (Ok x) stop P is told = absurd is
+handed_on (Err handed) stop P is told = subst P (sym is) told
 
 pub step-requires : goal.step-requires
 step-requires c =
@@ -19,7 +25,8 @@ returns-in_err-step-clause-not_enabled c =
     let refused : stop ≢ NoMemory → refusal_of c.args.program.now c.args.schedule.now ≡ Some stop =
     λ ne. refused_here c.args.program.now c.args.schedule.now c.entries-entry-items.result.now c.loop-entry.entry-index c.loop-entry.run _ stop
     c.entries-entry-items.ensures c.loop-entry-test.true h (c.in_err-step.ensures.stop c.args.program.now h.events h.is_run ne) in
-    search rules
+    handed_on c.from_residual-in_err-step.result stop
+    (λ stop'. stop' ≢ NoMemory → refusal_of c.args.program.now c.args.schedule.now ≡ Some stop') c.from_residual-in_err-step.ensures.1 refused
 
 pub loop-entry-preserved : goal.loop-entry-preserved
 loop-entry-preserved c =

@@ -13,9 +13,9 @@ call-requires-clause-admitted g c =
 pub returns-in-Ok-clause-answers : goal.returns-in-Ok-clause-answers
 returns-in-Ok-clause-answers g c = λ on.
     none_then_answers on c.args.caller.now.pass c.held.caller.pass c.args.op c.in-Ok.told c.call.new.caller.pass
-    (c.held.invariant.none on)
+    (c.held.invariant.none on) c.requires.entered
     (answered_by_call on c.held.caller.pass c.args.op c.in-Ok.told c.call.new.caller.pass c.is_idle.ensures.own
-    c.in-Ok.ensures.called)
+    c.requires.entered c.in-Ok.ensures.called)
 
 pub held-preserved : goal.held-preserved
 held-preserved g c = record {

@@ -1,10 +1,10 @@
 use Rattle.std.proofs.Common.{◌≡◌, ◌+◌, drop}
 use Rattle.mk_script.specs.Words.{texts_of}
 use Rattle.mk_trace.specs.Grammar.{written_from}
-use Rattle.mk_trace.specs.Lines.{nothing}
+use Rattle.mk_trace.specs.Lines.{nothing_written}
 use Rattle.mk_trace.proofs.parsing.read_lines.Given as goal
 
 -- the lines that are left decide
 abbrev pub invariant-loop-index : goal.invariant-loop-index
 invariant-loop-index l =
-    written_from (2 + l.index) (texts_of (drop l.index l.lines)) l.draft ≡ written_from 2 (texts_of l.lines) nothing
+    written_from (2 + l.index) (texts_of (drop l.index l.lines)) l.draft ≡ written_from 2 (texts_of l.lines) nothing_written

@@ -6,7 +6,7 @@ use Rattle.std.proofs.lemmas.Result.{IfOk-weaker}
 use Rattle.mk_check.specs.declared.feeding.tree.Node.{Node}
 use Rattle.mk_check.specs.declared.feeding.tree.Node.TheVariants as node
 use Rattle.mk_check.specs.Feed.{refusal_line, refusal_text}
-use Rattle.mk_check.specs.Steps.{asked, answered, ran_on}
+use Rattle.mk_check.specs.Steps.{op_asked, after_answer, stop_on_answer}
 use Rattle.mk_check.specs.Trees.{IsTree, Place, left_in, kept_in, stopped_in, node_at, with_kept}
 use Rattle.mk_check.specs.Feeding.{FeedState, StandsForSome, IsFeed, op_of_node, op_in, work_left, TakesAnswer}
 use Rattle.mk_check.proofs.Stands.{answer_stands, answer_stops, op_of_others, waits_for_answer}
@@ -21,13 +21,13 @@ waits c = ap (node_at c.self.inside.tree) (sym c.at.ensures) ∙ sym c.in-Line.e
 
 -- the copy, behind the text so far, stops where the script does
 stops : (c : After-follow) → c.follow.new.self ≡ record c.run.new.self { text = c.self.inside.running.text ++ c.run.new.self.text }
-    → stopped_in c.self.inside.tree c.follow.new.self ≡ ran_on (left_in c.self.inside.tree c.self.inside.running) c.args.answer (kept_in c.self.inside.running)
+    → stopped_in c.self.inside.tree c.follow.new.self ≡ stop_on_answer (left_in c.self.inside.tree c.self.inside.running) c.args.answer (kept_in c.self.inside.running)
 stops c e =
     let nodes = c.self.inside.tree in
     let p = c.self.inside.running in
-    let starts : c.take.new.self ≡ with_kept (record p { at = c.in-Line.next }) (answered c.in-Line.instruction c.args.answer (record { numbers = p.numbers; text = refusal_line c.in-Line.line (refusal_text c.args.answer) })) =
-    c.in_ok-take.ensures ∙ ap (λ (q : Place). with_kept q (answered c.in-Line.instruction c.args.answer (kept_in q)))
-    (c.in_ok-print_refusal.ensures ∙ ap (λ (q : Place). let later : Place = record q { text = q.text ++ refusal_line c.in-Line.line (refusal_text c.args.answer) } in later) c.in_ok-later.ensures) in
+    let starts : c.take.new.self ≡ with_kept (record p { at = c.in-Line.next }) (after_answer c.in-Line.instruction c.args.answer (record { numbers = p.numbers; text = refusal_line c.in-Line.line (refusal_text c.args.answer) })) =
+    c.in_ok-take.ensures ∙ ap (λ (q : Place). with_kept q (after_answer c.in-Line.instruction c.args.answer (kept_in q)))
+    (c.in_ok-print_refusal.ensures ∙ ap (λ (q : Place). let later : Place = record q { text = q.text ++ refusal_line c.in-Line.line (refusal_text c.args.answer) } in later) c.in_ok-copy_at.ensures) in
     answer_stops nodes p c.take.new.self c.run.new.self c.follow.new.self c.in-Line.line c.in-Line.instruction c.in-Line.next c.args.answer
     c.in-Line.ensures.tree c.self.invariant.stop.within (waits c) starts c.in_ok-run.ensures e
 
@@ -49,7 +49,7 @@ takes c e =
     let p = c.self.inside.running in
     let before : FeedState = record { nodes = nodes; place = p } in
     let after : FeedState = record { nodes = nodes; place = c.follow.new.self } in
-    let asks : is_some (asked p.numbers c.in-Line.instruction) ≡ true =
+    let asks : is_some (op_asked p.numbers c.in-Line.instruction) ≡ true =
     ap (λ (m : Node). is_some (op_of_node p.numbers m)) (sym (waits c))
     ∙ (ap (λ (s : FeedState). is_some (op_in s)) c.self.view_is ∙ waits_for_answer c.args.self.now (tree c) (feed c) c.requires) in
     subst (λ (s : FeedState). TakesAnswer s c.args.answer after) c.self.view_is
@@ -69,10 +69,10 @@ unreachable-requires c =
     let never : false ≡ true = sym (ap (λ (o : Option Op). is_some o) none) ∙ some in
     absurd cc
 
-pub invariant_of-self : goal.invariant_of-self
-invariant_of-self c =
+pub invariant_of-self-2 : goal.invariant_of-self-2
+invariant_of-self-2 c =
     let after : FeedState = record { nodes = c.self.inside.tree; place = c.follow.new.self } in
-    let f = feed ((goal.at.invariant_of-self c).After-follow) in
+    let f = feed ((goal.at.invariant_of-self-2 c).After-follow) in
     record {
       stop = search rules;
       some = either c.follow.result _ _ (StandsForSome after) c.follow.ensures.ok c.follow.ensures.err
@@ -80,7 +80,7 @@ invariant_of-self c =
             program = f.some.program;
             k = f.some.k;
             answers = f.some.answers ++ c.args.answer ∷ [];
-            stands = takes ((goal.at.invariant_of-self c).After-follow) e f.some.program f.some.k f.some.answers f.some.stands;
+            stands = takes ((goal.at.invariant_of-self-2 c).After-follow) e f.some.program f.some.k f.some.answers f.some.stands;
           })
           (λ e. subst (λ (p : Place). StandsForSome (record { nodes = c.self.inside.tree; place = p })) (sym e) c.self.invariant.some);
     }

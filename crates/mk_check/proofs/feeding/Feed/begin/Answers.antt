@@ -2,7 +2,7 @@ use Rattle.std.proofs.Common.{◌≡◌, ℕ, List, [], ◌++◌, length, ap, sy
 use Rattle.std.specs.Prelude.{replicate, codes}
 use Rattle.mk_script.specs.declared.items.Item.{Item}
 use Rattle.mk_check.specs.Blocks.{ScriptText, script_of, blocks_from}
-use Rattle.mk_check.specs.Feed.{Scope, scope_of, begun, newline}
+use Rattle.mk_check.specs.Feed.{Scope, scope_of, fed_before_lines, newline}
 use Rattle.mk_check.specs.Steps.{steps_of}
 use Rattle.mk_check.specs.Trees.{Place, steps_at, trees}
 use Rattle.mk_check.specs.Feeding.{script_scope, FeedStandsFor}
@@ -36,10 +36,10 @@ begins c =
     ∙ ap (λ (xs : List Item). steps_of scope (blocks_from script.line xs)) lines.ensures.items)) in
     let count : c.numbers.result ≡ length scope.numbers = c.numbers.ensures ∙ ap (λ (s : Scope). length s.numbers) named in
     let at = c.in_ok-tree.at in
-    let place : c.in_ok-running.running ≡ record { at = at; frames = []; numbers = (begun scope script).numbers; text = (begun scope script).text } =
+    let place : c.in_ok-running.running ≡ record { at = at; frames = []; numbers = (fed_before_lines scope script).numbers; text = (fed_before_lines scope script).text } =
     c.in_ok-running.ensures
     ∙ (ap (λ (n : ℕ). let p : Place = record { at = at; frames = []; numbers = replicate n 0; text = codes "script " ++ (lines.result.name.now ++ newline) } in p) count
-    ∙ ap (λ (name : List ℕ). let p : Place = record { at = at; frames = []; numbers = (begun scope script).numbers; text = codes "script " ++ (name ++ newline) } in p) lines.ensures.name) in
+    ∙ ap (λ (name : List ℕ). let p : Place = record { at = at; frames = []; numbers = (fed_before_lines scope script).numbers; text = codes "script " ++ (name ++ newline) } in p) lines.ensures.name) in
     start_stands program k (record { nodes = c.in_ok-tree.tree; place = c.run.new.self })
     (start_stops c.in_ok-tree.tree scope script c.in_ok-tree.at c.in_ok-running.running c.run.new.self steps place c.in_ok-run.ensures)
 

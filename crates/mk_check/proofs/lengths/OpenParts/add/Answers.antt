@@ -1,6 +1,6 @@
 use Rattle.std.proofs.Common.{◌+◌, arith}
 use Rattle.mk_check.specs.declared.lengths.PartCount.{PartCount}
-use Rattle.mk_check.specs.Counts.{saturated}
+use Rattle.mk_check.specs.Counts.{saturated_count}
 use Rattle.mk_check.proofs.CountLemmas.{reverse-set, reverse-none}
 use Rattle.mk_check.proofs.lengths.OpenParts.add.Goals as goal
 use Rattle.mk_check.proofs.lengths.OpenParts.add.Goals.{in-Some, in_default}
@@ -8,7 +8,7 @@ use Rattle.mk_check.proofs.lengths.OpenParts.add.Goals.{in-Some, in_default}
 pub returns : goal.returns
 returns c =
     let parts = c.self.inside.outermost_first in
-    let more = λ (count : PartCount). record count { lines = saturated (count.lines + c.args.instructions) } in
+    let more = λ (count : PartCount). record count { lines = saturated_count (count.lines + c.args.instructions) } in
     elim c.match-last_mut.branch [
       | in-Some w ↦ rw (w.self-inside-is, ← c.self.view_is, w.saturating_add-innermost.ensures)
           (reverse-set more parts.items parts.len w.in-Some.innermost.now parts.ok.0 (omega (arith, w.in-Some.ensures.item)) w.in-Some.ensures.value)

@@ -1,7 +1,7 @@
 use Rattle.std.proofs.Common.{◌≡◌, drop}
 use Rattle.mk_check.specs.Lookups.{around}
-use Rattle.mk_check.specs.Typing.{pointers_are_inside}
+use Rattle.mk_check.specs.Typing.{offsets_fault}
 use Rattle.mk_check.proofs.lookups.Lookups.offsets_fault.Given as goal
 
 abbrev pub invariant-loop-word : goal.invariant-loop-word
-invariant-loop-word l = pointers_are_inside (around l.self) l.words ≡ pointers_are_inside (around l.self) (drop l.word-index l.words)
+invariant-loop-word l = offsets_fault (around l.self) l.words ≡ offsets_fault (around l.self) (drop l.word-index l.words)

@@ -17,12 +17,12 @@ returns-in-Ptr-clause-added c =
     }))
     c.add_first.ensures.added
 
-pub returns-in-Ok-clause-added : goal.returns-in-Ok-clause-added
-returns-in-Ok-clause-added c lines known =
+pub returns-in_ok-insert-in-Num-clause-added : goal.returns-in_ok-insert-in-Num-clause-added
+returns-in_ok-insert-in-Num-clause-added c lines known =
     let name = c.in-Num.name in
     rw c.in-Num.is (record {
       pointers = λ n. known.pointers n ∙ sym (pointer_at-append n lines (Num name ∷ []) ∙ option_or-none (pointer_at n lines));
-      numbers = λ n. c.in-Ok.ensures.updates.0 (record { ref_ptr = (0, 0); now = n })
+      numbers = λ n. c.in_ok-insert-in-Num.ensures.updates.0 (record { ref_ptr = (0, 0); now = n })
           ∙ ap (λ same. cond same true (contains_by (λ key. bytes_eq n key.now) c.args.self.now.numbers)) (ap (λ bytes. bytes_eq bytes n) c.as_bytes.ensures)
           ∙ ap (λ known'. cond (bytes_eq name n) true known') (known.numbers n) ∙ sym (is_number-push n lines name);
     })

@@ -3,7 +3,7 @@ use Rattle.mk_check.specs.declared.text.Text.{Text}
 use Rattle.mk_replay.specs.declared.players.Player.{Player}
 use Rattle.mk_check.specs.Declarations.{config_of}
 use Rattle.mk_replay.specs.Replays.{IsTextOf, AreFirstTexts}
-use Rattle.mk_replay.specs.Players.{served, IsPlayerOf}
+use Rattle.mk_replay.specs.Players.{served_to, IsPlayerOf}
 use Rattle.mk_replay.proofs.RunLaws.{texts_push}
 use Rattle.mk_replay.proofs.replaying.Run.texts.Goals as goal
 
@@ -17,9 +17,9 @@ loop-player-preserved c = record {
       let p = c.player-item.result in
       let within : n < length players = search rules in
       let item : get_or players n p ≡ p = search rules in
-      let is = subst (λ (x : Player). IsPlayerOf program n (served (config_of program 8) es n) x) item (h n p within) in
+      let is = subst (λ (x : Player). IsPlayerOf program n (served_to (config_of program 8) es n) x) item (h n p within) in
       let t = c.in_ok-text.ensures program es n is in
-      subst (λ (xs : List Text). AreFirstTexts program es xs) (sym c.in-Ok.ensures.items)
+      subst (λ (xs : List Text). AreFirstTexts program es xs) (sym c.in_ok-push.ensures.items)
       (texts_push program es texts c.in_ok-text.text (c.loop-player.invariant.texts program es h)
       (subst (λ (i : ℕ). IsTextOf program es i c.in_ok-text.text.bytes.items c.in_ok-text.text.ops c.in_ok-text.text.refused) (sym c.loop-player.invariant.count) t));
 }

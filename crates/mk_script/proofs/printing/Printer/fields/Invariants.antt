@@ -1,8 +1,8 @@
 use Rattle.std.proofs.Common.{◌≡◌, ◌++◌, ◌≤◌, drop}
 use Rattle.mk_script.specs.Canonical.{fields_behind}
-use Rattle.mk_script.specs.Spaced.{spaced}
+use Rattle.mk_script.specs.Spaced.{spaced_words}
 use Rattle.mk_script.proofs.printing.Printer.fields.Given as goal
 
 abbrev pub invariant-loop-word : goal.invariant-loop-word
 invariant-loop-word l =
-    (l.fn.self ++ spaced (fields_behind l.words 0) ≡ l.printer ++ spaced (fields_behind (drop l.word-index l.words) l.count)) × (l.count ≤ l.word-index)
+    (l.fn.self ++ spaced_words (fields_behind l.words 0) ≡ l.printer ++ spaced_words (fields_behind (drop l.word-index l.words) l.count)) × (l.count ≤ l.word-index)

@@ -1,9 +1,9 @@
 use Rattle.std.proofs.Common.{◌++◌, map, append_assoc, ap, ◌∙◌}
-use Rattle.mk_script.specs.Spaced.{spaced, operand_text}
+use Rattle.mk_script.specs.Spaced.{spaced_words, operand_text}
 use Rattle.mk_script.proofs.Spacing.{drop_next}
 use Rattle.mk_script.proofs.printing.Printer.operands.Goals as goal
 
 pub loop-operand-preserved : goal.loop-operand-preserved
 loop-operand-preserved c =
     let next = drop_next c.args.operands.now c.loop-operand.operand-index c.operand-item.result c.loop-operand-test.true c.operand-item.is in
-    c.loop-operand.invariant ∙ ap (λ ns. c.loop-operand.printer ++ spaced (map operand_text ns)) next ∙ rw c.in_ok-printer.ensures (simp append_assoc)
+    c.loop-operand.invariant ∙ ap (λ ns. c.loop-operand.printer ++ spaced_words (map operand_text ns)) next ∙ rw c.in_ok-printer.ensures (simp append_assoc)

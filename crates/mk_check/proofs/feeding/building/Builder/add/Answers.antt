@@ -5,14 +5,14 @@ use Rattle.std.proofs.lemmas.Result.{IfOk-weaker}
 use Rattle.mk_never.specs.declared.never_heap.NoMemory.{NoMemory}
 use Rattle.mk_check.specs.declared.feeding.instructions.Element.{Element}
 use Rattle.mk_check.specs.declared.feeding.instructions.Element.TheVariants as element
-use Rattle.mk_check.specs.Building.{Built, Adds}
+use Rattle.mk_check.specs.Building.{Built, AddsLine}
 use Rattle.mk_check.proofs.feeding.building.Builder.add.Goals as goal
 
 -- a line that is added at any place is added at this one
 at_line : (r : Result (Unit {0}) NoMemory) (line : ℕ) (e e' : Element) (old new : Built) → e ≡ e'
-    → OnOk r ((at : ℕ) → Adds at e' old new) → OnOk r (Adds line e old new)
+    → OnOk r ((at : ℕ) → AddsLine at e' old new) → OnOk r (AddsLine line e old new)
 at_line r line e e' old new is h =
-    IfOk-weaker r (λ _. (at : ℕ) → Adds at e' old new) (λ _. Adds line e old new) (λ _ a. subst (λ (x : Element). Adds line x old new) (sym is) (a line)) h
+    IfOk-weaker r (λ _. (at : ℕ) → AddsLine at e' old new) (λ _. AddsLine line e old new) (λ _ a. subst (λ (x : Element). AddsLine line x old new) (sym is) (a line)) h
 
 pub returns-in-Repeat : goal.returns-in-Repeat
 returns-in-Repeat c =

@@ -1,0 +1,17 @@
+use Rattle.std.proofs.lemmas.Result.{IfOk-weaker}
+use Rattle.mk_trace.specs.Playing.{history_of}
+use Rattle.markus.specs.Outputs.{TellsOfPlay}
+use Rattle.markus.proofs.traces.told.Goals as goal
+
+pub returns : goal.returns
+returns g c =
+    IfOk-weaker c.print_peaks.result _ (λ lines. TellsOfPlay c.args.trace.now lines.items)
+    (λ lines are. record {
+      history = history_of c.in_ok-peaks.peaks;
+      played = c.in_ok-peaks.ensures.played;
+      peaks = c.in_ok-peaks.peaks;
+      are_counted = c.in_ok-peaks.ensures.counted;
+      most_held = c.in_ok-peaks.ensures.held;
+      output_is = are;
+    })
+    c.print_peaks.ensures

@@ -1,0 +1,27 @@
+use Rattle.std.proofs.Common.{ap}
+use Rattle.std.specs.Prelude.{◌==◌}
+use Rattle.mk_core.specs.declared.events.Word.TheVariants as word
+use Rattle.mk_words.specs.States.{call_of}
+use Rattle.mk_objects.proofs.Looks.{found_phase, look_reaches}
+use Rattle.mk_objects.proofs.MayAct.{may_look_phase, new_is_acting}
+use Rattle.mk_objects.proofs.Unchanged.{OfPhase}
+use Rattle.mk_alloc_clients.proofs.MadeNumbers.{acting}
+use Rattle.mk_alloc_clients.proofs.placing.is_marking.Goals as goal
+
+pub look-found-requires-clause-enabled : goal.look-found-requires-clause-enabled
+look-found-requires-clause-enabled c =
+    let t = c.args.turn.now in
+    may_look_phase t.pass.table.config _ t.pass.seat (acting t.pass t.op c.is_in_order.ensures.turn c.requires.unplaced)
+
+pub returns-clause-looks : goal.returns-clause-looks
+returns-clause-looks c =
+    let t = c.args.turn.now in
+    look_reaches t.pass c.look-found.new.self.pass t.op word.Phase c.is_in_order.ensures.turn
+    (new_is_acting (call_of t.pass) c.requires.unplaced.new) OfPhase c.look-found.ensures.acts
+    c.is_in_order.ensures.own c.is_in_order-2.ensures.history
+
+pub returns-clause-finds : goal.returns-clause-finds
+returns-clause-finds c =
+    let t = c.args.turn.now in
+    ap (λ n. n == 1) (found_phase t.pass c.look-found.new.self.pass t.op c.look-found.result c.is_in_order.ensures.turn
+    c.look-found.ensures.finds c.is_in_order.ensures.own c.is_in_order-2.ensures.history)

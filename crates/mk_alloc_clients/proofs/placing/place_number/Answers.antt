@@ -1,0 +1,50 @@
+use Rattle.std.proofs.Common.{refl, ◌∙◌, ap}
+use Rattle.std.specs.Prelude.{Some, None}
+use Rattle.mk_words.specs.States.{PassState, WordsState}
+use Rattle.mk_objects.proofs.JoinedLooks.{looks_exact, looks_object}
+use Rattle.mk_alloc_clients.proofs.FoundRoom.{goes, nowhere, placed, sees_page}
+use Rattle.mk_alloc_clients.proofs.placing.place_number.Goals as goal
+
+pub serve-requires-clause-number : goal.serve-requires-clause-number
+serve-requires-clause-number c =
+    looks_object c.args.turn.now.pass c.see-seen.new.turn.pass c.see-seen.ensures.looks ∙ c.requires.number
+
+pub serve-requires-clause-goes : goal.serve-requires-clause-goes
+serve-requires-clause-goes c =
+    let p : PassState = c.args.turn.now.pass in
+    let i = c.is_in_order.ensures in
+    goes p c.see-seen.new.turn.pass c.args.turn.now.op c.see-seen.result.page (Some c.in-Some.place) i.turn i.history
+    c.requires.unplaced (ap (λ (t : WordsState). t.config.pages) c.requires.one_table ∙ c.requires.one_page)
+    c.requires.number c.see-seen.ensures.looks c.see-seen.ensures.page c.in-Some.ensures c.in-Some.place refl
+
+pub serve-requires-clause-page : goal.serve-requires-clause-page
+serve-requires-clause-page c =
+    let p : PassState = c.args.turn.now.pass in
+    let i = c.is_in_order.ensures in
+    sees_page p c.see-seen.new.turn.pass c.args.turn.now.op c.see-seen.result.page
+    (Some c.in-Some.place) i.turn i.history
+    c.requires.unplaced (ap (λ (t : WordsState). t.config.pages) c.requires.one_table ∙ c.requires.one_page)
+    c.requires.number c.see-seen.ensures.looks c.see-seen.ensures.page c.in-Some.ensures c.in-Some.place refl
+
+pub serve-requires-clause-exact : goal.serve-requires-clause-exact
+serve-requires-clause-exact c =
+    looks_exact c.args.turn.now.pass c.see-seen.new.turn.pass c.see-seen.ensures.looks c.requires.exact
+
+pub returns-in-None-clause-nowhere : goal.returns-in-None-clause-nowhere
+returns-in-None-clause-nowhere c =
+    let p : PassState = c.args.turn.now.pass in
+    let i = c.is_in_order.ensures in
+    λ h.
+    nowhere p c.see-seen.new.turn.pass c.args.turn.now.op c.see-seen.result.page None i.turn i.history
+    c.requires.unplaced (ap (λ (t : WordsState). t.config.pages) c.requires.one_table ∙ c.requires.one_page)
+    c.requires.number c.see-seen.ensures.looks c.see-seen.ensures.page c.in-None.ensures refl
+
+pub returns-in-Some-clause-placed : goal.returns-in-Some-clause-placed
+returns-in-Some-clause-placed c =
+    let p : PassState = c.args.turn.now.pass in
+    let i = c.is_in_order.ensures in
+    λ h.
+    placed p c.see-seen.new.turn.pass c.args.turn.now.op c.see-seen.result.page (Some c.in-Some.place) i.turn i.history
+    c.requires.unplaced (ap (λ (t : WordsState). t.config.pages) c.requires.one_table ∙ c.requires.one_page)
+    c.requires.number c.see-seen.ensures.looks c.see-seen.ensures.page c.in-Some.ensures c.serve.new.turn.pass
+    c.in-Some.place refl c.serve.ensures.granted c.serve.ensures.held

@@ -1,0 +1,117 @@
+use Rattle.std.proofs.Common.{◌≡◌, ◌+◌, sym, ◌∙◌, ap, subst, arith}
+use Rattle.mk_geom.specs.declared.pages.Page.{Page}
+use Rattle.mk_core.specs.declared.events.Step.TheVariants as step
+use Rattle.mk_core.specs.declared.seats.Object.{Object}
+use Rattle.mk_core.specs.ObjectHeaders.{words_made}
+use Rattle.mk_core.specs.Words.{used_at}
+use Rattle.mk_core.proofs.Sizes.{words_within}
+use Rattle.mk_words.specs.States.{PassState, now_of}
+use Rattle.mk_words.specs.Steps.{IsEnabledTo}
+use Rattle.mk_objects.specs.Placing.{object_for}
+use Rattle.mk_core.specs.Bits.{has_bit}
+use Rattle.mk_objects.proofs.Serves.{knows_place, place_unused}
+use Rattle.mk_objects.proofs.Takes.{counted, counted_held, few_held, grant_admits, grant_may, grant_on, one_bit_more}
+use Rattle.mk_objects.proofs.Takes.{small_index, tally_may, tally_on, used_may, used_on}
+use Rattle.mk_alloc_clients.proofs.placing.serve.Goals as goal
+
+pub overflow_shl-place : goal.overflow_shl-place
+overflow_shl-place c =
+    let p : PassState = c.args.turn.now.pass in
+    small_index p c.args.place
+    (knows_place p c.args.turn.now.op c.args.place c.is_in_order.ensures.turn c.is_in_order.ensures.history
+    c.requires.goes)
+
+pub used-requires-clause-enabled : goal.used-requires-clause-enabled
+used-requires-clause-enabled c =
+    let p : PassState = c.args.turn.now.pass in
+    let k = knows_place p c.args.turn.now.op c.args.place c.is_in_order.ensures.turn c.is_in_order.ensures.history
+    c.requires.goes in
+    let known : used_at (now_of p).words c.args.place.page ≡ c.args.seen.page.used =
+    sym (ap (λ (x : Page). x.used) c.requires.page) in
+    let clear : has_bit c.args.seen.page.used c.args.place.index ≡ _ =
+    sym (ap (λ n. has_bit n c.args.place.index) known) ∙ place_unused p c.args.place k in
+    subst (λ n. IsEnabledTo c.make_ready.new.turn.pass (step.Used c.args.place.page n))
+    (sym (one_bit_more c.args.seen.page.used c.args.place.index (small_index p c.args.place k) clear))
+    (used_may p c.args.place c.requires.goes k c.make_ready.new.turn.pass c.args.seen.page.used
+    c.make_ready.ensures.ready known)
+
+pub grant-requires-clause-enabled : goal.grant-requires-clause-enabled
+grant-requires-clause-enabled c =
+    let p : PassState = c.args.turn.now.pass in
+    let k = knows_place p c.args.turn.now.op c.args.place c.is_in_order.ensures.turn c.is_in_order.ensures.history
+    c.requires.goes in
+    let taken = used_on p c.args.place c.requires.goes k c.make_ready.new.turn.pass c.used.new.self.pass _
+    c.make_ready.ensures.ready c.used.ensures.acts
+    c.is_in_order-2.ensures.own c.is_in_order-3.ensures.history in
+    grant_may p c.args.place c.requires.goes k c.used.new.self.pass taken
+
+pub grant-requires-clause-admitted : goal.grant-requires-clause-admitted
+grant-requires-clause-admitted c =
+    let p : PassState = c.args.turn.now.pass in
+    let k = knows_place p c.args.turn.now.op c.args.place c.is_in_order.ensures.turn c.is_in_order.ensures.history
+    c.requires.goes in
+    let taken = used_on p c.args.place c.requires.goes k c.make_ready.new.turn.pass c.used.new.self.pass _
+    c.make_ready.ensures.ready c.used.ensures.acts
+    c.is_in_order-2.ensures.own c.is_in_order-3.ensures.history in
+    grant_admits p c.args.place c.requires.goes k c.used.new.self.pass taken c.is_in_order-3.ensures.history
+    c.is_in_order.ensures.history
+
+pub overflow_add-seen : goal.overflow_add-seen
+overflow_add-seen c =
+    let p : PassState = c.args.turn.now.pass in
+    let h = c.is_in_order.ensures.history in
+    let k = knows_place p c.args.turn.now.op c.args.place c.is_in_order.ensures.turn h c.requires.goes in
+    let few = few_held p c.args.place k c.requires.goes h in
+    let most = h.within_limits.pages.1 in
+    let words = (words_within (object_for p) k.sized).1 in
+    let size : 2 ≡ words_made (object_for p) = sym (ap (λ (o : Object). words_made o) c.requires.number) in
+    omega (arith, c.requires.held, c.requires.exact)
+
+pub tally-requires-clause-enabled : goal.tally-requires-clause-enabled
+tally-requires-clause-enabled c =
+    let p : PassState = c.args.turn.now.pass in
+    let h = c.is_in_order.ensures.history in
+    let k = knows_place p c.args.turn.now.op c.args.place c.is_in_order.ensures.turn h c.requires.goes in
+    let taken = used_on p c.args.place c.requires.goes k c.make_ready.new.turn.pass c.used.new.self.pass _
+    c.make_ready.ensures.ready c.used.ensures.acts
+    c.is_in_order-2.ensures.own c.is_in_order-3.ensures.history in
+    let granted = grant_on p c.args.place c.requires.goes k c.used.new.self.pass c.grant.new.self.pass taken
+    c.grant.ensures.acts c.is_in_order-3.ensures.own
+    c.is_in_order-4.ensures.history h in
+    tally_may p c.args.place c.requires.goes k c.grant.new.self.pass _ granted
+
+-- the last step, and the tally
+pub returns-clause-granted : goal.returns-clause-granted
+returns-clause-granted c =
+    let p : PassState = c.args.turn.now.pass in
+    let h = c.is_in_order.ensures.history in
+    let k = knows_place p c.args.turn.now.op c.args.place c.is_in_order.ensures.turn h c.requires.goes in
+    let taken = used_on p c.args.place c.requires.goes k c.make_ready.new.turn.pass c.used.new.self.pass _
+    c.make_ready.ensures.ready c.used.ensures.acts
+    c.is_in_order-2.ensures.own c.is_in_order-3.ensures.history in
+    let granted = grant_on p c.args.place c.requires.goes k c.used.new.self.pass c.grant.new.self.pass taken
+    c.grant.ensures.acts c.is_in_order-3.ensures.own
+    c.is_in_order-4.ensures.history h in
+    let n = c.args.seen.held + 2 in
+    counted p c.args.place c.requires.goes k c.tally.new.self.pass n
+    (tally_on p c.args.place c.requires.goes k c.grant.new.self.pass c.tally.new.self.pass n granted
+    c.tally.ensures.acts c.is_in_order-4.ensures.own
+    c.is_in_order-5.ensures.history h)
+
+pub returns-clause-held : goal.returns-clause-held
+returns-clause-held c =
+    let p : PassState = c.args.turn.now.pass in
+    let h = c.is_in_order.ensures.history in
+    let k = knows_place p c.args.turn.now.op c.args.place c.is_in_order.ensures.turn h c.requires.goes in
+    let taken = used_on p c.args.place c.requires.goes k c.make_ready.new.turn.pass c.used.new.self.pass _
+    c.make_ready.ensures.ready c.used.ensures.acts
+    c.is_in_order-2.ensures.own c.is_in_order-3.ensures.history in
+    let granted = grant_on p c.args.place c.requires.goes k c.used.new.self.pass c.grant.new.self.pass taken
+    c.grant.ensures.acts c.is_in_order-3.ensures.own
+    c.is_in_order-4.ensures.history h in
+    let size : 2 ≡ words_made (object_for p) = sym (ap (λ (o : Object). words_made o) c.requires.number) in
+    counted_held p c.args.place c.requires.goes k c.tally.new.self.pass c.args.seen.held 2
+    (c.requires.held ∙ c.requires.exact) size
+    (tally_on p c.args.place c.requires.goes k c.grant.new.self.pass c.tally.new.self.pass
+    (c.args.seen.held + 2) granted c.tally.ensures.acts
+    c.is_in_order-4.ensures.own c.is_in_order-5.ensures.history h)

@@ -1,0 +1,16 @@
+-- Whatever other seats do, a number that is owned stays so, and stays the same.
+use Rattle.std.specs.Prelude.{ℕ, List, [], ◌∷◌, ◌++◌}
+use Rattle.mk_core.specs.declared.events.Event.{Event}
+use Rattle.mk_core.specs.declared.events.Seat.TheVariants.{Caller}
+use Rattle.mk_core.specs.Growing.{AreOfOthers}
+use Rattle.mk_core.specs.History.{IsHistory}
+use Rattle.mk_words.specs.States.{PassState}
+use Rattle.mk_caller.specs.States.{number_of}
+use Rattle.mk_alloc_clients.specs.Owned.{HasNumber, OwnsNumber, number_owned}
+
+-- Events of others: of other callers, of markers, and of the host.
+abbrev pub OwnedNumbersStay : Type 0
+OwnedNumbersStay =
+    (p : PassState) (more : List Event) (d : ℕ) → IsHistory p.table.config (p.seen ++ more)
+    → AreOfOthers (Caller (number_of p) ∷ []) more → OwnsNumber p d
+    → HasNumber (record p { seen = p.seen ++ more }) d (number_owned p d)

@@ -1,0 +1,60 @@
+-- An object of one number: what makes it, and what is known where that, or a later call, is given up.
+use Rattle.std.specs.Prelude.{◌≡◌, ℕ, ◌+◌, ◌<◌, true, false, List, [], ◌∷◌, Some}
+use Rattle.mk_never.specs.declared.operations.Op.{Op}
+use Rattle.mk_never.specs.declared.operations.Op.TheVariants as op
+use Rattle.mk_never.specs.declared.types.Kind.TheVariants.{Num as Number}
+use Rattle.mk_never.specs.Types.{kinds_of}
+use Rattle.mk_core.specs.declared.events.Answer.TheVariants as answer
+use Rattle.mk_core.specs.declared.events.Step.TheVariants as step
+use Rattle.mk_core.specs.declared.seats.Object.{Object}
+use Rattle.mk_core.specs.Decided.{Decided}
+use Rattle.mk_words.specs.States.{PassState, TurnState}
+use Rattle.mk_words.specs.Steps.{Finds}
+use Rattle.mk_caller.specs.States.{CallerState, IsIdleCaller, number_of}
+use Rattle.mk_objects.specs.Placing.{FitsNowhere}
+use Rattle.mk_alloc_clients.specs.declared.outcomes.Unmade.{Unmade}
+use Rattle.mk_alloc_clients.specs.declared.outcomes.Unmade.TheVariants.{NoRoom, TurnTaken}
+use Rattle.mk_alloc_clients.specs.declared.outcomes.Unfinished.{Unfinished}
+use Rattle.mk_alloc_clients.specs.declared.outcomes.Unfinished.TheVariants as unfinished
+use Rattle.mk_alloc_clients.specs.Owned.{OwnsNumber}
+
+-- It has one word, and no pointer.
+abbrev pub one_number : Object
+one_number = record { words = 1; leaf = true }
+
+-- The pass is that of a caller at rest, on a heap of one page. It has no other seat, and the type is that of one
+-- number.
+pub record MayMakeNumber (p : PassState) (d ty : ℕ) : Type 0 where
+  pub idle : IsIdleCaller p
+  pub exists : number_of p < p.table.config.callers
+  pub alone : p.seats ≡ p.seat ∷ []
+  pub one_page : p.table.config.pages ≡ 1
+  pub register : d < 8
+  pub number : kinds_of p.table.config.types ty ≡ Number ∷ []
+
+-- The turn was taken for the operation, and first fit has no place: its holder has only looked.
+pub record FindsNoRoom (p : PassState) (o : Op) (t : TurnState) : Type 0 where
+  pub taken : PassState
+  pub takes : Finds p (step.Take (Some o)) 0 taken
+  pub op : t.op ≡ Some o
+  pub nowhere : FitsNowhere taken t.pass
+
+-- Another has the turn, and the caller's pass is home; or there is no room.
+abbrev pub IsUnmade : PassState → Op → Unmade → CallerState → Type 0
+IsUnmade p o (TurnTaken busy) s = (s.home ≡ true) × Finds p (step.Take (Some o)) (1 + busy.holder) s.pass
+IsUnmade p o (NoRoom turn) s = FindsNoRoom p o turn
+
+-- Or a gate was held behind the New, whose number is owned still.
+abbrev pub EndsEarly : PassState → ℕ → ℕ → Unfinished → CallerState → Type 0
+EndsEarly p d ty (unfinished.NotMade e) s = IsUnmade p (op.New d ty false) e s
+EndsEarly p d ty unfinished.Held s = (s.home ≡ true) × OwnsNumber s.pass d
+
+-- the caller's calls, with their answers
+
+abbrev pub store_then_load : ℕ → ℕ → ℕ → List Decided
+store_then_load k d n =
+    record { caller = k; op = op.SetNum d 0 n; answer = answer.Done }
+    ∷ record { caller = k; op = op.GetNum d 0; answer = answer.Num n } ∷ []
+
+abbrev pub new_store_load : ℕ → ℕ → ℕ → ℕ → List Decided
+new_store_load k d ty n = record { caller = k; op = op.New d ty false; answer = answer.Done } ∷ store_then_load k d n

@@ -1,0 +1,52 @@
+//! An object of one number, made by the steps of a turn.
+ghost use Rattle.std.specs.Prelude.{◌≡◌, ◌<◌, ◌∷◌, [], Bool, OnOk, IfErr, true, false};
+ghost use Rattle.mk_never.specs.declared.operations.Op.TheVariants as op;
+ghost use Rattle.mk_never.specs.declared.types.Kind.TheVariants as kind;
+ghost use Rattle.mk_never.specs.Types.{kinds_of};
+ghost use Rattle.mk_core.specs.declared.events.Answer.TheVariants as answer;
+ghost use Rattle.mk_caller.specs.States.{number_of};
+ghost use Rattle.mk_alloc.specs.TurnCalls.{CalledInTurn};
+ghost use Rattle.mk_alloc_clients.specs.Making.{IsUnmade};
+ghost use Rattle.mk_alloc_clients.specs.Owned.{HasNumber};
+
+use crate::outcomes::Unmade;
+use crate::placing::place_number;
+use mk_caller::Caller;
+use mk_never::Op;
+
+/// Makes an object of one number by the steps of a turn, in a heap of one page.
+pub fn make_number(caller: &mut Caller, d: u8, ty: u64) -> Result<(), Unmade>
+    requires home { caller.old.home ≡ true }
+    requires exists { number_of caller.old.pass < caller.old.pass.table.config.callers }
+    requires alone { caller.old.pass.seats ≡ caller.old.pass.seat ∷ [] }
+    requires one_page { caller.old.pass.table.config.pages ≡ 1 }
+    requires register { d < 8 }
+    requires number { kinds_of caller.old.pass.table.config.types ty ≡ kind.Num ∷ [] }
+    ensures home { OnOk result (caller.new.home ≡ true) }
+    ensures made { OnOk result ((on : Bool) →
+        CalledInTurn on caller.old.pass (op.New d ty false) answer.Done caller.new.pass) }
+    ensures owned { OnOk result (HasNumber caller.new.pass d 0) }
+    ensures unmade { IfErr result (λ e. IsUnmade caller.old.pass (op.New d ty false) e caller.new) }
+{
+    caller.is_idle();
+    let words = caller.words();
+    let home = caller.lend();
+    let op = Op::New { d, ty, full: false };
+    match home.try_take(words, Some(op)) {
+        Err((home, busy)) => {
+            caller.back(home);
+            Err(Unmade::TurnTaken(busy))
+        }
+        Ok(mut turn) => {
+            turn.is_in_order();
+            if !place_number(words, &mut turn) {
+                return Err(Unmade::NoRoom(turn));
+            }
+            turn.is_in_order();
+            let home = turn.give(words);
+            home.is_in_order();
+            caller.back(home);
+            Ok(())
+        }
+    }
+}

@@ -1,0 +1,212 @@
+//! The steps that put an object of one number on the only page of a heap.
+ghost use Rattle.std.specs.Prelude.{◌≡◌, ◌==◌, ◌∷◌, [], true, false};
+ghost use Rattle.mk_core.specs.NewPlaces.{header_made};
+ghost use Rattle.mk_core.specs.Ranges.{is_word};
+ghost use Rattle.mk_core.specs.Words.{header_at, named_word, page_of, phase_of};
+ghost use Rattle.mk_geom.specs.PageUses.{small_place};
+ghost use Rattle.mk_geom.specs.PageWords.{use_of_page};
+ghost use Rattle.mk_words.specs.States.{now_of};
+ghost use Rattle.mk_objects.specs.Looking.{is_steady_word};
+ghost use Rattle.mk_objects.specs.Placing.{FitsNowhere, GoesTo, HasCarved, HeldIsExact, IsGranted, IsPlaced};
+ghost use Rattle.mk_objects.specs.Placing.{IsUnplaced, MayTake, OnlyLooks, object_for};
+ghost use Rattle.mk_alloc_clients.specs.Making.{one_number};
+
+use mk_core::{Tally, Word};
+use mk_geom::{Header, Page, Place, encode};
+use mk_words::{Turn, Words};
+
+/// The class of the cells of one number, how many a block has, their bits, and how many words each has.
+const CLASS: u64 = 0;
+
+const CELLS: u64 = 32;
+
+const ALL_CELLS: u64 = 0xffff_ffff;
+
+const CELL_WORDS: u64 = 2;
+
+/// What the holder sees: the only page, the tally of held words, and whether a cycle marks.
+#[derive(Clone, Copy)]
+struct Seen {
+    page: Page,
+    held: u64,
+    marking: bool,
+}
+
+/// Looks at a word that none but the holder changes.
+fn look_at(words: &Words, turn: &mut Turn, word: Word) -> u64
+    requires one_table { turn.old.pass.table ≡ words.now }
+    requires unplaced { IsUnplaced turn.old.pass }
+    requires steady { is_steady_word word ≡ true }
+    requires in_range { is_word turn.old.pass.table.config word ≡ true }
+    ensures op { turn.new.op ≡ turn.old.op }
+    ensures looks { OnlyLooks turn.old.pass turn.new.pass }
+    ensures unplaced { IsUnplaced turn.new.pass }
+    ensures finds { result ≡ named_word (now_of turn.old.pass).words word }
+{
+    turn.is_in_order();
+    let found = turn.look(words, word);
+    turn.is_in_order();
+    found
+}
+
+/// Looks whether a cycle marks.
+fn is_marking(words: &Words, turn: &mut Turn) -> bool
+    requires one_table { turn.old.pass.table ≡ words.now }
+    requires unplaced { IsUnplaced turn.old.pass }
+    ensures op { turn.new.op ≡ turn.old.op }
+    ensures looks { OnlyLooks turn.old.pass turn.new.pass }
+    ensures finds { result ≡ (phase_of (now_of turn.old.pass).words == 1) }
+{
+    turn.is_in_order();
+    let found = turn.look(words, Word::Phase);
+    turn.is_in_order();
+    found % 8 == 1
+}
+
+/// Looks round.
+fn see(words: &Words, turn: &mut Turn) -> Seen
+    requires one_table { turn.old.pass.table ≡ words.now }
+    requires unplaced { IsUnplaced turn.old.pass }
+    ensures op { turn.new.op ≡ turn.old.op }
+    ensures looks { OnlyLooks turn.old.pass turn.new.pass }
+    ensures page { result.page ≡ page_of (now_of turn.new.pass).words 0 }
+    ensures held { result.held ≡ (now_of turn.new.pass).words.held }
+    ensures marking { result.marking ≡ (phase_of (now_of turn.new.pass).words == 1) }
+{
+    words.is_within_limits();
+    let header = look_at(words, turn, Word::Head(0));
+    let used = look_at(words, turn, Word::Used(0));
+    let held = look_at(words, turn, Word::Held);
+    let marking = is_marking(words, turn);
+    Seen {
+        page: Page { header, used },
+        held,
+        marking,
+    }
+}
+
+/// The header word of a block of numbers.
+fn block_word() -> u64
+    ensures { result ≡ header_made one_number 0 }
+{
+    encode(Header::LeafBlock(CLASS))
+}
+
+/// The place of a number on a heap of one page, which has these words.
+fn place_on(header: u64, used: u64) -> Option<Place>
+    ensures { result ≡ small_place 1 0 true (use_of_page (record { header = header; used = used }) ∷ []) }
+{
+    if header == 0 {
+        return Some(Place {
+            page: 0,
+            index: 0,
+            carve: true,
+        });
+    }
+    if header != block_word() {
+        return None;
+    }
+    let index = u64::from(used.trailing_ones());
+    (index < CELLS).then_some(Place {
+        page: 0,
+        index,
+        carve: false,
+    })
+}
+
+/// Marks the cells of the page that becomes a block, where a cycle marks.
+fn mark_first(words: &Words, turn: &mut Turn, place: Place, marking: bool)
+    requires one_table { turn.old.pass.table ≡ words.now }
+    requires number { object_for turn.old.pass ≡ one_number }
+    requires goes { GoesTo turn.old.pass place }
+    requires free { header_at (now_of turn.old.pass).words place.page ≡ 0 }
+    requires marking { marking ≡ (phase_of (now_of turn.old.pass).words == 1) }
+    ensures op { turn.new.op ≡ turn.old.op }
+    ensures carved { HasCarved turn.old.pass place 0 turn.new.pass }
+{
+    turn.is_in_order();
+    if marking {
+        turn.mark(words, place.page, ALL_CELLS);
+        turn.is_in_order();
+    }
+}
+
+/// Makes the free page a block of numbers.
+fn carve(words: &Words, turn: &mut Turn, place: Place, marking: bool)
+    requires one_table { turn.old.pass.table ≡ words.now }
+    requires number { object_for turn.old.pass ≡ one_number }
+    requires goes { GoesTo turn.old.pass place }
+    requires free { header_at (now_of turn.old.pass).words place.page ≡ 0 }
+    requires marking { marking ≡ (phase_of (now_of turn.old.pass).words == 1) }
+    ensures op { turn.new.op ≡ turn.old.op }
+    ensures ready { MayTake turn.old.pass place turn.new.pass }
+{
+    turn.is_in_order();
+    mark_first(words, turn, place, marking);
+    turn.is_in_order();
+    turn.head(words, place.page, block_word());
+    turn.is_in_order();
+}
+
+/// Makes the page a block, where it is free.
+fn make_ready(words: &Words, turn: &mut Turn, place: Place, seen: Seen)
+    requires one_table { turn.old.pass.table ≡ words.now }
+    requires number { object_for turn.old.pass ≡ one_number }
+    requires goes { GoesTo turn.old.pass place }
+    requires page { seen.page ≡ page_of (now_of turn.old.pass).words place.page }
+    requires marking { seen.marking ≡ (phase_of (now_of turn.old.pass).words == 1) }
+    ensures op { turn.new.op ≡ turn.old.op }
+    ensures ready { MayTake turn.old.pass place turn.new.pass }
+{
+    turn.is_in_order();
+    if seen.page.header == 0 {
+        carve(words, turn, place, seen.marking);
+    }
+}
+
+/// Takes the cell of the place, grants the object and counts its words.
+fn serve(words: &Words, turn: &mut Turn, place: Place, seen: Seen)
+    requires one_table { turn.old.pass.table ≡ words.now }
+    requires number { object_for turn.old.pass ≡ one_number }
+    requires goes { GoesTo turn.old.pass place }
+    requires page { seen.page ≡ page_of (now_of turn.old.pass).words place.page }
+    requires marking { seen.marking ≡ (phase_of (now_of turn.old.pass).words == 1) }
+    requires held { seen.held ≡ (now_of turn.old.pass).words.held }
+    requires exact { HeldIsExact turn.old.pass }
+    ensures op { turn.new.op ≡ turn.old.op }
+    ensures granted { IsGranted turn.old.pass place turn.new.pass }
+    ensures held { HeldIsExact turn.new.pass }
+{
+    turn.is_in_order();
+    make_ready(words, turn, place, seen);
+    turn.is_in_order();
+    turn.used(words, place.page, seen.page.used | 1 << place.index);
+    turn.is_in_order();
+    turn.grant(words);
+    turn.is_in_order();
+    turn.tally(words, Tally::Held, seen.held + CELL_WORDS);
+    turn.is_in_order();
+}
+
+/// Grants the object of a New of one number, or answers false where it fits nowhere.
+pub(crate) fn place_number(words: &Words, turn: &mut Turn) -> bool
+    requires one_table { turn.old.pass.table ≡ words.now }
+    requires one_page { words.now.config.pages ≡ 1 }
+    requires unplaced { IsUnplaced turn.old.pass }
+    requires number { object_for turn.old.pass ≡ one_number }
+    requires exact { HeldIsExact turn.old.pass }
+    ensures op { turn.new.op ≡ turn.old.op }
+    ensures placed { result ≡ true → IsPlaced turn.old.pass turn.new.pass }
+    ensures nowhere { result ≡ false → FitsNowhere turn.old.pass turn.new.pass }
+{
+    turn.is_in_order();
+    let seen = see(words, turn);
+    turn.is_in_order();
+    match place_on(seen.page.header, seen.page.used) {
+        None => false,
+        Some(place) => {
+            serve(words, turn, place, seen);
+            true
+        }
+    }
+}

@@ -1,0 +1,188 @@
+-- Callers that make and free objects keep to pointers to first words.
+use Rattle.std.proofs.Common.{◌≡◌, ◌≢◌, ℕ, ◌+◌, ◌*◌, ◌<◌, Bool, true, false, List, [], ◌∷◌, ◌++◌, length, refl, sym, ◌∙◌, ap, subst, inl, inr, arith}
+use Rattle.std.specs.Prelude.{Result, Ok, Err, IfOk, IfErr, OnOk, OnErr}
+use Rattle.std.proofs.lemmas.Bool.{cases_eq}
+use Rattle.std.proofs.lemmas.List.{get_or-set_other}
+use Rattle.mk_never.specs.declared.operations.Op.{Op}
+use Rattle.mk_never.specs.declared.operations.Op.TheVariants as op
+use Rattle.mk_never.specs.declared.values.Value.{Value}
+use Rattle.mk_never.specs.declared.values.Value.TheVariants.{Null, Num, Ptr}
+use Rattle.mk_never.specs.Admitted.{IsBase, IsCaller}
+use Rattle.mk_never.specs.NeverHeap.{NeverState, after_free, after_op, register_at, with_new}
+use Rattle.mk_core.specs.declared.config.Config.{Config}
+use Rattle.mk_core.specs.declared.events.Answer.{Answer}
+use Rattle.mk_core.specs.declared.events.Answer.TheVariants as answer
+use Rattle.mk_core.specs.declared.events.Event.{Event}
+use Rattle.mk_core.specs.declared.events.Seat.{Seat}
+use Rattle.mk_core.specs.declared.events.Seat.TheVariants.{Caller}
+use Rattle.mk_core.specs.Accesses.{caller_number}
+use Rattle.mk_core.specs.Decided.{flagged}
+use Rattle.mk_frames.proofs.OtherCalls.{never_continues}
+use Rattle.mk_words.specs.States.{PassState, WordsState}
+use Rattle.mk_caller.specs.States.{CallerState, at_home, never_of, never_then, number_of, value_of}
+use Rattle.mk_caller.proofs.After.{set_same}
+use Rattle.mk_alloc.specs.TurnCalls.{CalledInTurn, FreesObject, IsAnsweredDouble, IsAnsweredFull}
+use Rattle.mk_alloc.specs.declared.making.Full.{Full}
+use Rattle.mk_objects.specs.declared.freeing.Double.{Double}
+use Rattle.mk_objects.specs.declared.freeing.Freed.{Freed}
+use Rattle.mk_heap.specs.Hosts.{HostState, pass_for}
+use Rattle.mk_heap_tests.specs.HeldObjects.{HoldsObjects, IsReady, MayAllocate}
+use Rattle.mk_heap_tests.proofs.Registers.{has_registers, null_at_first}
+
+-- what calls ask of such a caller
+
+pub number_is : (s : CallerState) → IsReady s → number_of s.pass < s.pass.table.config.callers
+number_is s r =
+    let number : caller_number s.pass.seat ≡ r.number = ap caller_number r.seat in
+    let exists = r.exists in
+    omega arith
+
+pub is_alone : (s : CallerState) → IsReady s → s.pass.seats ≡ s.pass.seat ∷ []
+is_alone s r = r.alone ∙ ap (λ (x : Seat). x ∷ []) (sym r.seat)
+
+-- a caller that has made no call
+pub ready_at_first : (h : HostState) (s : CallerState) → h.pass.seen ≡ [] → h.callers < h.pass.table.config.callers
+    → s ≡ at_home (pass_for h (Caller h.callers)) → IsReady s
+ready_at_first h s none more is =
+    subst (λ (t : CallerState). IsReady t) (sym is)
+    (record {
+      number = h.callers;
+      home = refl;
+      seat = refl;
+      exists = more;
+      alone = refl;
+      objects = λ r lt. subst (λ (v : Value). IsBase v)
+          (sym (null_at_first (pass_for h (Caller h.callers)) r none)) tt;
+    })
+
+-- What a call under the turn leaves in a register.
+
+left_there : {on : Bool} {p q : PassState} {o : Op} {a : Answer} → (c : CalledInTurn on p o a q) → (r : ℕ) → r < 8
+    → value_of q r ≡ register_at (after_op (never_then p c.decided.before) (number_of p) (flagged o a)) (number_of p) r
+left_there {on} {p} c r lt = ap (λ (x : PassState). value_of x r) c.is ∙ c.decided.left_so r lt
+
+has_registers_there : {on : Bool} {p q : PassState} {o : Op} {a : Answer} → (c : CalledInTurn on p o a q)
+    → number_of p < p.table.config.callers → IsCaller (never_then p c.decided.before) (number_of p)
+has_registers_there {on} {p} c exists =
+    let on_it = never_continues p.table.config p.seen c.decided.before in
+    subst (λ (count : ℕ). 8 * number_of p + 7 < count) (sym on_it.registers) (has_registers p exists)
+
+new_sets : {on : Bool} {p q : PassState} {d ty : ℕ} → CalledInTurn on p (op.New d ty false) answer.Done q
+    → number_of p < p.table.config.callers → d < 8 → IsBase (value_of q d)
+new_sets {on} {p} {q} {d} {ty} c exists lt =
+    let n : NeverState = never_then p c.decided.before in
+    subst (λ (v : Value). IsBase v)
+    (sym (left_there c d lt ∙ set_same (with_new n ty) (number_of p) d _ (has_registers_there c exists) lt)) refl
+
+new_leaves : {on : Bool} {p q : PassState} {d ty : ℕ} → (c : CalledInTurn on p (op.New d ty false) answer.Done q)
+    → (r : ℕ) → r < 8 → r ≢ d → value_of q r ≡ value_of p r
+new_leaves {on} {p} {q} {d} {ty} c r lt other =
+    let n : NeverState = never_then p c.decided.before in
+    left_there c r lt
+    ∙ get_or-set_other n.registers (8 * number_of p + d) (8 * number_of p + r) _ Null
+    (λ e. other (omega arith))
+    ∙ c.decided.known r lt
+
+new_keeps : {on : Bool} {p q : PassState} {d ty : ℕ} → CalledInTurn on p (op.New d ty false) answer.Done q
+    → number_of p < p.table.config.callers → d < 8 → HoldsObjects p → HoldsObjects q
+new_keeps {on} {p} {q} {d} c exists small h r lt = elim (cases_eq r d) [
+  | inl same ↦ subst (λ (i : ℕ). IsBase (value_of q i)) (sym same) (new_sets c exists small)
+  | inr other ↦ subst (λ (v : Value). IsBase v) (sym (new_leaves c r lt other)) (h r lt)
+]
+
+full_keeps : {on : Bool} {p q : PassState} {d ty : ℕ} → CalledInTurn on p (op.New d ty false) answer.Full q
+    → HoldsObjects p → HoldsObjects q
+full_keeps c h r lt = subst (λ (v : Value). IsBase v) (sym (left_there c r lt ∙ c.decided.known r lt)) (h r lt)
+
+free_leaves : (n : NeverState) (k r : ℕ) (v : Value) → register_at (after_free n v) k r ≡ register_at n k r
+free_leaves n k r Null = refl
+free_leaves n k r (Num m) = refl
+free_leaves n k r (Ptr a t o) = refl
+
+freed_keeps : {on : Bool} {p q : PassState} {x : ℕ} → CalledInTurn on p (op.Free x) answer.Done q
+    → HoldsObjects p → HoldsObjects q
+freed_keeps {on} {p} {q} {x} c h r lt =
+    let n : NeverState = never_then p c.decided.before in
+    subst (λ (v : Value). IsBase v)
+    (sym (left_there c r lt ∙ free_leaves n (number_of p) r (register_at n (number_of p) x) ∙ c.decided.known r lt))
+    (h r lt)
+
+double_keeps : {on : Bool} {p q : PassState} {x : ℕ} → CalledInTurn on p (op.Free x) answer.Double q
+    → HoldsObjects p → HoldsObjects q
+double_keeps {on} {p} {q} {x} c h r lt =
+    let n : NeverState = never_then p c.decided.before in
+    subst (λ (v : Value). IsBase v)
+    (sym (left_there c r lt ∙ free_leaves n (number_of p) r (register_at n (number_of p) x) ∙ c.decided.known r lt))
+    (h r lt)
+
+-- So a caller goes on behind each.
+
+seen_only : {on : Bool} {p q : PassState} {o : Op} {a : Answer} → CalledInTurn on p o a q
+    → q ≡ record p { seen = q.seen }
+seen_only {on} {p} {q} c =
+    c.is ∙ ap (λ (es : List Event). record p { seen = es }) (sym (ap (λ (r : PassState). r.seen) c.is))
+
+-- the caller at its table, which has seen more
+pub same_then : (s t u : CallerState) → t.pass ≡ record s.pass { seen = t.pass.seen }
+    → u.pass ≡ record t.pass { seen = u.pass.seen } → u.pass ≡ record s.pass { seen = u.pass.seen }
+same_then s t u first second = second ∙ ap (λ (p : PassState). record p { seen = u.pass.seen }) first
+
+ready_on : (s t : CallerState) → IsReady s → t.home ≡ true → t.pass ≡ record s.pass { seen = t.pass.seen }
+    → HoldsObjects t.pass → IsReady t
+ready_on s t r home is objects =
+    record {
+      number = r.number;
+      home = home;
+      seat = ap (λ (p : PassState). p.seat) is ∙ r.seat;
+      exists = subst (λ (p : PassState). r.number < p.table.config.callers) (sym is) r.exists;
+      alone = ap (λ (p : PassState). p.seats) is ∙ r.alone;
+      objects = objects;
+    }
+
+pub same_new : (on : Bool) (d ty : ℕ) {T : Type 0} (s t : CallerState) (x : Result T Full)
+    → OnOk x (CalledInTurn on s.pass (op.New d ty false) answer.Done t.pass)
+    → IfErr x (λ full. IsAnsweredFull on s.pass (op.New d ty false) full.census t.pass)
+    → t.pass ≡ record s.pass { seen = t.pass.seen }
+same_new on d ty s t (Ok u) made full = seen_only made
+same_new on d ty s t (Err e) made full = seen_only full.called
+
+pub ready_new : (on : Bool) (d ty : ℕ) {T : Type 0} (s t : CallerState) (x : Result T Full) → IsReady s → d < 8
+    → t.home ≡ true → OnOk x (CalledInTurn on s.pass (op.New d ty false) answer.Done t.pass)
+    → IfErr x (λ full. IsAnsweredFull on s.pass (op.New d ty false) full.census t.pass) → IsReady t
+ready_new on d ty s t (Ok u) r small home made full =
+    ready_on s t r home (seen_only made) (new_keeps made (number_is s r) small r.objects)
+ready_new on d ty s t (Err e) r small home made full =
+    ready_on s t r home (seen_only full.called) (full_keeps full.called r.objects)
+
+pub same_free : (on : Bool) (x : ℕ) (s t : CallerState) (y : Result Freed Double)
+    → IfOk y (λ freed. FreesObject on s.pass x freed.due t.pass) → OnErr y (IsAnsweredDouble on s.pass x t.pass)
+    → t.pass ≡ record s.pass { seen = t.pass.seen }
+same_free on x s t (Ok f) freed double = seen_only freed.called
+same_free on x s t (Err e) freed double = seen_only double.called
+
+pub ready_free : (on : Bool) (x : ℕ) (s t : CallerState) (y : Result Freed Double) → IsReady s → t.home ≡ true
+    → IfOk y (λ freed. FreesObject on s.pass x freed.due t.pass) → OnErr y (IsAnsweredDouble on s.pass x t.pass)
+    → IsReady t
+ready_free on x s t (Ok f) r home freed double =
+    ready_on s t r home (seen_only freed.called) (freed_keeps freed.called r.objects)
+ready_free on x s t (Err e) r home freed double =
+    ready_on s t r home (seen_only double.called) (double_keeps double.called r.objects)
+
+-- The bench is of the table's size still, and for another caller of the table too.
+
+pub may_at : (m b : ℕ) (s t : CallerState) → MayAllocate m b s → t.pass.table ≡ s.pass.table → IsReady t
+    → MayAllocate m b t
+may_at m b s t may same ready =
+    let config : t.pass.table.config ≡ s.pass.table.config = ap (λ (w : WordsState). w.config) same in
+    record {
+      ready = ready;
+      ty = subst (λ (c : Config). 0 < length c.types) (sym config) may.ty;
+      engine = may.engine ∙ sym (ap (λ (c : Config). c.pages) config);
+      pages = may.pages ∙ sym (ap (λ (c : Config). c.pages) config);
+    }
+
+pub may_then : (m b n d : ℕ) (s t : CallerState) → MayAllocate m b s → n ≡ m → d ≡ b
+    → t.pass ≡ record s.pass { seen = t.pass.seen } → IsReady t → MayAllocate n d t
+may_then m b n d s t may engine pages is ready =
+    let at : MayAllocate m b t = may_at m b s t may (ap (λ (p : PassState). p.table) is) ready in
+    record { ready = ready; ty = at.ty; engine = engine ∙ at.engine; pages = pages ∙ at.pages }

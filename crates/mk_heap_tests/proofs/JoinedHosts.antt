@@ -1,0 +1,162 @@
+-- The host's callers before their first call, and behind their last.
+use Rattle.std.proofs.Common.{◌≡◌, ◌⊎◌, ℕ, zero, suc, ◌+◌, ◌*◌, ◌<◌, true, false, List, [], ◌∷◌, ◌++◌, refl, sym, ◌∙◌, ap, subst, inl, inr, arith}
+use Rattle.std.specs.Prelude.{not}
+use Rattle.std.proofs.lemmas.Bool.{not-true}
+use Rattle.mk_core.specs.declared.events.Event.{Event}
+use Rattle.mk_core.specs.declared.events.Seat.{Seat}
+use Rattle.mk_core.specs.declared.events.Seat.TheVariants.{Caller}
+use Rattle.mk_core.specs.History.{left}
+use Rattle.mk_core.specs.Moments.{is_held, none_is_held}
+use Rattle.mk_core.specs.Order.{host_has_turn}
+use Rattle.mk_core.proofs.AllBelow.{all_below-at}
+use Rattle.mk_words.specs.Seats.{Has}
+use Rattle.mk_words.specs.States.{WordsState, PassState, now_of}
+use Rattle.mk_words.proofs.Seats.{has_first, has_left, has_right}
+use Rattle.mk_caller.specs.States.{CallerState, IsIdleCaller, at_home}
+use Rattle.mk_heap.specs.Clients.{IsPassOf}
+use Rattle.mk_heap.specs.Hosts.{HostState, AllAreJoined, IsHost, first_host, pass_for, with_caller_made, with_joined}
+use Rattle.mk_heap.proofs.HostsKept.{first_is_host}
+use Rattle.mk_heap_tests.proofs.Registers.{null_at_first}
+use Rattle.mk_heap_tests.specs.Passes.{HoldsNull, IsFirstPass, IsPassFor}
+
+pub holds_null : (w : WordsState) (k : ℕ) (p : PassState) → IsFirstPass w k p → k < w.config.callers → HoldsNull p
+holds_null w k p first lt =
+    record {
+      number = k;
+      seat = first.seat;
+      exists = subst (λ (v : WordsState). k < v.config.callers) (sym first.table) lt;
+      null = null_at_first p 1 first.seen;
+    }
+
+-- A pass behind its caller's calls.
+
+pub same_at_home : (p q : PassState) (s t : CallerState) → s ≡ at_home p → t.pass ≡ record s.pass { seen = t.pass.seen }
+    → q ≡ t.pass → q ≡ record p { seen = q.seen }
+same_at_home p q s t is_s is_t is_q =
+    is_q ∙ is_t ∙ ap (λ (x : CallerState). record x.pass { seen = t.pass.seen }) is_s
+    ∙ ap (λ (r : PassState). record p { seen = r.seen }) (sym is_q)
+
+pub still_for : (w : WordsState) (k : ℕ) (p q : PassState) → IsFirstPass w k p → q ≡ record p { seen = q.seen }
+    → IsIdleCaller q → IsPassFor w k q
+still_for w k p q first is idle =
+    record {
+      table = ap (λ (r : PassState). r.table) is ∙ first.table;
+      seat = ap (λ (r : PassState). r.seat) is ∙ first.seat;
+      alone = ap (λ (r : PassState). r.seats) is ∙ first.alone;
+      idle = idle;
+    }
+
+-- A pass before its caller's first call.
+pub first_for : (w : WordsState) (k : ℕ) (p : PassState) → IsFirstPass w k p → IsPassFor w k p
+first_for w k p first = record { table = first.table; seat = first.seat; alone = first.alone; idle = first.idle }
+
+pub alone_in : {w : WordsState} {k : ℕ} {p : PassState} → IsPassFor w k p → p.seats ≡ p.seat ∷ []
+alone_in f = f.alone ∙ ap (λ (s : Seat). s ∷ []) (sym f.seat)
+
+-- A host's callers before their first call.
+
+pub first_pass : (w : WordsState) (k : ℕ) (h : HostState) (s : CallerState) (p : PassState) → h.pass.table ≡ w
+    → h.pass.seen ≡ [] → h.callers ≡ k → s ≡ at_home (pass_for h (Caller h.callers)) → p ≡ s.pass
+    → IsIdleCaller s.pass → IsFirstPass w k p
+first_pass w k h s p table seen count is same idle =
+    let next : s.pass ≡ pass_for h (Caller h.callers) = ap (λ (r : CallerState). r.pass) is in
+    let seat : Caller h.callers ≡ Caller k = ap (λ (j : ℕ). Caller j) count in
+    subst (λ (r : PassState). IsFirstPass w k r) (sym same)
+    (record {
+      table = ap (λ (r : PassState). r.table) next ∙ table;
+      seat = ap (λ (r : PassState). r.seat) next ∙ seat;
+      alone = ap (λ (r : PassState). r.seats) next ∙ ap (λ (x : Seat). x ∷ []) seat;
+      seen = ap (λ (r : PassState). r.seen) next ∙ seen;
+      idle = idle;
+    })
+
+pub first_of : (w : WordsState) (h : HostState) (s : CallerState) (p : PassState) → h ≡ first_host w
+    → s ≡ at_home (pass_for h (Caller h.callers)) → p ≡ s.pass → IsIdleCaller s.pass → IsFirstPass w 0 p
+first_of w h s p is = first_pass w 0 h s p (ap (λ (x : HostState). x.pass.table) is)
+    (ap (λ (x : HostState). x.pass.seen) is) (ap (λ (x : HostState). x.callers) is)
+
+pub second_of : (w : WordsState) (h g : HostState) (s : CallerState) (p : PassState) → h ≡ first_host w
+    → g ≡ with_caller_made h → s ≡ at_home (pass_for g (Caller g.callers)) → p ≡ s.pass → IsIdleCaller s.pass
+    → IsFirstPass w 1 p
+second_of w h g s p is made =
+    let all : g ≡ with_caller_made (first_host w) = made ∙ ap (λ (x : HostState). with_caller_made x) is in
+    first_pass w 1 g s p (ap (λ (x : HostState). x.pass.table) all) (ap (λ (x : HostState). x.pass.seen) all)
+    (ap (λ (x : HostState). x.callers) all)
+
+-- The seat of a pass that is joined is home.
+pub has_joined : (xs ys : List Seat) (s : Seat) → ys ≡ s ∷ [] → Has (xs ++ ys) s
+has_joined xs ys s is = has_right xs ys s (subst (λ (l : List Seat). Has l s) (sym is) (has_first s []))
+
+zero_or_one : (k : ℕ) → k < 2 → (k ≡ 0) ⊎ (k ≡ 1)
+zero_or_one zero lt = inl refl
+zero_or_one (suc zero) lt = inr refl
+zero_or_one (suc (suc k)) lt = absurd (omega arith)
+
+pub two_are_joined : (h a b : HostState) (p q : PassState) (es fs : List Event) → h.callers ≡ 2 → h.markers ≡ 0
+    → p.seats ≡ Caller 1 ∷ [] → q.seats ≡ Caller 0 ∷ [] → a ≡ with_joined h p es → b ≡ with_joined a q fs
+    → AllAreJoined b
+two_are_joined h a b p q es fs two none alone other is_a is_b =
+    let seats : b.pass.seats ≡ (h.pass.seats ++ p.seats) ++ q.seats =
+    ap (λ (x : HostState). x.pass.seats) is_b ∙ ap (λ (x : HostState). x.pass.seats ++ q.seats) is_a in
+    let callers : b.callers ≡ 2 =
+    ap (λ (x : HostState). x.callers) is_b ∙ ap (λ (x : HostState). x.callers) is_a ∙ two in
+    let markers : b.markers ≡ 0 =
+    ap (λ (x : HostState). x.markers) is_b ∙ ap (λ (x : HostState). x.markers) is_a ∙ none in
+    let first : Has b.pass.seats (Caller 0) =
+    subst (λ (l : List Seat). Has l (Caller 0)) (sym seats)
+    (has_joined (h.pass.seats ++ p.seats) q.seats (Caller 0) other) in
+    let second : Has b.pass.seats (Caller 1) =
+    subst (λ (l : List Seat). Has l (Caller 1)) (sym seats)
+    (has_left (h.pass.seats ++ p.seats) q.seats (Caller 1) (has_joined h.pass.seats p.seats (Caller 1) alone)) in
+    record {
+      callers = λ k lt.
+          elim (zero_or_one k (omega arith)) [
+            | inl e ↦ subst (λ (i : ℕ). Has b.pass.seats (Caller i)) (sym e) first
+            | inr e ↦ subst (λ (i : ℕ). Has b.pass.seats (Caller i)) (sym e) second
+          ];
+      markers = λ k lt. absurd (omega arith);
+    }
+
+-- The host of a table that nobody has used hasn't the turn, and the passes that it splits off for callers are idle.
+
+pub free_at_first : (w : WordsState) (h : PassState) → h.table ≡ w → h.seen ≡ []
+    → host_has_turn h.table.config (now_of h) ≡ false
+free_at_first w h table seen =
+    subst (λ (v : WordsState). host_has_turn v.config (left v.config h.seen).now ≡ false) (sym table)
+    (subst (λ (es : List Event). host_has_turn w.config (left w.config es).now ≡ false) (sym seen)
+    (first_is_host w).no_turn)
+
+pub split_at_first : (w : WordsState) (k : ℕ) (h p : PassState) → h.table ≡ w → h.seen ≡ [] → k < w.config.callers
+    → p ≡ record h { seat = Caller k; seats = Caller k ∷ [] } → IsPassFor w k p
+split_at_first w k h p table seen some is =
+    let host : IsHost (first_host w) = first_is_host w in
+    let first : p ≡ pass_for (first_host w) (Caller k) =
+    is
+    ∙ ap (λ (v : WordsState). record { table = v; seat = Caller k; seats = Caller k ∷ []; seen = h.seen }) table
+    ∙ ap (λ (es : List Event). record { table = w; seat = Caller k; seats = Caller k ∷ []; seen = es }) seen in
+    subst (λ (q : PassState). IsPassFor w k q) (sym first)
+    (record {
+      table = refl;
+      seat = refl;
+      alone = refl;
+      idle = record { caller = k; seat = refl; rest = (host.rests (Caller k) (host.callers k (omega arith) some)).call };
+    })
+
+-- the caller's pass, as its calls ask for it
+pub pass_of : (w : WordsState) (k : ℕ) (p : PassState) (s : CallerState) → IsPassFor w k p → k < w.config.callers
+    → s ≡ at_home p → IsPassOf s.pass.table s.pass
+pass_of w k p s pass few is =
+    subst (λ (x : CallerState). IsPassOf x.pass.table x.pass) (sym is)
+    (record {
+      number = k;
+      exists = subst (λ (v : WordsState). k < v.config.callers) (sym pass.table) few;
+      table = refl;
+      seat = pass.seat;
+      seats = pass.alone;
+    })
+
+pub none_is_held_at : (p : PassState) (j : ℕ) → j < p.table.config.callers
+    → none_is_held p.table.config.callers (now_of p).words ≡ true → is_held (now_of p).words j ≡ false
+none_is_held_at p j lt none =
+    not-true (is_held (now_of p).words j)
+    (all_below-at p.table.config.callers j (λ i. not (is_held (now_of p).words i)) none lt)

@@ -1,0 +1,99 @@
+-- A caller's turn for a New, from its `take` to its `give`.
+use Rattle.std.proofs.Common.{◌≡◌, ℕ, ◌<◌, true, false, [], ◌∷◌, length, refl, sym, ◌∙◌, ap, subst, arith}
+use Rattle.std.specs.Prelude.{Some}
+use Rattle.mk_never.specs.declared.operations.Op.{Op}
+use Rattle.mk_never.specs.declared.operations.Op.TheVariants as op
+use Rattle.mk_core.specs.declared.events.Answer.TheVariants as answer
+use Rattle.mk_core.specs.declared.events.Seat.{Seat}
+use Rattle.mk_core.specs.declared.events.Seat.TheVariants.{Caller}
+use Rattle.mk_core.specs.declared.events.Step.TheVariants as step
+use Rattle.mk_core.specs.declared.seats.Stage.TheVariants as stage
+use Rattle.mk_core.specs.Accesses.{caller_number}
+use Rattle.mk_core.specs.Calls.{at_rest, has_operands}
+use Rattle.mk_core.specs.Counts.{TalliesAreExact, TalliesAreTidy}
+use Rattle.mk_core.specs.History.{IsHistory}
+use Rattle.mk_words.specs.Seats.{CallersAreBeforeOver, Has}
+use Rattle.mk_words.specs.States.{PassState, WordsState, call_of}
+use Rattle.mk_words.specs.Steps.{IsEnabledTo, Makes}
+use Rattle.mk_words.specs.TurnSteps.{IsFresh}
+use Rattle.mk_caller.specs.States.{IsIdleCaller, number_of}
+use Rattle.mk_cycle.specs.TurnKeeps.{InTurn}
+use Rattle.mk_waiting.specs.Taking.{TakesTurn}
+use Rattle.mk_objects.specs.Placing.{IsPlaced, IsUnplaced}
+use Rattle.mk_alloc.specs.Rooms.{Seeks}
+use Rattle.mk_alloc.specs.Underway.{BeginsTurn, IsQuiet}
+use Rattle.mk_alloc.proofs.CalledTurns.{taken_same}
+use Rattle.mk_alloc.proofs.NewTurns.{begun_quiet, begun_unplaced, operands_of}
+use Rattle.mk_alloc.proofs.SeekingTurns.{seeks_placed}
+use Rattle.mk_alloc.proofs.TakenTurns.{callers, take_allowed, taken_phase}
+use Rattle.mk_heap_tests.specs.Passes.{IsPassFor}
+
+abbrev pub first_new : Op
+first_new = op.New 0 0 false
+
+module _ (w : WordsState) (k : ℕ) (p : PassState) (is : IsPassFor w k p) where
+  number : number_of p ≡ k
+  number = ap caller_number is.seat
+
+  exists : k < w.config.callers → number_of p < p.table.config.callers
+  exists few =
+      subst (λ (v : WordsState). number_of p < v.config.callers) (sym is.table)
+      (subst (λ (n : ℕ). n < w.config.callers) (sym number) few)
+
+  alone : p.seats ≡ p.seat ∷ []
+  alone = is.alone ∙ ap (λ (s : Seat). s ∷ []) (sym is.seat)
+
+  pub may_free : k < w.config.callers → IsEnabledTo p (step.Take (Some (op.Free 0)))
+  may_free few = take_allowed p (op.Free 0) is.idle (exists few) refl refl
+
+  operands : 0 < length w.config.types → has_operands p.table.config first_new ≡ true
+  operands typed =
+      operands_of p.table.config 0 0 (omega arith)
+      (subst (λ (v : WordsState). 0 < length v.config.types) (sym is.table) typed)
+
+  pub may_make : k < w.config.callers → 0 < length w.config.types → IsEnabledTo p (step.Take (Some first_new))
+  may_make few typed = take_allowed p first_new is.idle (exists few) refl (operands typed)
+
+  -- Directly behind its `take` the turn may place its object.
+  module _ (q : PassState) (few : k < w.config.callers) (own : Has p.seats p.seat)
+      (takes : TakesTurn p (Some first_new) q) (fresh : IsFresh q (Some first_new))
+      (exact : TalliesAreExact q.table.config q.seen) (tidy : TalliesAreTidy q.table.config q.seen)
+      (t : InTurn q) (before : CallersAreBeforeOver q.table.config q.seats q.seen) where
+    begins : BeginsTurn first_new q
+    begins = record {
+      fresh = fresh;
+      phase = taken_phase p q first_new (callers p is.idle) (exists few) alone own takes fresh t.history before;
+      exact = exact;
+      tidy = tidy;
+    }
+
+    taken_is : q ≡ record p { seen = q.seen }
+    taken_is = taken_same p q first_new (callers p is.idle) own takes
+
+    pub taken_table : q.table ≡ w
+    taken_table = ap (λ (x : PassState). x.table) taken_is ∙ is.table
+
+    pub unplaced : IsUnplaced q
+    unplaced = begun_unplaced q 0 0 false begins
+
+    -- Where it has placed it, it may be given back.
+    module _ (r : PassState) (placed : IsPlaced q r) (history : IsHistory r.table.config r.seen) where
+      pub seeks : Seeks (Some answer.Done) q r
+      seeks = seeks_placed q r t unplaced (begun_quiet q 0 0 false begins) placed history
+
+      pub placed_table : r.table ≡ w
+      placed_table = ap (λ (x : PassState). x.table) seeks.on.does.is ∙ taken_table
+
+      pub passed_back : (b : PassState) → Makes r step.Give b → call_of b ≡ at_rest → IsPassFor w k b
+      passed_back b gives rests =
+          let table : b.table ≡ w = ap (λ (x : PassState). x.table) gives.is ∙ placed_table in
+          let seat : b.seat ≡ Caller k =
+          ap (λ (x : PassState). x.seat) gives.is ∙ ap (λ (x : PassState). x.seat) seeks.on.does.is
+          ∙ ap (λ (x : PassState). x.seat) taken_is ∙ is.seat in
+          record {
+            table = table;
+            seat = seat;
+            alone = ap (λ (x : PassState). x.seats) gives.is ∙ ap (λ (x : PassState). x.seats) seeks.on.does.is
+                ∙ ap (λ (x : PassState). x.seats) taken_is ∙ is.alone;
+            idle = record { caller = k; seat = seat; rest = rests };
+          }

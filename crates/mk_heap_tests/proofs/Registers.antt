@@ -1,0 +1,36 @@
+-- Each caller has eight registers, and there are 64 globals, whatever happened. Before the first call all are null.
+use Rattle.std.proofs.Common.{◌≡◌, ℕ, ◌+◌, ◌*◌, ◌<◌, List, [], length, refl, ◌∙◌, ap, arith}
+use Rattle.std.proofs.lemmas.List.{length-replicate}
+use Rattle.mk_never.specs.declared.values.Value.TheVariants.{Null}
+use Rattle.mk_never.specs.Admitted.{IsCaller}
+use Rattle.mk_never.specs.NeverHeap.{NeverState, register_at}
+use Rattle.mk_never.proofs.Later.{calls_stay}
+use Rattle.mk_core.specs.declared.config.Config.{Config}
+use Rattle.mk_core.specs.declared.events.Event.{Event}
+use Rattle.mk_core.specs.Decided.{asked}
+use Rattle.mk_core.specs.History.{calls, calls_from, never_behind, never_first}
+use Rattle.mk_protocol.proofs.OrderlyLists.{at_first}
+use Rattle.mk_words.specs.States.{PassState}
+use Rattle.mk_caller.specs.States.{never_of, number_of, value_of}
+
+registers_are : (c : Config) (es : List Event) → length (never_behind c es).registers ≡ 8 * c.callers
+registers_are c es = (calls_stay (never_first c) (asked (calls c es))).registers ∙ length-replicate (8 * c.callers) Null
+
+pub globals_are : (c : Config) (es : List Event) → length (never_behind c es).globals ≡ 64
+globals_are c es = (calls_stay (never_first c) (asked (calls c es))).globals ∙ length-replicate 64 Null
+
+pub has_registers : (p : PassState) → number_of p < p.table.config.callers → IsCaller (never_of p) (number_of p)
+has_registers p exists =
+    let count = registers_are p.table.config p.seen in
+    omega arith
+
+none_called : (c : Config) → never_behind c [] ≡ never_first c
+unfolding calls_from
+none_called c = refl
+
+pub null_at_first : (p : PassState) (r : ℕ) → p.seen ≡ [] → value_of p r ≡ Null
+null_at_first p r is =
+    let c : Config = p.table.config in
+    ap (λ (n : NeverState). register_at n (number_of p) r)
+    (ap (λ (es : List Event). never_behind c es) is ∙ none_called c)
+    ∙ at_first (8 * c.callers) (8 * number_of p + r) Null

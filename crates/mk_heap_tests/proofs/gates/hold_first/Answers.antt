@@ -1,0 +1,47 @@
+use Rattle.std.proofs.Common.{◌≡◌, ◌<◌, ◌∙◌, true, false, refl, sym, ap, subst, arith}
+use Rattle.std.specs.Prelude.{not}
+use Rattle.mk_core.specs.declared.config.Config.{Config}
+use Rattle.mk_core.specs.declared.events.Seat.{Seat}
+use Rattle.mk_core.specs.declared.events.Seat.TheVariants.{Host}
+use Rattle.mk_core.specs.Moments.{is_held, is_number_of}
+use Rattle.mk_words.specs.States.{PassState, WordsState, now_of}
+use Rattle.mk_caller.specs.States.{CallerState}
+use Rattle.mk_cycle.proofs.Allowed.{in_turn}
+use Rattle.mk_cycle.proofs.HoldingSteps.{hold_allowed}
+use Rattle.mk_heap.specs.Clients.{IsPassOf}
+use Rattle.mk_heap.proofs.ClientSteps.{pass_of_later}
+use Rattle.mk_heap.proofs.IdleTurns.{fresh_free}
+use Rattle.mk_heap_tests.proofs.JoinedHosts.{none_is_held_at, pass_of}
+use Rattle.mk_heap_tests.proofs.gates.hold_first.Goals as goal
+
+pub new-first-requires-clause-idle : goal.new-first-requires-clause-idle
+new-first-requires-clause-idle c = c.requires.first.idle
+
+pub new-second-requires-clause-idle : goal.new-second-requires-clause-idle
+new-second-requires-clause-idle c = c.requires.second.idle
+
+pub clear-before-requires-clause-whole : goal.clear-before-requires-clause-whole
+clear-before-requires-clause-whole c =
+    pass_of c.args.words.now 0 c.args.first c.new-first.result c.requires.first (omega arith) c.new-first.ensures
+
+pub try_hold-requires-clause-enabled : goal.try_hold-requires-clause-enabled
+try_hold-requires-clause-enabled c =
+    let w : WordsState = c.args.words.now in
+    let q : PassState = c.in-Ok.turn.pass in
+    let o = c.is_in_order.ensures in
+    let made = c.in-Ok.ensures.made.makes.is in
+    let table : q.table ≡ w = ap (λ (x : PassState). x.table) made ∙ c.requires.one_table in
+    let seat : q.seat ≡ Host = ap (λ (x : PassState). x.seat) made ∙ c.requires.host in
+    let some : 0 < q.table.config.callers =
+    subst (λ (v : WordsState). 0 < v.config.callers) (sym table) (let two = c.requires.two in omega arith) in
+    hold_allowed q (in_turn q c.in-Ok.turn.op o.own o.turn o.history) (fresh_free q c.in-Ok.ensures.fresh) 0 some
+    (ap (λ (s : Seat). is_number_of s 0) seat) (none_is_held_at q 0 some c.in-Ok.ensures.fresh.gates)
+
+pub clear-requires-clause-whole : goal.clear-requires-clause-whole
+clear-requires-clause-whole c =
+    pass_of_later c.new-first.result.pass c.clear-before.new.caller.pass c.clear-before.ensures.pass
+    (pass_of c.args.words.now 0 c.args.first c.new-first.result c.requires.first (omega arith) c.new-first.ensures)
+
+pub clear-requires-2-clause-whole : goal.clear-requires-2-clause-whole
+clear-requires-2-clause-whole c =
+    pass_of c.args.words.now 1 c.args.second c.new-second.result c.requires.second (omega arith) c.new-second.ensures

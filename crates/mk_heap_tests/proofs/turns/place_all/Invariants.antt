@@ -1,0 +1,9 @@
+use Rattle.std.proofs.Common.{◌≡◌, length}
+use Rattle.mk_heap_tests.specs.Passes.{IsPassFor}
+use Rattle.mk_heap_tests.proofs.turns.place_all.Given as goal
+
+abbrev pub invariant-loop-count : goal.invariant-loop-count
+invariant-loop-count g l = record {
+  pass : IsPassFor l.words 0 l.pass;
+  book : length l.book ≡ l.words.config.pages;
+}

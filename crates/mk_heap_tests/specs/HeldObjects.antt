@@ -1,0 +1,26 @@
+-- Callers that make and free objects. Private functions alone cite these words.
+use Rattle.std.specs.Prelude.{◌≡◌, ℕ, ◌<◌, true, [], ◌∷◌, length}
+use Rattle.mk_never.specs.Admitted.{IsBase}
+use Rattle.mk_core.specs.declared.events.Seat.TheVariants.{Caller}
+use Rattle.mk_words.specs.States.{PassState}
+use Rattle.mk_caller.specs.States.{CallerState, value_of}
+
+-- Each of the caller's registers is null, or points to an object's first word.
+abbrev pub HoldsObjects : PassState → Type 0
+HoldsObjects p = (r : ℕ) → r < 8 → IsBase (value_of p r)
+
+-- The caller may make objects, and free what its registers point to.
+pub record IsReady (s : CallerState) : Type 0 where
+  pub number : ℕ
+  pub home : s.home ≡ true
+  pub seat : s.pass.seat ≡ Caller number
+  pub exists : number < s.pass.table.config.callers
+  pub alone : s.pass.seats ≡ Caller number ∷ []
+  pub objects : HoldsObjects s.pass
+
+-- It may, with a bench that was made for so many pages and has a book of so many, and there is a type.
+pub record MayAllocate (made_for book : ℕ) (s : CallerState) : Type 0 where
+  pub ready : IsReady s
+  pub ty : 0 < length s.pass.table.config.types
+  pub engine : made_for ≡ s.pass.table.config.pages
+  pub pages : book ≡ s.pass.table.config.pages

@@ -1,0 +1,150 @@
+//! Two callers at once, each on a thread of its own, whose calls are on registers that stay null.
+ghost use Rattle.std.specs.Prelude.{◌≡◌, ◌<◌, true};
+ghost use Rattle.mk_core.specs.Config.{IsWithinLimits};
+ghost use Rattle.mk_heap_tests.specs.Passes.{HoldsNull, IsFirstPass, IsPassFor, StaysNull};
+
+use mk_caller::{Caller, Refusal};
+use mk_core::Config;
+use mk_heap::{Heap, Report};
+use mk_never::NoMemory;
+use mk_words::{Held, Pass};
+use std::alloc::Global;
+use std::thread;
+use std::thread::Threads;
+
+/// How many rounds of calls each caller makes.
+const ROUNDS: u64 = 1000;
+
+fn says_yes(answer: Result<bool, Held>) -> bool {
+    matches!(answer, Ok(true))
+}
+
+fn is_null(answer: Result<u64, Refusal>) -> bool {
+    matches!(answer, Err(Refusal::Null))
+}
+
+/// Makes a call of each sort, and says whether they are answered as they should be where all registers and globals are
+/// null and no gate is held.
+fn make_round(caller: &mut Caller) -> bool
+    requires home { caller.old.home ≡ true }
+    requires null { HoldsNull caller.old.pass }
+    ensures home { caller.new.home ≡ true }
+    ensures stays { StaysNull caller.old.pass caller.new.pass }
+{
+    let moved = caller.move_ptr(0, 1);
+    let stored = caller.set_global(0, 1);
+    let loaded = caller.get_global(2, 0);
+    let same = caller.same(1, 2);
+    let number = caller.get_num(1, 0);
+    moved.is_ok() & stored.is_ok() & loaded.is_ok() & says_yes(same) & is_null(number)
+}
+
+/// Makes all rounds, and says whether all calls are answered as they should be.
+fn make_rounds(caller: &mut Caller) -> bool
+    requires home { caller.old.home ≡ true }
+    requires null { HoldsNull caller.old.pass }
+    ensures home { caller.new.home ≡ true }
+    ensures stays { StaysNull caller.old.pass caller.new.pass }
+{
+    let mut fine = true;
+    for _round in 0..ROUNDS {
+        fine &= make_round(caller);
+    }
+    fine
+}
+
+/// The pass of a caller that made its rounds, and whether all was fine.
+#[derive(Drop)]
+struct Made {
+    pass: Pass,
+    fine: bool,
+}
+
+/// The work of a caller's thread.
+fn make_alone(heap: &Heap, pass: Pass, number: u64) -> Made
+    requires pass { IsFirstPass heap.now number pass }
+    requires exists { number < heap.now.config.callers }
+    ensures { IsPassFor heap.now number result.pass }
+{
+    let mut caller = Caller::new(heap.words(), pass);
+    let fine = make_rounds(&mut caller);
+    caller.is_idle();
+    Made {
+        pass: caller.finish(),
+        fine,
+    }
+}
+
+/// Both callers make their rounds, each on a thread of its own.
+fn make_both<R: Threads + Sync>(rt: &R, heap: &Heap, first: Pass, second: Pass) -> (Made, Made)
+    requires first { IsFirstPass heap.now 0 first }
+    requires second { IsFirstPass heap.now 1 second }
+    requires two { heap.now.config.callers ≡ 2 }
+    ensures first { IsPassFor heap.now 0 result.0.pass }
+    ensures second { IsPassFor heap.now 1 result.1.pass }
+{
+    thread::join(
+        rt,
+        move || -> Made
+            requires pass { IsFirstPass heap.now 0 first }
+            requires exists { 0 < heap.now.config.callers }
+            ensures { IsPassFor heap.entry.now 0 result.pass }
+        { make_alone(heap, first, 0) },
+        move || -> Made
+            requires pass { IsFirstPass heap.now 1 second }
+            requires exists { 1 < heap.now.config.callers }
+            ensures { IsPassFor heap.entry.now 1 result.pass }
+        { make_alone(heap, second, 1) },
+    )
+}
+
+/// The report of a heap whose two callers made their rounds at once, and whether all was fine.
+pub(crate) fn two_at_once<R: Threads + Sync>(
+    rt: &R,
+    alloc: Global,
+    config: &Config,
+) -> Result<(Report, bool), NoMemory>
+    requires limits { IsWithinLimits config.now }
+    requires two { config.now.callers ≡ 2 }
+{
+    let (heap, mut host) = Heap::new(alloc, config)?;
+    let first = host.caller(&heap).finish();
+    let second = host.caller(&heap).finish();
+    let (one, other) = make_both(rt, &heap, first, second);
+    let fine = one.fine & other.fine;
+    host.join_caller(&heap, other.pass);
+    host.join_caller(&heap, one.pass);
+    Ok((heap.close(host), fine))
+}
+
+#[cfg(test)]
+mod tests {
+    use super::two_at_once;
+    use mk_core::{Config, GlobalTable};
+    use mk_never::{Kind, TypeTable};
+    use std::test::Fail;
+
+    /// Nobody holds a gate, so no call is refused for that.
+    #[test]
+    fn two_callers_make_their_calls_at_once(rt: HostRuntime) -> Result<(), Fail> {
+        let mut types = TypeTable::new(rt.alloc());
+        types
+            .add([Kind::Num].to_vec(rt.alloc())?)
+            .expect(&rt, "memory");
+        let mut globals = GlobalTable::new(rt.alloc());
+        globals.add(0).expect(&rt, "memory");
+        let config = Config {
+            pages: 1,
+            resident: 1,
+            callers: 2,
+            markers: 0,
+            types,
+            globals,
+        };
+        let (report, fine) = two_at_once(&rt, rt.alloc(), &config).expect(&rt, "memory");
+        assert!(rt; fine);
+        assert_eq!(rt; (report.held, report.fresh, report.quarantined), (0, 0, 0));
+        assert_eq!(rt; (report.released, report.cycles, report.full), (0, 0, 0));
+        Ok(())
+    }
+}

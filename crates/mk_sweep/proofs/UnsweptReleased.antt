@@ -1,0 +1,105 @@
+-- What a sweep doesn't mark is released by its cycle.
+use Rattle.std.proofs.Common.{◌≡◌, ◌∙◌, ◌<◌, ℕ, false, refl, List, [], ◌∷◌, ◌++◌, length, sym, ap, subst, inl, inr}
+use Rattle.std.proofs.lemmas.Bool.{cases_Bool, true≢false}
+use Rattle.mk_geom.specs.declared.addresses.Cell.{Cell}
+use Rattle.mk_geom.specs.StorageWords.{cell_of_storage}
+use Rattle.mk_core.specs.declared.config.Config.{Config}
+use Rattle.mk_core.specs.declared.events.Event.{Event}
+use Rattle.mk_core.specs.Allocations.{PlacedAllocation, cell_of_allocation, placed_at, storage_of}
+use Rattle.mk_core.specs.Cells.{is_marked}
+use Rattle.mk_core.specs.Cycles.{before_release}
+use Rattle.mk_core.specs.History.{World, left, left_from, world_behind}
+use Rattle.mk_core.specs.Moments.{flight_of}
+use Rattle.mk_core.proofs.HistoryParts.{left_in_parts}
+use Rattle.mk_readings.specs.Releases.{allocation_before, allocation_behind}
+use Rattle.mk_readings.proofs.Releases.{releases_are_exact}
+use Rattle.mk_precision.proofs.AllocationSteps.{AreOfOne, allocation_step, goes_on, is_there, of_one_joined}
+use Rattle.mk_precision.proofs.Marking.{More, one_more}
+use Rattle.mk_precision.proofs.OlderAllocations.{AreOlder, older_behind}
+use Rattle.mk_precision.proofs.StepKinds.{is_grant, release_is}
+use Rattle.mk_precision.proofs.Stretches.{at_release, history_through}
+use Rattle.mk_words.specs.States.{PassState, WordsState, world_of}
+use Rattle.mk_tracing.specs.Tracing.{Untouched}
+use Rattle.mk_sweep.specs.Unswept.{LeaveUnmarked, UnsweptIsReleased}
+use Rattle.mk_sweep.proofs.Unswept.{unswept_stays_unmarked}
+
+same_cell : (c : Config) (a b : PlacedAllocation) → AreOfOne a b → cell_of_allocation c b ≡ cell_of_allocation c a
+same_cell c a b one =
+    ap (λ (n : ℕ). cell_of_storage (record (storage_of c b) { first = n })) one.base
+    ∙ ap (λ (ty : ℕ). cell_of_allocation c (record a { ty = ty })) one.ty
+
+-- The allocation stands where this one stood, and its cell is unmarked.
+record StandsUnmarked (c : Config) (a : PlacedAllocation) (i : ℕ) (w : World) : Type 0 where
+  there : i < length w.allocations
+  same : AreOfOne a (placed_at w.allocations i)
+  unmarked : is_marked w.now.words (cell_of_allocation c a) ≡ false
+
+stands_along : (c : Config) (a : PlacedAllocation) (i : ℕ) (w : World) (es : List Event)
+    → LeaveUnmarked c (cell_of_allocation c a) w es → StandsUnmarked c a i w → StandsUnmarked c a i (left_from c w es)
+unfolding LeaveUnmarked left_from
+stands_along c a i w [] leave at = at
+stands_along c a i w (e ∷ es) leave at =
+    let v : World = world_behind c w e in
+    let on = goes_on w.allocations v.allocations e.step i
+    (allocation_step c w.now (flight_of w.now e.seat) e.step w.allocations) at.there in
+    stands_along c a i v es leave.1
+    (record {
+      there = on.there;
+      same = of_one_joined a (placed_at w.allocations i) (placed_at v.allocations i) at.same on.same;
+      unmarked = leave.0 at.unmarked;
+    })
+
+pub unswept_is_released : UnsweptIsReleased
+unswept_is_released p q n s es r rest i history seen is one snapshot unreleased out was others leave =
+    elim (cases_Bool (allocation_before c r i).released) [
+      | inl gone ↦ elim (cases_Bool (allocation_behind c r i).released) [
+        | inl released ↦ released
+        | inr kept ↦ absurd (true≢false (sym gone ∙ stays.was i kept))
+      ]
+      | inr kept ↦ (releases_are_exact c es history r i kept).1 (
+        snapshot,
+        ap (λ (cell : Cell). is_marked (left c (before_release r)).now.words cell)
+            (same_cell c a (allocation_before c r i) before.same)
+            ∙ before.unmarked,
+      )
+    ]
+  where
+    c : Config
+    c = p.table.config
+
+    a : PlacedAllocation
+    a = placed_at (world_of p).allocations i
+
+    e : Event
+    e = r.release.at.event
+
+    same_world : world_of q ≡ left c q.seen
+    same_world = ap (λ (t : WordsState). left t.config q.seen) (ap (λ (x : PassState). x.table) s.traces.does.is)
+
+    more : More c (before_release r) e
+    more = one_more c (before_release r) e (history_through c es (before_release r) r.release.at.behind e history (at_release r))
+
+    stays : AreOlder (left c (before_release r)).allocations (left c (before_release r ++ e ∷ [])).allocations
+    stays =
+        subst (λ (w : World). AreOlder (left c (before_release r)).allocations w.allocations) (sym more.left)
+        (older_behind c (left c (before_release r)) e.seat e.step (ap is_grant (release_is e.step r.release.at.of_kind)))
+
+    allocations : (world_of q).allocations ≡ (world_of p).allocations
+    allocations = ap (λ (u : Untouched). u.allocations) s.traces.untouched
+
+    swept : StandsUnmarked c a i (world_of q)
+    swept =
+        record {
+          there = subst (λ (xs : List PlacedAllocation). i < length xs) (sym allocations)
+              (is_there (world_of p).allocations i unreleased);
+          same = subst (λ (xs : List PlacedAllocation). AreOfOne a (placed_at xs i)) (sym allocations)
+              (record { base = refl; ty = refl });
+          unmarked = unswept_stays_unmarked p q n s i seen one unreleased out was others;
+        }
+
+    before : StandsUnmarked c a i (left c (before_release r))
+    before =
+        subst (λ (w : World). StandsUnmarked c a i w)
+        (sym (ap (λ (xs : List Event). left c xs) is ∙ left_in_parts c q.seen rest
+        ∙ ap (λ (w : World). left_from c w rest) (sym same_world)))
+        (stands_along c a i (world_of q) rest leave swept)

@@ -1,0 +1,361 @@
+-- The operations of an event are admitted where all registers are null, and leave them so.
+use Rattle.std.proofs.Common.{◌≡◌, ◌≢◌, ℕ, zero, suc, ◌+◌, ◌-◌, ◌*◌, ◌<◌, ◌≤◌, Bool, true, false, List, [], ◌∷◌}
+use Rattle.std.proofs.Common.{length, get_or, set, replicate, refl, sym, ◌∙◌, ap, subst, arith}
+use Rattle.std.specs.Prelude.{IfSome, slice_get, Some, Option}
+use Rattle.std.specs.List.{range_with_len}
+use Rattle.std.proofs.lemmas.List.{get_or-set_other, get_or-set_same, length-replicate}
+use Rattle.std.proofs.lemmas.Option.{slice_get-get_or}
+use Rattle.std.proofs.lemmas.List.Elements.{All-get_or}
+use Rattle.std.proofs.lemmas.List.FromFn.{get_or-range_with_len, length-range_with_len}
+use Rattle.mk_never.specs.declared.types.Kind.{Kind}
+use Rattle.mk_never.specs.declared.types.Kind.TheVariants.{Num as NumKind, To}
+use Rattle.mk_never.specs.declared.values.Value.{Value}
+use Rattle.mk_never.specs.declared.values.Value.TheVariants.{Null, Num, Ptr}
+use Rattle.mk_never.specs.declared.operations.Op.{Op}
+use Rattle.mk_never.specs.declared.operations.Op.TheVariants.{New, Free, SetNum, SetPtr, Clear, GetGlobal, SetGlobal}
+use Rattle.mk_never.specs.NeverHeap.{NeverState, register_at, global_at, allocation_at, words_of, target_of, after_free, after_op, after_calls}
+use Rattle.mk_never.specs.Types.{kinds_of}
+use Rattle.mk_never.specs.Admitted.{IsCaller, Meets, IsNumber, IsPointer, IsOfKind, IsBase, IsAdmitted, AreAdmitted}
+use Rattle.mk_never.specs.Typed.{IsSound, IsTypedAllocation, IsTyped}
+use Rattle.mk_never.proofs.Edits.{left_at_by}
+use Rattle.mk_never.proofs.Fresh.{new_adds}
+use Rattle.mk_never.proofs.Later.{op_stays, calls_stay}
+use Rattle.mk_never.proofs.TypedCalls.{op_keeps, stays_typed}
+use Rattle.mk_core.specs.declared.config.Config.{Config}
+use Rattle.mk_core.specs.declared.events.Event.{Event}
+use Rattle.mk_core.specs.Config.{IsBetween}
+use Rattle.mk_core.specs.Decided.{asked}
+use Rattle.mk_core.specs.History.{calls, never_first, never_behind, IsHistory}
+use Rattle.mk_trace.specs.Calls.{EventsAreAdmitted}
+use Rattle.mk_trace.specs.Traces.{Contents}
+use Rattle.mk_trace.specs.declared.trace.TraceEvent.{TraceEvent}
+use Rattle.mk_trace.specs.declared.trace.TraceEvent.TheVariants.{A, K, F, C, W}
+use Rattle.mk_trace.specs.Laws.{IsEventOf, IsPlayable}
+use Rattle.mk_trace.specs.Playing.{config_of, slot_type, types_from, ops_of, calls_of_caller}
+use Rattle.mk_trace.proofs.SlotTypes.{length-types_from}
+
+-- The kinds of a slot's objects.
+
+kinds_from : (first slot : ℕ) (slots : List ℕ) → slot < length slots
+    → kinds_of (types_from first slots) slot ≡ slot_type (first + slot) (get_or slots slot 0)
+kinds_from first slot [] within = absurd (omega arith)
+kinds_from first zero (words ∷ slots) within = ap (λ (n : ℕ). slot_type n words) (omega arith)
+kinds_from first (suc slot) (words ∷ slots) within =
+    let below : slot < length slots = omega arith in
+    kinds_from (first + 1) slot slots below
+    ∙ ap (λ (n : ℕ). slot_type n (get_or slots slot 0)) (omega arith)
+
+numbers_behind : (count place : ℕ) → get_or (replicate count NumKind) place NumKind ≡ NumKind
+numbers_behind zero place = refl
+numbers_behind (suc count) zero = refl
+numbers_behind (suc count) (suc place) = numbers_behind count place
+
+number_at : (slot words index : ℕ) → 1 ≤ index → get_or (slot_type slot words) index NumKind ≡ NumKind
+number_at slot words zero h = absurd (omega arith)
+number_at slot words (suc index) h = numbers_behind (words - 1) index
+
+-- A null that is stored leaves all null but what wasn't elsewhere.
+set_null : (xs : List Value) (i k : ℕ) → (k ≢ i → get_or xs k Null ≡ Null) → get_or (set xs i Null) k Null ≡ Null
+set_null [] i k h = refl
+set_null (x ∷ xs) zero zero h = refl
+set_null (x ∷ xs) zero (suc k) h = h (λ e. omega arith)
+set_null (x ∷ xs) (suc i) zero h = h (λ e. omega arith)
+set_null (x ∷ xs) (suc i) (suc k) h = set_null xs i k (λ other. h (λ e. other (omega arith)))
+
+-- All registers from this one on are null.
+abbrev pub ClearFrom : NeverState → ℕ → Type 0
+ClearFrom n k = (r : ℕ) → k ≤ r → register_at n 0 r ≡ Null
+
+module _ (slots : List ℕ) where
+  abbrev listed : List ℕ
+  listed = range_with_len 0 (length slots)
+
+  -- the heap that never reuses storage, of the slots' types
+  pub record Stands (n : NeverState) : Type 0 where
+    pub types : n.types ≡ types_from 0 slots
+    pub registers : length n.registers ≡ 8
+    pub globals : length n.globals ≡ 64
+    pub typed : IsTyped listed n
+
+  pub stands_on : (n : NeverState) (o : Op) → Stands n → IsAdmitted listed n 0 o → Stands (after_op n 0 o)
+  stands_on n o s h =
+      let stays = op_stays n 0 o in
+      record {
+        types = stays.types ∙ s.types;
+        registers = stays.registers ∙ s.registers;
+        globals = stays.globals ∙ s.globals;
+        typed = op_keeps listed n 0 s.typed o h.in_range h.access h.store;
+      }
+
+  module _ (slot : ℕ) (within : slot < length slots) (few : length slots ≤ 64) where
+    -- the register is null or points to an object of the slot
+    abbrev Points : NeverState → ℕ → Type 0
+    Points n r = IsOfKind (register_at n 0 r) (To slot 0)
+
+    is_caller : (n : NeverState) → Stands n → IsCaller n 0
+    is_caller n s = let count = s.registers in omega arith
+
+    listed_at : slice_get listed slot ≡ Some slot
+    listed_at =
+        slice_get-get_or listed slot 0 (omega (arith, length-range_with_len 0 (length slots), within))
+        ∙ ap (λ (k : ℕ). Some k) (get_or-range_with_len 0 (length slots) slot 0 within ∙ (omega arith))
+
+    kinds_here : (n : NeverState) → Stands n → kinds_of n.types slot ≡ slot_type slot (get_or slots slot 0)
+    kinds_here n s = ap (λ (ts : List (List Kind)). kinds_of ts slot) s.types ∙ kinds_from 0 slot slots within
+        ∙ ap (λ (k : ℕ). slot_type k (get_or slots slot 0)) (omega arith)
+
+    -- a word of an object of the slot
+    meets : (n : NeverState) → Stands n → (v : Value) → IsSound n v → IsOfKind v (To slot 0) → (i : ℕ) → i < get_or slots slot 0
+        → (P : Kind → Type 0) → P (get_or (slot_type slot (get_or slots slot 0)) i NumKind) → Meets n v i P
+    meets n s Null sound of_kind i inside P p = tt
+    meets n s (Num m) sound of_kind i inside P p = absurd of_kind
+    meets n s (Ptr number ty offset) sound of_kind i inside P p =
+        let a : IsTypedAllocation n (allocation_at n number) = s.typed.allocations number sound.0 in
+        let is_slot : (allocation_at n number).ty ≡ slot = sym sound.1 ∙ of_kind.0 in
+        let kinds : kinds_of n.types (allocation_at n number).ty ≡ slot_type slot (get_or slots slot 0) =
+        ap (λ (k : ℕ). kinds_of n.types k) is_slot ∙ kinds_here n s in
+        let at : offset + i ≡ i = (let z = of_kind.1 in omega arith) in
+        let size : length (words_of n number) ≡ get_or slots slot 0 =
+        a.size ∙ ap (λ (ks : List Kind). length ks) kinds
+        ∙ (omega (arith, length-replicate (get_or slots slot 0 - 1) NumKind, inside)) in (
+          omega (arith, at, size, inside),
+          subst (λ (k : Kind). P k)
+              (sym (ap (λ (ks : List Kind). get_or ks (offset + i) NumKind) kinds
+              ∙ ap (λ (k : ℕ). get_or (slot_type slot (get_or slots slot 0)) k NumKind) at)) p,
+        )
+
+    global_points : (n : NeverState) → Stands n → IsOfKind (global_at n slot) (To slot 0)
+    global_points n s =
+        subst (λ (o : Option ℕ). IfSome o (λ ty. IsOfKind (global_at n slot) (To ty 0))) listed_at (s.typed.listed slot)
+
+    base_of_kind : (v : Value) → IsOfKind v (To slot 0) → IsBase v
+    base_of_kind Null h = tt
+    base_of_kind (Num m) h = absurd h
+    base_of_kind (Ptr number ty offset) h = h.1
+
+    -- each operation is admitted
+
+    new_admitted : (n : NeverState) (full : Bool) → Stands n → IsAdmitted listed n 0 (New 0 slot full)
+    new_admitted n full s =
+        let count = ap (λ (ts : List (List Kind)). length ts) s.types ∙ length-types_from 0 slots in
+        record { of_a_caller = is_caller n s; in_range = (omega arith, omega (arith, count, within)); access = tt; store = tt }
+
+    clear_admitted : (n : NeverState) (d : ℕ) → d < 8 → Stands n → IsAdmitted listed n 0 (Clear d)
+    clear_admitted n d below s = record { of_a_caller = is_caller n s; in_range = below; access = tt; store = tt }
+
+    get_admitted : (n : NeverState) (d : ℕ) → d < 8 → Stands n → IsAdmitted listed n 0 (GetGlobal d slot)
+    get_admitted n d below s =
+        let count = s.globals in
+        record { of_a_caller = is_caller n s; in_range = (below, omega (arith, count, within, few)); access = tt; store = tt }
+
+    set_admitted : (n : NeverState) → Stands n → Points n 0 → IsAdmitted listed n 0 (SetGlobal slot 0)
+    set_admitted n s points =
+        let count = s.globals in
+        record {
+          of_a_caller = is_caller n s;
+          in_range = (omega (arith, count, within, few), omega arith);
+          access = tt;
+          store = subst (λ (o : Option ℕ). IfSome o (λ ty. IsOfKind (register_at n 0 0) (To ty 0))) (sym listed_at) points;
+        }
+
+    free_admitted : (n : NeverState) → Stands n → Points n 0 → IsAdmitted listed n 0 (Free 0)
+    free_admitted n s points =
+        record { of_a_caller = is_caller n s; in_range = omega arith; access = tt; store = base_of_kind (register_at n 0 0) points }
+
+    number_admitted : (n : NeverState) (index value : ℕ) → 1 ≤ index → index < get_or slots slot 0 → Stands n → Points n 0
+        → IsAdmitted listed n 0 (SetNum 0 index value)
+    number_admitted n index value least inside s points =
+        record {
+          of_a_caller = is_caller n s;
+          in_range = omega arith;
+          access = meets n s (register_at n 0 0) (s.typed.registers (8 * 0 + 0)) points index inside IsNumber
+              (subst IsNumber (sym (number_at slot (get_or slots slot 0) index least)) refl);
+          store = tt;
+        }
+
+    link_admitted : (n : NeverState) → 1 ≤ get_or slots slot 0 → Stands n → Points n 0 → Points n 1 → IsAdmitted listed n 0 (SetPtr 0 0 1)
+    link_admitted n some s points linked =
+        record {
+          of_a_caller = is_caller n s;
+          in_range = (omega arith, omega arith);
+          access = meets n s (register_at n 0 0) (s.typed.registers (8 * 0 + 0)) points 0 (omega arith) IsPointer refl;
+          store = meets n s (register_at n 0 0) (s.typed.registers (8 * 0 + 0)) points 0 (omega arith) (IsOfKind (register_at n 0 1)) linked;
+        }
+
+    -- what they leave in registers
+
+    new_points : (n : NeverState) → Stands n → Points (after_op n 0 (New 0 slot false)) 0
+    new_points n s =
+        subst (λ (v : Value). IsOfKind v (To slot 0)) (sym (new_adds n 0 0 slot (is_caller n s) (omega arith)).register) (refl, refl)
+
+    got_points : (n : NeverState) (d : ℕ) → d < 8 → Stands n → Points (after_op n 0 (GetGlobal d slot)) d
+    got_points n d below s =
+        let count = s.registers in
+        subst (λ (v : Value). IsOfKind v (To slot 0))
+        (sym (get_or-set_same n.registers (8 * 0 + d) (global_at n slot) Null (omega arith))) (global_points n s)
+
+    still_points : (n : NeverState) → Points n 0 → Points (after_op n 0 (GetGlobal 1 slot)) 0
+    still_points n points =
+        subst (λ (v : Value). IsOfKind v (To slot 0))
+        (sym (get_or-set_other n.registers (8 * 0 + 1) (8 * 0 + 0) (global_at n slot) Null (λ e. omega arith))) points
+
+    linked_same : (n : NeverState) (r : ℕ) → register_at (after_op n 0 (SetPtr 0 0 1)) 0 r ≡ register_at n 0 r
+    linked_same n r =
+        left_at_by (λ m. register_at m 0 r ≡ register_at n 0 r) (target_of n (register_at n 0 0) 0) n _ refl
+        (λ number place e. refl)
+
+    numbered_same : (n : NeverState) (index value r : ℕ)
+        → register_at (after_op n 0 (SetNum 0 index value)) 0 r ≡ register_at n 0 r
+    numbered_same n index value r =
+        left_at_by (λ m. register_at m 0 r ≡ register_at n 0 r) (target_of n (register_at n 0 0) index) n _ refl
+        (λ number place e. refl)
+
+    freed_same : (n : NeverState) (v : Value) (r : ℕ) → register_at (after_free n v) 0 r ≡ register_at n 0 r
+    freed_same n Null r = refl
+    freed_same n (Num m) r = refl
+    freed_same n (Ptr number ty offset) r = refl
+
+    -- and which registers they leave null
+
+    new_clear : (n : NeverState) → ClearFrom n 0 → ClearFrom (after_op n 0 (New 0 slot false)) 1
+    new_clear n clear r above =
+        get_or-set_other n.registers (8 * 0 + 0) (8 * 0 + r) (Ptr (length n.allocations) slot 0) Null (λ e. omega arith)
+        ∙ clear r (omega arith)
+
+    got_clear : (n : NeverState) (d : ℕ) → ClearFrom n d → ClearFrom (after_op n 0 (GetGlobal d slot)) (d + 1)
+    got_clear n d clear r above =
+        get_or-set_other n.registers (8 * 0 + d) (8 * 0 + r) (global_at n slot) Null (λ e. omega arith)
+        ∙ clear r (omega arith)
+
+    -- the last operations of an event clear what it has set
+
+    clears_one : (n : NeverState) → ClearFrom n 1 → ClearFrom (after_op n 0 (Clear 0)) 0
+    clears_one n clear r above =
+        set_null n.registers (8 * 0 + 0) (8 * 0 + r) (λ other. clear r (omega (arith, other)))
+
+    clears_two : (n : NeverState) → ClearFrom n 2 → ClearFrom (after_op (after_op n 0 (Clear 0)) 0 (Clear 1)) 0
+    clears_two n clear r above =
+        let m = after_op n 0 (Clear 0) in
+        set_null m.registers (8 * 0 + 1) (8 * 0 + r)
+        (λ other. set_null n.registers (8 * 0 + 0) (8 * 0 + r) (λ another. clear r (omega (arith, other, another))))
+
+    -- so an event's operations
+
+    abbrev AreFine : NeverState → List Op → Type 0
+    AreFine n ops = AreAdmitted listed n (calls_of_caller ops) × ClearFrom (after_calls n (calls_of_caller ops)) 0
+
+    one_clear : (n : NeverState) → Stands n → ClearFrom n 1 → AreFine n (Clear 0 ∷ [])
+    one_clear n s clear = ((clear_admitted n 0 (omega arith) s, tt), clears_one n clear)
+
+    two_clear : (n : NeverState) → Stands n → ClearFrom n 2 → AreFine n (Clear 0 ∷ Clear 1 ∷ [])
+    two_clear n s clear =
+        let first = clear_admitted n 0 (omega arith) s in
+        ((first, (clear_admitted (after_op n 0 (Clear 0)) 1 (omega arith) (stands_on n (Clear 0) s first), tt)), clears_two n clear)
+
+    then_all : (n : NeverState) (o : Op) (ops : List Op) → IsAdmitted listed n 0 o → AreFine (after_op n 0 o) ops → AreFine n (o ∷ ops)
+    then_all n o ops first rest = ((first, rest.0), rest.1)
+
+    from_more : (n : NeverState) (k j : ℕ) → k ≤ j → ClearFrom n k → ClearFrom n j
+    from_more n k j le clear r above = clear r (omega (arith, le, above))
+
+    made_fine : (n : NeverState) → Stands n → ClearFrom n 0 → AreFine n (New 0 slot false ∷ SetGlobal slot 0 ∷ Clear 0 ∷ [])
+    made_fine n s clear =
+        let first = new_admitted n false s in
+        let m = after_op n 0 (New 0 slot false) in
+        let t = stands_on n (New 0 slot false) s first in
+        let second = set_admitted m t (new_points n s) in
+        then_all n (New 0 slot false) (SetGlobal slot 0 ∷ Clear 0 ∷ []) first
+        (then_all m (SetGlobal slot 0) (Clear 0 ∷ []) second
+        (one_clear (after_op m 0 (SetGlobal slot 0)) (stands_on m (SetGlobal slot 0) t second) (new_clear n clear)))
+
+    linked_fine : (n : NeverState) → 1 ≤ get_or slots slot 0 → Stands n → ClearFrom n 0
+        → AreFine n (New 0 slot false ∷ GetGlobal 1 slot ∷ SetPtr 0 0 1 ∷ SetGlobal slot 0 ∷ Clear 0 ∷ Clear 1 ∷ [])
+    linked_fine n some s clear =
+        let n1 = after_op n 0 (New 0 slot false) in
+        let n2 = after_op n1 0 (GetGlobal 1 slot) in
+        let n3 = after_op n2 0 (SetPtr 0 0 1) in
+        let a0 = new_admitted n false s in
+        let s1 = stands_on n (New 0 slot false) s a0 in
+        let a1 = get_admitted n1 1 (omega arith) s1 in
+        let s2 = stands_on n1 (GetGlobal 1 slot) s1 a1 in
+        let points = still_points n1 (new_points n s) in
+        let a2 = link_admitted n2 some s2 points (got_points n1 1 (omega arith) s1) in
+        let s3 = stands_on n2 (SetPtr 0 0 1) s2 a2 in
+        let a3 = set_admitted n3 s3 (subst (λ (v : Value). IsOfKind v (To slot 0)) (sym (linked_same n2 0)) points) in
+        let clear2 = got_clear n1 1 (new_clear n clear) in
+        then_all n (New 0 slot false) (GetGlobal 1 slot ∷ SetPtr 0 0 1 ∷ SetGlobal slot 0 ∷ Clear 0 ∷ Clear 1 ∷ []) a0
+        (then_all n1 (GetGlobal 1 slot) (SetPtr 0 0 1 ∷ SetGlobal slot 0 ∷ Clear 0 ∷ Clear 1 ∷ []) a1
+        (then_all n2 (SetPtr 0 0 1) (SetGlobal slot 0 ∷ Clear 0 ∷ Clear 1 ∷ []) a2
+        (then_all n3 (SetGlobal slot 0) (Clear 0 ∷ Clear 1 ∷ []) a3
+        (two_clear (after_op n3 0 (SetGlobal slot 0)) (stands_on n3 (SetGlobal slot 0) s3 a3)
+        (λ r above. linked_same n2 r ∙ clear2 r above)))))
+
+    full_fine : (n : NeverState) → Stands n → ClearFrom n 0 → AreFine n (New 0 slot true ∷ Clear 0 ∷ [])
+    full_fine n s clear = then_all n (New 0 slot true) (Clear 0 ∷ []) (new_admitted n true s) (one_clear n s (from_more n 0 1 (omega arith) clear))
+
+    full_link_fine : (n : NeverState) → Stands n → ClearFrom n 0 → AreFine n (New 0 slot true ∷ Clear 0 ∷ Clear 1 ∷ [])
+    full_link_fine n s clear = then_all n (New 0 slot true) (Clear 0 ∷ Clear 1 ∷ []) (new_admitted n true s) (two_clear n s (from_more n 0 2 (omega arith) clear))
+
+    freed_fine : (n : NeverState) → Stands n → ClearFrom n 0 → AreFine n (GetGlobal 0 slot ∷ Free 0 ∷ Clear 0 ∷ [])
+    freed_fine n s clear =
+        let m = after_op n 0 (GetGlobal 0 slot) in
+        let a0 = get_admitted n 0 (omega arith) s in
+        let t = stands_on n (GetGlobal 0 slot) s a0 in
+        let a1 = free_admitted m t (got_points n 0 (omega arith) s) in
+        then_all n (GetGlobal 0 slot) (Free 0 ∷ Clear 0 ∷ []) a0 (then_all m (Free 0) (Clear 0 ∷ []) a1
+        (one_clear (after_op m 0 (Free 0)) (stands_on m (Free 0) t a1)
+        (λ r above. freed_same m (register_at m 0 0) r ∙ got_clear n 0 clear r above)))
+
+    cleared_fine : (n : NeverState) → Stands n → ClearFrom n 0 → AreFine n (SetGlobal slot 0 ∷ [])
+    cleared_fine n s clear =
+        ((set_admitted n s (subst (λ (v : Value). IsOfKind v (To slot 0)) (sym (clear 0 (omega arith))) tt), tt), clear)
+
+    written_fine : (n : NeverState) (index value : ℕ) → 1 ≤ index → index < get_or slots slot 0 → Stands n → ClearFrom n 0
+        → AreFine n (GetGlobal 0 slot ∷ SetNum 0 index value ∷ Clear 0 ∷ [])
+    written_fine n index value least inside s clear =
+        let m = after_op n 0 (GetGlobal 0 slot) in
+        let a0 = get_admitted n 0 (omega arith) s in
+        let t = stands_on n (GetGlobal 0 slot) s a0 in
+        let a1 = number_admitted m index value least inside t (got_points n 0 (omega arith) s) in
+        then_all n (GetGlobal 0 slot) (SetNum 0 index value ∷ Clear 0 ∷ []) a0
+        (then_all m (SetNum 0 index value) (Clear 0 ∷ []) a1
+        (one_clear (after_op m 0 (SetNum 0 index value)) (stands_on m (SetNum 0 index value) t a1)
+        (λ r above. numbered_same m index value r ∙ got_clear n 0 clear r above)))
+
+  pub events_fine : (few : length slots ≤ 64) → ((slot : ℕ) → slot < length slots → 1 ≤ get_or slots slot 0)
+      → (n : NeverState) → Stands n → ClearFrom n 0 → (event : TraceEvent) → IsEventOf slots event → (full : Bool)
+      → AreAdmitted listed n (calls_of_caller (ops_of full event))
+      × ClearFrom (after_calls n (calls_of_caller (ops_of full event))) 0
+  events_fine few some n s clear (A slot) within false = made_fine slot within few n s clear
+  events_fine few some n s clear (A slot) within true = full_fine slot within few n s clear
+  events_fine few some n s clear (K slot) within false = linked_fine slot within few n (some slot within) s clear
+  events_fine few some n s clear (K slot) within true = full_link_fine slot within few n s clear
+  events_fine few some n s clear (F slot) within false = freed_fine slot within few n s clear
+  events_fine few some n s clear (F slot) within true = freed_fine slot within few n s clear
+  events_fine few some n s clear (C slot) within false = cleared_fine slot within few n s clear
+  events_fine few some n s clear (C slot) within true = cleared_fine slot within few n s clear
+  events_fine few some n s clear (W slot index value) within false =
+      written_fine slot within.0 few n index value within.1 within.2 s clear
+  events_fine few some n s clear (W slot index value) within true =
+      written_fine slot within.0 few n index value within.1 within.2 s clear
+
+module _ (trace : Contents) (playable : IsPlayable trace) where
+  abbrev c : Config
+  c = config_of trace
+
+  stands_behind : (es : List Event) → IsHistory c es → Stands trace.slots (never_behind c es)
+  stands_behind es history =
+      let stays = calls_stay (never_first c) (asked (calls c es)) in
+      record {
+        types = stays.types;
+        registers = stays.registers ∙ length-replicate 8 Null;
+        globals = stays.globals ∙ length-replicate 64 Null;
+        typed = stays_typed c.globals c.types 1 (asked (calls c es)) history.admitted;
+      }
+
+  pub events_are_admitted : EventsAreAdmitted trace
+  events_are_admitted es history clear event of_slots full =
+      let fine = events_fine trace.slots playable.slot_count.1
+      (λ slot within. (All-get_or (IsBetween 1 4096) trace.slots slot 0 within playable.slots).0)
+      (never_behind c es) (stands_behind es history) (λ r above. clear r) event of_slots full in
+      (fine.0, λ r. fine.1 r (omega arith))

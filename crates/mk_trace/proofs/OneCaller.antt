@@ -1,0 +1,307 @@
+-- In a heap of one caller all calls are its own: what one call more makes of them.
+use Rattle.std.proofs.Common.{◌≡◌, ℕ, ◌*◌, ◌<◌, ◌≤◌, Bool, true, false, List, [], ◌∷◌, ◌++◌, length, refl, sym, ◌∙◌}
+use Rattle.std.proofs.Common.{ap, subst, arith, append_assoc}
+use Rattle.std.specs.Prelude.{◌==◌, ◌||◌, if◌then◌else◌, Some, replicate}
+use Rattle.std.specs.List.{list_any}
+use Rattle.std.proofs.lemmas.Bool.{eq-eqb}
+use Rattle.std.proofs.lemmas.List.{length-replicate, length-map, map-append}
+use Rattle.std.proofs.lemmas.List.Folds.{list_any-append}
+use Rattle.mk_never.specs.declared.operations.Op.{Op}
+use Rattle.mk_never.specs.declared.values.Value.TheVariants.{Null}
+use Rattle.mk_never.specs.NeverHeap.{NeverState, Call, after_op, after_calls}
+use Rattle.mk_never.specs.Admitted.{IsCaller, IsAdmitted, AreAdmitted}
+use Rattle.mk_never.proofs.Later.{op_stays}
+use Rattle.mk_never.proofs.Parts.{after_append, admitted_split}
+use Rattle.mk_core.specs.declared.config.Config.{Config}
+use Rattle.mk_core.specs.declared.events.Answer.{Answer}
+use Rattle.mk_core.specs.declared.events.Answer.TheVariants as answer
+use Rattle.mk_core.specs.declared.events.Event.{Event}
+use Rattle.mk_core.specs.declared.events.Seat.{Seat}
+use Rattle.mk_core.specs.declared.events.Seat.TheVariants.{Caller, Host}
+use Rattle.mk_core.specs.declared.events.Step.TheVariants as step
+use Rattle.mk_core.specs.declared.events.Word.{Word}
+use Rattle.mk_core.specs.Accesses.{caller_number}
+use Rattle.mk_core.specs.Counts.{is_full_answer}
+use Rattle.mk_core.specs.Decided.{Decided, entry_of, asked, answered, flagged}
+use Rattle.mk_core.specs.Growing.{Grows, is_same_seat}
+use Rattle.mk_core.specs.History.{calls, never_first, never_behind, IsHistory}
+use Rattle.mk_words.specs.Seats.{Has, HasAll, all_seats, has_over, without_seat}
+use Rattle.mk_words.specs.States.{WordsState, PassState}
+use Rattle.mk_words.proofs.Seats.{has_all, has_first, has_right}
+use Rattle.mk_caller.specs.States.{CallerState, at_home, number_of}
+use Rattle.mk_caller.proofs.OwnSteps.{calls_by, others_add_none}
+use Rattle.mk_heap.specs.Hosts.{AllAreJoined, HostState, first_host, pass_for, with_caller_made, with_caller_out, with_joined, with_seen}
+use Rattle.mk_heap.specs.Turns.{Tells}
+use Rattle.mk_heap.proofs.MovedHosts.{moves_more, turn_moves}
+use Rattle.mk_run.specs.Scripts.{as_told, StaysAdmitted, Answers}
+use Rattle.mk_trace.specs.Calls.{IsHome, MayCome, SameCalls, Calls, CallsAll}
+use Rattle.mk_trace.specs.Playing.{begins_full, calls_of_caller, is_refusal}
+use Rattle.mk_trace.proofs.OwnPieces.{all_again}
+
+by_test : (x : Decided) (xs ys : List Decided) (b : Bool) → b ≡ true → ys ≡ xs → (if b then x ∷ ys else ys) ≡ x ∷ xs
+by_test x xs ys true is same = ap (λ (l : List Decided). x ∷ l) same
+by_test x xs ys false is same = absurd cc
+
+all_own : (globals : List ℕ) (n : NeverState) (xs : List Decided) → length n.registers ≡ 8
+    → AreAdmitted globals n (asked xs) → calls_by 0 xs ≡ xs
+all_own globals n [] count admitted = refl
+all_own globals n (x ∷ xs) count admitted =
+    let first : IsCaller n x.caller = admitted.0.of_a_caller in
+    let stays = op_stays n x.caller x.op in
+    by_test x xs (calls_by 0 xs) (x.caller == 0) (eq-eqb x.caller 0 (omega (arith, count, first)))
+    (all_own globals (after_op n x.caller x.op) xs (stays.registers ∙ count) admitted.1)
+
+pub calls_are_own : (c : Config) (es : List Event) → c.callers ≡ 1 → IsHistory c es
+    → calls_by 0 (calls c es) ≡ calls c es
+calls_are_own c es one history =
+    let count : length (replicate (8 * c.callers) Null) ≡ 8 = length-replicate (8 * c.callers) Null ∙ (omega (arith, one)) in
+    all_own c.globals (never_first c) (calls c es) count history.admitted
+
+-- What may come now may come while the caller makes no call.
+pub stays_admitted : (p : PassState) (o : Op) → p.seat ≡ Caller 0 → p.table.config.callers ≡ 1
+    → IsHistory p.table.config p.seen → MayCome p.table.config p.seen o → StaysAdmitted p o
+stays_admitted p o seat one history comes = λ es later same.
+    let c = p.table.config in
+    let number : number_of p ≡ 0 = ap (λ (s : Seat). caller_number s) seat in
+    let own : calls_by 0 (calls c es) ≡ calls_by 0 (calls c p.seen) =
+    subst (λ (k : ℕ). calls_by k (calls c es) ≡ calls_by k (calls c p.seen)) number same in
+    let all : calls c es ≡ calls c p.seen =
+    sym (calls_are_own c es one later) ∙ own ∙ calls_are_own c p.seen one history in
+    subst (λ (k : ℕ). IsAdmitted c.globals (never_behind c es) k o) (sym number)
+    (subst (λ (xs : List Decided). IsAdmitted c.globals (after_calls (never_first c) (asked xs)) 0 o) (sym all) comes)
+
+-- The caller is joined behind its call.
+pub joined_call : (on : Bool) (p : PassState) (o : Op) (told : Answer) (q : PassState) (fs : List Event)
+    → p.seat ≡ Caller 0 → p.seats ≡ Caller 0 ∷ [] → p.table.config.callers ≡ 1 → IsHistory p.table.config p.seen
+    → Answers on p o told q → Grows q.seats q.seen fs → IsHistory p.table.config fs
+    → Calls p.table.config p.seen o told fs
+joined_call on p o told q fs seat seats one history h came later =
+    let c = p.table.config in
+    let number : number_of p ≡ 0 = ap (λ (s : Seat). caller_number s) seat in
+    let mine : Grows (Caller 0 ∷ []) q.seen fs =
+    subst (λ (l : List Seat). Grows l q.seen fs) (ap (λ (r : PassState). r.seats) h.is ∙ seats) came in
+    let same : calls_by 0 (calls c fs) ≡ calls_by 0 (calls c q.seen) =
+    ap (λ (l : List Event). calls_by 0 (calls c l)) mine.is ∙ others_add_none c 0 q.seen mine.more mine.of_others in
+    let entry : calls_by 0 (calls c q.seen) ≡ calls_by 0 (calls c p.seen) ++ entry_of 0 o (Some h.answer) =
+    subst (λ (k : ℕ). calls_by k (calls c q.seen) ≡ calls_by k (calls c p.seen) ++ entry_of k o (Some h.answer)) number
+    h.entry in
+    record {
+      answer = h.answer;
+      is_told = h.is_told;
+      entry = sym (calls_are_own c fs one later) ∙ same ∙ entry
+          ∙ ap (λ (l : List Decided). l ++ entry_of 0 o (Some h.answer)) (calls_are_own c p.seen one history);
+    }
+
+-- Calls one behind the other.
+
+pub never_then_calls : (c : Config) (es fs : List Event) (more : List Decided) → calls c fs ≡ calls c es ++ more
+    → never_behind c fs ≡ after_calls (never_behind c es) (asked more)
+never_then_calls c es fs more is =
+    ap (λ (l : List Decided). after_calls (never_first c) (asked l)) is
+    ∙ ap (λ (l : List Call). after_calls (never_first c) l)
+    (map-append (λ (x : Decided). record { caller = x.caller; op = x.op }) (calls c es) more)
+    ∙ after_append (never_first c) (asked (calls c es)) (asked more)
+
+pub never_behind_all : (c : Config) (es : List Event) (full : Bool) (ops : List Op) (refused : Bool) (fs : List Event)
+    → CallsAll c es full ops refused fs → never_behind c fs ≡ after_calls (never_behind c es) (calls_of_caller ops)
+never_behind_all c es full ops refused fs h =
+    never_then_calls c es fs h.more h.is ∙ ap (λ (l : List Call). after_calls (never_behind c es) l) h.asks
+
+refused_as_told : (a : Answer) → is_refusal (as_told a) ≡ is_refusal a
+refused_as_told (answer.Word w) = refl
+refused_as_told a = refl
+
+or_none : (b : Bool) → (b || false) ≡ b
+or_none true = refl
+or_none false = refl
+
+pub full_as_told : (a : Answer) → is_full_answer (as_told a) ≡ is_full_answer a
+full_as_told (answer.Word w) = refl
+full_as_told a = refl
+
+-- as many operations as answers
+pub as_many : (xs : List Decided) (ops : List Op) → asked xs ≡ calls_of_caller ops → length ops ≡ length (answered xs)
+as_many xs ops is =
+    sym (length-map ops (λ (o : Op). record { caller = 0; op = o })) ∙ ap (λ (l : List Call). length l) (sym is)
+    ∙ length-map xs (λ (x : Decided). record { caller = x.caller; op = x.op }) ∙ sym (length-map xs (λ (x : Decided). x.answer))
+
+any_more : (xs : List Answer) (told a : Answer) → told ≡ as_told a
+    → list_any is_refusal (xs ++ a ∷ []) ≡ list_any is_refusal xs || is_refusal told
+any_more xs told a is =
+    list_any-append is_refusal xs (a ∷ [])
+    ∙ ap (λ (b : Bool). list_any is_refusal xs || b)
+    (or_none (is_refusal a) ∙ sym (refused_as_told a) ∙ ap is_refusal (sym is))
+
+-- the first call of all
+pub calls_first : (c : Config) (es : List Event) (o : Op) (told : Answer) (fs : List Event) → (g : Calls c es o told fs)
+    → CallsAll c es (is_full_answer told) (flagged o g.answer ∷ []) (is_refusal told) fs
+calls_first c es o told fs g = record {
+  more = entry_of 0 o (Some g.answer);
+  begins = sym (full_as_told g.answer) ∙ ap is_full_answer (sym g.is_told);
+  is = g.entry;
+  asks = refl;
+  refuses = or_none (is_refusal g.answer) ∙ sym (refused_as_told g.answer) ∙ ap is_refusal (sym g.is_told);
+}
+
+begins_alike : (answers more : List Answer) → 1 ≤ length answers → begins_full (answers ++ more) ≡ begins_full answers
+begins_alike [] more some = absurd (omega arith)
+begins_alike (a ∷ answers) more some = refl
+
+-- and one more
+module _ (c : Config) (es : List Event) (full : Bool) (ops : List Op) (refused : Bool) (fs : List Event) (h : CallsAll c es full ops refused fs)
+    (o : Op) (told : Answer) (gs : List Event) (g : Calls c fs o told gs) where
+  pub calls_more : 1 ≤ length ops → CallsAll c es full (ops ++ flagged o g.answer ∷ []) (refused || is_refusal told) gs
+  calls_more some =
+      let entry : List Decided = entry_of 0 o (Some g.answer) in
+      record {
+        more = h.more ++ entry;
+        begins =
+            ap begins_full (map-append (λ (x : Decided). x.answer) h.more entry)
+            ∙ begins_alike (answered h.more) (answered entry) (omega (arith, some, as_many h.more ops h.asks)) ∙ h.begins;
+        is = g.entry ∙ ap (λ (l : List Decided). l ++ entry) h.is ∙ append_assoc (calls c es) h.more entry;
+        asks = map-append (λ (x : Decided). record { caller = x.caller; op = x.op }) h.more entry
+            ∙ ap (λ (l : List Call). l ++ record { caller = 0; op = flagged o g.answer } ∷ []) h.asks
+            ∙ sym (map-append (λ (x : Op). record { caller = 0; op = x }) ops (flagged o g.answer ∷ []));
+        refuses = ap (λ (l : List Answer). list_any is_refusal l)
+            (map-append (λ (x : Decided). x.answer) h.more entry)
+            ∙ any_more (answered h.more) told g.answer g.is_told
+            ∙ ap (λ (b : Bool). b || is_refusal told) h.refuses;
+      }
+
+-- What comes next of operations that may come.
+pub next_may_come : (c : Config) (es : List Event) (full : Bool) (ops : List Op) (refused : Bool) (fs : List Event) (o : Op) (rest : List Op)
+    → CallsAll c es full ops refused fs
+    → AreAdmitted c.globals (never_behind c es) (calls_of_caller (ops ++ o ∷ rest))
+    → MayCome c fs o
+next_may_come c es full ops refused fs o rest h admitted =
+    let parts = admitted_split c.globals (never_behind c es) (calls_of_caller ops) (calls_of_caller (o ∷ rest))
+    (subst (λ (l : List Call). AreAdmitted c.globals (never_behind c es) l)
+    (map-append (λ (x : Op). record { caller = 0; op = x }) ops (o ∷ rest)) admitted) in
+    subst (λ (n : NeverState). IsAdmitted c.globals n 0 o) (sym (never_behind_all c es full ops refused fs h)) parts.1.0
+
+-- The host's looks are no calls.
+pub told_calls : (p : PassState) (x : Word) (n : ℕ) (q : PassState) → p.seat ≡ Host → Has p.seats (Caller 0)
+    → p.table.config.callers ≡ 1 → IsHistory p.table.config p.seen → Tells p x n q → IsHistory p.table.config q.seen
+    → SameCalls p.table.config p.seen q.seen
+told_calls p x n q host joined one history tells later =
+    let c = p.table.config in
+    let taken = turn_moves p tells.taken tells.takes in
+    let looked = moves_more p tells.taken tells.looked (step.Look x) taken tells.looks.makes in
+    let moves = moves_more p tells.looked q step.Give looked tells.gives in
+    let others = moves.leaves (Caller 0) joined (ap (λ (s : Seat). is_same_seat (Caller 0) s) host) in
+    sym (calls_are_own c q.seen one later)
+    ∙ ap (λ (r : PassState). calls_by 0 (calls c r.seen)) moves.is
+    ∙ others_add_none c 0 p.seen moves.more others
+    ∙ calls_are_own c p.seen one history
+
+-- The host between calls.
+
+pub told_home : (w : WordsState) (h : HostState) (g : HostState) → IsHome w h → g ≡ with_seen h g.pass.seen
+    → has_over g.pass.seen ≡ has_over h.pass.seen → IsHome w g
+told_home w h g home is overs = record {
+  table = ap (λ (x : HostState). x.pass.table) is ∙ home.table;
+  one = home.one;
+  callers = ap (λ (x : HostState). x.callers) is ∙ home.callers;
+  markers = ap (λ (x : HostState). x.markers) is ∙ home.markers;
+  joined = subst (λ (x : HostState). Has x.pass.seats (Caller 0)) (sym is) home.joined;
+  all = subst (λ (x : HostState). HasAll w.config x.pass.seats) (sym is) home.all;
+  before_over = overs ∙ home.before_over;
+}
+
+pub joined_home : (w : WordsState) (h out g : HostState) (q : PassState) → IsHome w h → out ≡ with_caller_out h 0
+    → g ≡ with_joined out q g.pass.seen → q.seats ≡ Caller 0 ∷ []
+    → has_over g.pass.seen ≡ has_over out.pass.seen → IsHome w g
+joined_home w h out g q home is joined seats overs = record {
+  table = ap (λ (x : HostState). x.pass.table) joined ∙ ap (λ (x : HostState). x.pass.table) is ∙ home.table;
+  one = home.one;
+  callers = ap (λ (x : HostState). x.callers) joined ∙ ap (λ (x : HostState). x.callers) is ∙ home.callers;
+  markers = ap (λ (x : HostState). x.markers) joined ∙ ap (λ (x : HostState). x.markers) is ∙ home.markers;
+  joined =
+      subst (λ (x : HostState). Has x.pass.seats (Caller 0)) (sym joined)
+      (has_right out.pass.seats q.seats (Caller 0)
+      (subst (λ (l : List Seat). Has l (Caller 0)) (sym seats) (has_first (Caller 0) [])));
+  all =
+      subst (λ (x : HostState). HasAll w.config x.pass.seats) (sym joined)
+      (subst (λ (x : HostState). HasAll w.config (x.pass.seats ++ q.seats)) (sym is)
+      (subst (λ (l : List Seat). HasAll w.config (without_seat (Caller 0) h.pass.seats ++ l)) (sym seats)
+      (all_again w.config (Caller 0) h.pass.seats home.all)));
+  before_over = overs ∙ ap (λ (x : HostState). has_over x.pass.seen) is ∙ home.before_over;
+}
+
+-- The caller that the host makes again.
+module _ (w : WordsState) (h : HostState) (home : IsHome w h) (s : CallerState) (made : s ≡ at_home (pass_for h (Caller 0))) where
+  is_pass : s.pass ≡ pass_for h (Caller 0)
+  is_pass = ap (λ (x : CallerState). x.pass) made
+
+  pub made_home : s.home ≡ true
+  made_home = ap (λ (x : CallerState). x.home) made
+
+  pub made_seats : s.pass.seats ≡ Caller 0 ∷ []
+  made_seats = ap (λ (p : PassState). p.seats) is_pass
+
+  made_seat : s.pass.seat ≡ Caller 0
+  made_seat = ap (λ (p : PassState). p.seat) is_pass
+
+  made_table : s.pass.table ≡ w
+  made_table = ap (λ (p : PassState). p.table) is_pass ∙ home.table
+
+  made_seen : s.pass.seen ≡ h.pass.seen
+  made_seen = ap (λ (p : PassState). p.seen) is_pass
+
+  made_one : s.pass.table.config.callers ≡ 1
+  made_one = ap (λ (x : WordsState). x.config.callers) made_table ∙ home.one
+
+  pub made_alone : s.pass.seats ≡ s.pass.seat ∷ []
+  made_alone = made_seats ∙ ap (λ (x : Seat). x ∷ []) (sym made_seat)
+
+  pub made_exists : number_of s.pass < s.pass.table.config.callers
+  made_exists =
+      let number : number_of s.pass ≡ 0 = ap (λ (x : Seat). caller_number x) made_seat in omega (arith, number, made_one)
+
+  pub made_admits : (o : Op) → MayCome w.config h.pass.seen o → IsHistory s.pass.table.config s.pass.seen
+      → StaysAdmitted s.pass o
+  made_admits o comes history =
+      stays_admitted s.pass o made_seat made_one history
+      (subst (λ (x : WordsState). MayCome x.config s.pass.seen o) (sym made_table)
+      (subst (λ (es : List Event). MayCome w.config es o) (sym made_seen) comes))
+
+  pub made_calls : (on : Bool) (o : Op) (told : Answer) (q : PassState) (fs : List Event)
+      → IsHistory s.pass.table.config s.pass.seen → Answers on s.pass o told q → Grows q.seats q.seen fs
+      → IsHistory w.config fs → Calls w.config h.pass.seen o told fs
+  made_calls on o told q fs history answers came later =
+      subst (λ (es : List Event). Calls w.config es o told fs) made_seen
+      (subst (λ (x : WordsState). Calls x.config s.pass.seen o told fs) made_table
+      (joined_call on s.pass o told q fs made_seat made_seats made_one history answers came
+      (subst (λ (x : WordsState). IsHistory x.config fs) (sym made_table) later)))
+
+-- The caller that the host makes first, and joins at once.
+pub first_home : (w : WordsState) (h made joined : HostState) (q : PassState) → w.config.callers ≡ 1 → h ≡ first_host w
+    → made ≡ with_caller_made h → joined ≡ with_joined made q joined.pass.seen → q.seats ≡ Caller 0 ∷ []
+    → has_over joined.pass.seen ≡ has_over made.pass.seen → IsHome w joined
+first_home w h made joined q one first is joins seats overs =
+    let all : made ≡ with_caller_made (first_host w) = is ∙ ap (λ (x : HostState). with_caller_made x) first in
+    record {
+      table = ap (λ (x : HostState). x.pass.table) joins ∙ ap (λ (x : HostState). x.pass.table) all;
+      one = one;
+      callers = ap (λ (x : HostState). x.callers) joins ∙ ap (λ (x : HostState). x.callers) all;
+      markers = ap (λ (x : HostState). x.markers) joins ∙ ap (λ (x : HostState). x.markers) all;
+      joined =
+          subst (λ (x : HostState). Has x.pass.seats (Caller 0)) (sym joins)
+          (has_right made.pass.seats q.seats (Caller 0)
+          (subst (λ (l : List Seat). Has l (Caller 0)) (sym seats) (has_first (Caller 0) [])));
+      all =
+          subst (λ (x : HostState). HasAll w.config x.pass.seats) (sym joins)
+          (subst (λ (x : HostState). HasAll w.config (x.pass.seats ++ q.seats)) (sym all)
+          (subst (λ (l : List Seat). HasAll w.config (without_seat (Caller 0) (all_seats w.config) ++ l)) (sym seats)
+          (all_again w.config (Caller 0) (all_seats w.config) (has_all w.config))));
+      before_over = overs ∙ ap (λ (x : HostState). has_over x.pass.seen) all;
+    }
+
+-- All are joined then.
+pub home_joined : (w : WordsState) (h : HostState) → IsHome w h → AllAreJoined h
+home_joined w h home = record {
+  callers = λ k lt.
+      (let n = home.callers in
+      subst (λ (j : ℕ). Has h.pass.seats (Caller j)) (omega arith) home.joined);
+  markers = λ k lt. absurd (let n = home.markers in omega arith);
+}

@@ -1,0 +1,99 @@
+-- What a pass may have seen since: events of seats that there are, and none of those that are elsewhere.
+use Rattle.std.proofs.Common.{◌≡◌, ⊎_elim, Bool, true, false, List, [], ◌∷◌, ◌++◌, refl, sym, ◌∙◌, ap, subst}
+use Rattle.std.specs.Prelude.{◌&&◌, not}
+use Rattle.std.specs.List.{list_all}
+use Rattle.std.proofs.lemmas.Bool.{and_from, and_parts, cases_Bool, not-true, or_cases, or_from, true≢false}
+use Rattle.std.proofs.lemmas.List.Folds.{list_all-append}
+use Rattle.mk_core.specs.declared.config.Config.{Config}
+use Rattle.mk_core.specs.declared.events.Event.{Event}
+use Rattle.mk_core.specs.declared.events.Seat.{Seat}
+use Rattle.mk_core.specs.declared.events.Step.{Step}
+use Rattle.mk_core.specs.Growing.{AreOfOthers, is_one_of, is_same_seat}
+use Rattle.mk_core.specs.History.{World, AreEnabledFrom, world_behind}
+use Rattle.mk_core.specs.Order.{seat_exists}
+use Rattle.mk_core.proofs.Conditions.{enabled_meets}
+use Rattle.mk_words.specs.Seats.{Has, HasAll, without_seat}
+use Rattle.mk_words.specs.States.{PassState}
+use Rattle.mk_words.proofs.Seats.{has_either, has_first, has_left, has_right, not_both, same_seat, without_keeps}
+use Rattle.mk_waiting.specs.Taking.{is_take, waits_for}
+use Rattle.mk_alloc.specs.TurnCycles.{has_step}
+
+-- The seat of the event is one that there is, and none of these.
+abbrev is_mine : Config → List Seat → Event → Bool
+is_mine c elsewhere e = seat_exists c e.seat && not (is_one_of elsewhere e.seat)
+
+abbrev pub AreMine : Config → List Seat → List Event → Type 0
+AreMine c elsewhere es = list_all (is_mine c elsewhere) es ≡ true
+
+pub are_mine : (c : Config) (w : World) (elsewhere : List Seat) (es : List Event) → AreEnabledFrom c w es
+    → AreOfOthers elsewhere es → AreMine c elsewhere es
+unfolding AreEnabledFrom AreOfOthers
+are_mine c w elsewhere [] on others = refl
+are_mine c w elsewhere (e ∷ es) on others =
+    and_from (is_mine c elsewhere e) (list_all (is_mine c elsewhere) es)
+    (and_from (seat_exists c e.seat) (not (is_one_of elsewhere e.seat)) (enabled_meets c w.now e on.0).seat
+    (ap (λ (b : Bool). not b) others.0))
+    (are_mine c (world_behind c w e) elsewhere es on.1 others.1)
+
+pub mine_parts : (c : Config) (elsewhere : List Seat) (xs ys : List Event) → AreMine c elsewhere (xs ++ ys)
+    → AreMine c elsewhere xs × AreMine c elsewhere ys
+mine_parts c elsewhere xs ys h =
+    and_parts (list_all (is_mine c elsewhere) xs) (list_all (is_mine c elsewhere) ys)
+    (sym (list_all-append (is_mine c elsewhere) xs ys) ∙ h)
+
+-- The pass has all seats but those.
+abbrev pub HasTheRest : Config → List Seat → List Seat → Type 0
+HasTheRest c elsewhere seats = HasAll c (elsewhere ++ seats)
+
+has_mine : (c : Config) (elsewhere seats : List Seat) (e : Event) → HasTheRest c elsewhere seats
+    → is_mine c elsewhere e ≡ true → Has seats e.seat
+has_mine c elsewhere seats e all mine =
+    let parts = and_parts (seat_exists c e.seat) (not (is_one_of elsewhere e.seat)) mine in
+    ⊎_elim
+    (λ (there : Has elsewhere e.seat).
+    absurd (true≢false (sym there ∙ not-true (is_one_of elsewhere e.seat) parts.1)))
+    (λ (here : Has seats e.seat). here)
+    (has_either elsewhere seats e.seat (all e.seat parts.0))
+
+-- So there are no others.
+pub none_of_others : (c : Config) (elsewhere seats : List Seat) (es : List Event) → HasTheRest c elsewhere seats
+    → AreMine c elsewhere es → AreOfOthers seats es → es ≡ []
+unfolding AreOfOthers
+none_of_others c elsewhere seats [] all mine others = refl
+none_of_others c elsewhere seats (e ∷ es) all mine others =
+    absurd (not_both seats e.seat others.0 (has_mine c elsewhere seats e all
+    (and_parts (is_mine c elsewhere e) (list_all (is_mine c elsewhere) es) mine).0))
+
+-- and who waits for the turn makes no step but takes.
+pub waiting_lacks : (kind : Step → Bool) (c : Config) (elsewhere : List Seat) (p : PassState) (es : List Event)
+    → ((s : Step) → is_take s ≡ true → kind s ≡ false) → HasTheRest c elsewhere p.seats → AreMine c elsewhere es
+    → list_all (waits_for p) es ≡ true → has_step kind es ≡ false
+waiting_lacks kind c elsewhere p [] apart all mine waits = refl
+waiting_lacks kind c elsewhere p (e ∷ es) apart all mine waits =
+    let mines = and_parts (is_mine c elsewhere e) (list_all (is_mine c elsewhere) es) mine in
+    let parts = and_parts (waits_for p e) (list_all (waits_for p) es) waits in
+    or_from (kind e.step) (has_step kind es)
+    (⊎_elim
+    (λ (out : not (is_one_of p.seats e.seat) ≡ true).
+    absurd (true≢false (sym (has_mine c elsewhere p.seats e all mines.0) ∙ not-true (is_one_of p.seats e.seat) out)))
+    (λ (take : (is_take e.step && is_same_seat e.seat p.seat) ≡ true).
+    apart e.step (and_parts (is_take e.step) (is_same_seat e.seat p.seat) take).0)
+    (or_cases (not (is_one_of p.seats e.seat)) (is_take e.step && is_same_seat e.seat p.seat) parts.0))
+    (waiting_lacks kind c elsewhere p es apart all mines.1 parts.1)
+
+pub others_lack : (kind : Step → Bool) (c : Config) (elsewhere seats : List Seat) (es : List Event)
+    → HasTheRest c elsewhere seats → AreMine c elsewhere es → AreOfOthers seats es → has_step kind es ≡ false
+others_lack kind c elsewhere seats es all mine others =
+    ap (λ (l : List Event). has_step kind l) (none_of_others c elsewhere seats es all mine others)
+
+-- Of all seats one is elsewhere, and comes back.
+pub all_again : (c : Config) (s : Seat) (seats : List Seat) → HasAll c seats → HasTheRest c (without_seat s seats) (s ∷ [])
+all_again c s seats all x exists = ⊎_elim same other (cases_Bool (is_same_seat s x))
+  where
+    same : is_same_seat s x ≡ true → Has (without_seat s seats ++ s ∷ []) x
+    same is =
+        has_right (without_seat s seats) (s ∷ []) x
+        (subst (λ (y : Seat). Has (s ∷ []) y) (same_seat s x is) (has_first s []))
+
+    other : is_same_seat s x ≡ false → Has (without_seat s seats ++ s ∷ []) x
+    other out = has_left (without_seat s seats) (s ∷ []) x (without_keeps s seats x out (all x exists))

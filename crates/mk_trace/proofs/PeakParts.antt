@@ -1,0 +1,123 @@
+-- The greatest measure over a history in two parts, where a grant alone makes the measure more, and what lets storage go
+-- alone makes it less.
+use Rattle.std.proofs.Common.{◌≡◌, ⊎_elim, ℕ, ◌≤◌, max, true, false, List, [], ◌∷◌, ◌++◌, refl, sym, ◌∙◌, ap, arith}
+use Rattle.std.proofs.lemmas.Bool.{cases_Bool, or_parts}
+use Rattle.mk_core.specs.declared.config.Config.{Config}
+use Rattle.mk_core.specs.declared.events.Event.{Event}
+use Rattle.mk_core.specs.declared.events.Step.{Step}
+use Rattle.mk_core.specs.declared.events.Step.TheVariants as step
+use Rattle.mk_core.specs.Allocations.{PlacedAllocation}
+use Rattle.mk_core.specs.History.{World, first_world, world_behind, left, left_from}
+use Rattle.mk_core.proofs.HistoryParts.{left_in_parts}
+use Rattle.mk_alloc.specs.TurnCycles.{has_step, is_grant, lets_go}
+use Rattle.mk_alloc.proofs.GrantParts.{LastIn}
+use Rattle.mk_trace.specs.Peaks.{greatest, greatest_from}
+
+grant_keeps : (s : Step) → is_grant s ≡ true → lets_go s ≡ false
+grant_keeps step.Grant h = refl
+grant_keeps _ h = cc
+
+-- Behind each grant of a longer list nothing is let go.
+last_later : (e : Event) (es : List Event) → LastIn (e ∷ es) → LastIn es
+last_later e es last g =
+    last (record {
+      before = e ∷ g.before;
+      event = g.event;
+      behind = g.behind;
+      is = ap (λ (l : List Event). e ∷ l) g.is;
+      of_kind = g.of_kind;
+    })
+
+last_first : (e : Event) (es : List Event) → LastIn (e ∷ es) → is_grant e.step ≡ true → has_step lets_go es ≡ false
+last_first e es last is = last (record { before = []; event = e; behind = es; is = refl; of_kind = is })
+
+module _ (c : Config) (measure : List PlacedAllocation → ℕ) where
+  -- what a world has, what it has behind more events, and what it has at most on the way
+
+  abbrev has : World → ℕ
+  has w = measure w.allocations
+
+  abbrev most : World → List Event → ℕ
+  most w es = greatest_from c w measure es
+
+  first_below : (w : World) (es : List Event) → has w ≤ most w es
+  unfolding greatest_from
+  first_below w [] = omega arith
+  first_below w (e ∷ es) = omega arith
+
+  last_below : (w : World) (es : List Event) → has (left_from c w es) ≤ most w es
+  unfolding greatest_from left_from
+  last_below w [] = omega arith
+  last_below w (e ∷ es) = omega (arith, last_below (world_behind c w e) es)
+
+  from-append : (w : World) (xs ys : List Event)
+      → most w (xs ++ ys) ≡ max (most w xs) (most (left_from c w xs) ys)
+  unfolding greatest_from left_from
+  from-append w [] ys = omega (arith, first_below w ys)
+  from-append w (e ∷ xs) ys = omega (arith, from-append (world_behind c w e) xs ys)
+
+  module _ (falls_at : (w : World) (e : Event) → is_grant e.step ≡ false → has (world_behind c w e) ≤ has w)
+      (rises_at : (w : World) (e : Event) → lets_go e.step ≡ false → has w ≤ has (world_behind c w e)) where
+    falls : (w : World) (es : List Event) → has_step is_grant es ≡ false → most w es ≡ has w
+    unfolding greatest_from
+    falls w [] none = refl
+    falls w (e ∷ es) none =
+        let parts = or_parts (is_grant e.step) (has_step is_grant es) none in
+        let one = falls_at w e parts.0 in
+        let rest = falls (world_behind c w e) es parts.1 in
+        omega arith
+
+    rises : (w : World) (es : List Event) → has_step lets_go es ≡ false → most w es ≡ has (left_from c w es)
+    unfolding greatest_from left_from
+    rises w [] none = refl
+    rises w (e ∷ es) none =
+        let parts = or_parts (lets_go e.step) (has_step lets_go es) none in
+        let one = rises_at w e parts.0 in
+        let rest = rises (world_behind c w e) es parts.1 in
+        let below = first_below (world_behind c w e) es in
+        omega arith
+
+    -- Where neither is, the measure stays.
+    pub stays : (w : World) (es : List Event) → has_step is_grant es ≡ false → has_step lets_go es ≡ false
+        → has (left_from c w es) ≡ has w
+    stays w es grants lets = sym (rises w es lets) ∙ falls w es grants
+
+    by_first : (w : World) (e : Event) (es : List Event)
+        → most (world_behind c w e) es ≡ max (has (world_behind c w e)) (has (left_from c (world_behind c w e) es))
+        → LastIn (e ∷ es) → most w (e ∷ es) ≡ max (has w) (has (left_from c w (e ∷ es)))
+    unfolding greatest_from left_from
+    by_first w e es rest last =
+        ⊎_elim
+        (λ (is : is_grant e.step ≡ true).
+        (let one = rises_at w e (grant_keeps e.step is) in
+        let later = rises (world_behind c w e) es (last_first e es last is) in
+        let below = first_below (world_behind c w e) es in
+        omega arith))
+        (λ (none : is_grant e.step ≡ false). (let one = falls_at w e none in omega arith))
+        (cases_Bool (is_grant e.step))
+
+    -- Where grants are last, the most is at the first or at the end.
+    at_ends : (w : World) (es : List Event) → LastIn es → most w es ≡ max (has w) (has (left_from c w es))
+    unfolding greatest_from left_from
+    at_ends w [] last = omega arith
+    at_ends w (e ∷ es) last = by_first w e es (at_ends (world_behind c w e) es (last_later e es last)) last
+
+    -- With more events, of which grants are last, the most was before, or is at the end.
+    pub most_then : (es more : List Event) → LastIn more
+        → greatest c measure (es ++ more) ≡ max (greatest c measure es) (has (left c (es ++ more)))
+    most_then es more last =
+        let parts = from-append (first_world c) es more in
+        let ends = at_ends (left c es) more last in
+        let below = last_below (first_world c) es in
+        let same : has (left c (es ++ more)) ≡ has (left_from c (left c es) more) =
+        ap (λ (w : World). has w) (left_in_parts c es more) in
+        omega arith
+
+    -- With more events that grant nothing it is the same.
+    pub no_more : (es more : List Event) → has_step is_grant more ≡ false
+        → greatest c measure (es ++ more) ≡ greatest c measure es
+    no_more es more none =
+        let parts = from-append (first_world c) es more in
+        let fall = falls (left c es) more none in
+        let below = last_below (first_world c) es in
+        omega arith

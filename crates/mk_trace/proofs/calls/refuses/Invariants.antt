@@ -1,0 +1,14 @@
+use Rattle.std.proofs.Common.{◌≡◌, length}
+use Rattle.mk_trace.specs.Calls.{IsHome, most_held}
+use Rattle.mk_trace.proofs.LaterOps.{AreCalled}
+use Rattle.mk_trace.proofs.calls.refuses.Given as goal
+
+-- the first operation was called, and so many of those behind it
+abbrev pub invariant-loop-op : goal.invariant-loop-op
+invariant-loop-op g l = record {
+  home : IsHome l.heap l.host;
+  made_for : g.E.Engine.made_for l.bench.engine ≡ g.E.Engine.made_for l.fn.bench.engine;
+  book : length l.bench.book ≡ length l.fn.bench.book;
+  held : l.held ≡ most_held l.heap.config l.host.pass.seen;
+  calls : AreCalled l.heap.config l.fn.host.pass.seen l.fn.event l.op-items l.op-index l.refused l.host.pass.seen;
+}

@@ -1,0 +1,18 @@
+use Rattle.std.proofs.Common.{◌≤◌, ℕ, List, length, refl, sym, subst}
+use Rattle.mk_core.specs.Config.{IsWithinLimits}
+use Rattle.mk_trace.proofs.Playable.{is_playable}
+use Rattle.mk_trace.proofs.SlotTypes.{config_is}
+use Rattle.mk_trace.proofs.configs.config_of.Goals as goal
+
+pub slot_globals-requires : goal.slot_globals-requires
+slot_globals-requires c =
+    subst (λ (slots : List ℕ). length slots ≤ 64) (sym c.slots-slots.ensures.slots)
+    (is_playable c.args.trace.now c.slots-slots.ensures.of_some_text).slot_count.1
+
+pub returns-clause-limits : goal.returns-clause-limits
+returns-clause-limits c =
+    subst IsWithinLimits
+    (config_is c.args.trace.now c.pages.result c.resident.result (length c.slots-slots.result.now) c.slots-slots.result.now
+    c.in_ok-slot_types.field-0 c.in_ok-slot_globals.field-0 c.pages.ensures.pages c.resident.ensures.resident
+    c.slots-slots.ensures.slots c.in_ok-slot_types.ensures refl c.in_ok-slot_globals.ensures)
+    (is_playable c.args.trace.now c.slots-slots.ensures.of_some_text).heap

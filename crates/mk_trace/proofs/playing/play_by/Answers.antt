@@ -1,0 +1,31 @@
+use Rattle.std.proofs.Common.{◌∙◌, rules}
+use Rattle.mk_trace.proofs.HeldCalls.{most_told}
+use Rattle.mk_trace.proofs.OneCaller.{home_joined}
+use Rattle.mk_trace.proofs.Played.{closed, refused_at}
+use Rattle.mk_trace.proofs.playing.play_by.Goals as goal
+
+pub close-report-requires-clause-joined : goal.close-report-requires-clause-joined
+close-report-requires-clause-joined g c =
+    home_joined c.in_ok-heap.heap c.play_events.new.host c.play_events.ensures.home
+
+pub returns-clause-played : goal.returns-clause-played
+returns-clause-played g c =
+    closed c.args.trace.now c.in_ok-refused.refused _ c.play_events.new.host.pass.seen _ c.close-report.ensures.history
+    (c.close-report.ensures.config ∙ c.in_ok-heap.ensures.config ∙ c.in_ok-config.ensures.config)
+    c.in_ok-refused.ensures.played c.close-report.ensures.whole
+
+pub returns-clause-counted : goal.returns-clause-counted
+returns-clause-counted g c = record {
+  events = search rules;
+  refused =
+      refused_at c.args.trace.now c.in_ok-refused.refused c.play_events.new.host.pass.seen _
+      c.close-report.ensures.history c.in_ok-refused.ensures.played;
+  cycles = c.close-report.ensures.counts.cycles;
+}
+
+pub returns-clause-held : goal.returns-clause-held
+returns-clause-held g c =
+    most_told c.args.trace.now c.in_ok-heap.heap.config c.play_events.new.host.pass.seen _
+    c.held_at_most-held.result c.close-report.ensures.history
+    (c.in_ok-heap.ensures.config ∙ c.in_ok-config.ensures.config)
+    (c.held_at_most-held.ensures.same ∙ c.in_ok-refused.ensures.held) c.held_at_most-held.ensures.fits

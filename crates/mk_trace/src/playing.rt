@@ -1,0 +1,236 @@
+//! Playing traces.
+ghost use Rattle.std.specs.Prelude.{◌≡◌, ◌+◌, ◌<◌, [], length, if◌then◌else◌, IfOk};
+ghost use Rattle.mk_core.specs.Config.{IsWithinLimits};
+ghost use Rattle.mk_core.specs.History.{never_behind};
+ghost use Rattle.mk_trace.specs.Calls.{IsHome, AreNull, SameCalls, PlaysEvent, HasPlayed, most_held, HoldsNoMore};
+ghost use Rattle.mk_trace.specs.Laws.{IsEventOf};
+ghost use Rattle.mk_trace.specs.Playing as spec;
+ghost use Rattle.mk_trace.specs.Traces.{slot_of};
+ghost use Rattle.mk_trace.specs.Playing.{history_of, IsPlayed, AreCounted, IsMostHeld};
+
+use crate::calls::{look, refuses};
+use crate::configs::config_of;
+use crate::ledger::{Freed, Ledger};
+use crate::peaks::Peaks;
+use crate::trace::{Trace, TraceEvent};
+use mk_core::{Config, Word};
+use mk_cycle::{Bench, Engine};
+use mk_engines::StopEngine;
+use mk_geom::{Cell, lookup};
+use mk_heap::{Heap, Host};
+use mk_never::NoMemory;
+use mk_tracing::has_bit;
+use std::alloc::Global;
+use std::mem;
+use std::sync::Wait;
+use std::thread::Threads;
+
+/// The cell of the object that an event is to free, if its slot isn't null.
+fn cell_to_free<R: Wait>(rt: &R, heap: &Heap, host: &mut Host, event: TraceEvent) -> Option<Cell>
+    requires slot { slot_of event < 64 }
+    requires home { IsHome heap.now host.old }
+    ensures home { IsHome heap.now host.new }
+    ensures same { SameCalls heap.now.config host.old.pass.seen host.new.pass.seen }
+    ensures held { HoldsNoMore heap.now.config host.old.pass.seen host.new.pass.seen }
+{
+    match event {
+        TraceEvent::F(slot) => {
+            let address = look(rt, heap, host, Word::Global(slot));
+            cell_at(rt, heap, host, address)
+        }
+        _ => None,
+    }
+}
+
+/// The cell that an address points into.
+fn cell_at<R: Wait>(rt: &R, heap: &Heap, host: &mut Host, address: u64) -> Option<Cell>
+    requires home { IsHome heap.now host.old }
+    ensures home { IsHome heap.now host.new }
+    ensures same { SameCalls heap.now.config host.old.pass.seen host.new.pass.seen }
+    ensures held { HoldsNoMore heap.now.config host.old.pass.seen host.new.pass.seen }
+{
+    let page = address.saturating_sub(65536) / 512;
+    if page < heap.words().pages() {
+        let header = look(rt, heap, host, Word::Head(page));
+        lookup(heap.words().pages(), header, address)
+    } else {
+        None
+    }
+}
+
+/// Whether the cell's object is freed and not released.
+fn is_quarantined<R: Wait>(rt: &R, heap: &Heap, host: &mut Host, cell: Cell) -> bool
+    requires home { IsHome heap.now host.old }
+    ensures home { IsHome heap.now host.new }
+    ensures same { SameCalls heap.now.config host.old.pass.seen host.new.pass.seen }
+    ensures held { HoldsNoMore heap.now.config host.old.pass.seen host.new.pass.seen }
+{
+    if cell.page < heap.words().pages() {
+        let freed = look(rt, heap, host, Word::Quar(cell.page));
+        has_bit(freed, cell.index)
+    } else {
+        false
+    }
+}
+
+/// Takes what was released out of the quarantine, where a cycle has ended.
+fn settle<R: Wait>(
+    rt: &R,
+    alloc: Global,
+    heap: &Heap,
+    host: &mut Host,
+    freed: &mut Freed,
+) -> Result<(), NoMemory>
+    requires home { IsHome heap.now host.old }
+    ensures home { IsHome heap.now host.new }
+    ensures same { SameCalls heap.now.config host.old.pass.seen host.new.pass.seen }
+    ensures held { HoldsNoMore heap.now.config host.old.pass.seen host.new.pass.seen }
+{
+    let ends = look(rt, heap, host, Word::Cycles);
+    if ends == freed.ends {
+        return Ok(());
+    }
+    freed.ends = ends;
+    let found = mem::replace(&mut freed.quarantine, Vec::new(alloc));
+    for object in found.iter() {
+        if is_quarantined(rt, heap, host, object.cell) {
+            freed.quarantine.push(*object)?;
+        } else {
+            freed.release(*object, ends)?;
+        }
+    }
+    Ok(())
+}
+
+/// Plays an event, and tells whether it is refused.
+fn play_event<E: Engine, R: Threads + Wait + Sync>(
+    rt: &R,
+    alloc: Global,
+    heap: &Heap,
+    trace: &Trace,
+    host: &mut Host,
+    bench: &mut Bench<E>,
+    ledger: &mut Ledger,
+    event: TraceEvent,
+) -> Result<bool, NoMemory>
+    requires config { heap.now.config ≡ spec.config_of trace.now }
+    requires home { IsHome heap.now host.old }
+    requires null { AreNull (never_behind heap.now.config host.old.pass.seen) }
+    requires event { IsEventOf trace.now.slots event }
+    requires made_for { E.made_for bench.old.engine ≡ heap.now.config.pages }
+    requires book { length bench.old.book ≡ heap.now.config.pages }
+    requires held { ledger.old.held ≡ most_held heap.now.config host.old.pass.seen }
+    ensures home { IsHome heap.now host.new }
+    ensures made_for { E.made_for bench.new.engine ≡ E.made_for bench.old.engine }
+    ensures book { length bench.new.book ≡ length bench.old.book }
+    ensures plays { IfOk result (λ refused.
+        PlaysEvent heap.now.config host.old.pass.seen event refused host.new.pass.seen) }
+    ensures held { IfOk result (λ refused. ledger.new.held ≡ most_held heap.now.config host.new.pass.seen) }
+{
+    host.is_in_order();
+    let words = trace.words_of(event.slot());
+    let freed = cell_to_free(rt, heap, host, event);
+    let refused = refuses(rt, alloc, heap, host, bench, &mut ledger.held, event)?;
+    if !refused {
+        ledger.freed.note(freed, words)?;
+    }
+    settle(rt, alloc, heap, host, &mut ledger.freed)?;
+    Ok(refused)
+}
+
+/// A heap of one caller, which was made and joined.
+fn opened(alloc: Global, config: &Config) -> Result<(Heap, Host), NoMemory>
+    requires limits { IsWithinLimits config.now }
+    requires one { config.now.callers ≡ 1 }
+    ensures config { IfOk result (λ made. made.0.config ≡ config.now) }
+    ensures home { IfOk result (λ made. IsHome made.0 made.1) }
+    ensures no_call { IfOk result (λ made. SameCalls config.now [] made.1.pass.seen) }
+    ensures held { IfOk result (λ made. most_held config.now made.1.pass.seen ≡ 0) }
+{
+    let (heap, mut host) = Heap::new(alloc, config)?;
+    let caller = host.caller(&heap).finish();
+    host.join_caller(&heap, caller);
+    host.is_in_order();
+    Ok((heap, host))
+}
+
+/// So many refused events, and this one, if it is refused.
+fn with_refusal(refused: u64, is_refused: bool) -> u64
+    requires { refused < 18446744073709551615 }
+    ensures { result ≡ (if is_refused then refused + 1 else refused) }
+{
+    if is_refused { refused + 1 } else { refused }
+}
+
+/// Plays the events of a trace, and tells how many are refused.
+fn play_events<E: Engine, R: Threads + Wait + Sync>(
+    rt: &R,
+    alloc: Global,
+    heap: &Heap,
+    trace: &Trace,
+    host: &mut Host,
+    bench: &mut Bench<E>,
+    ledger: &mut Ledger,
+) -> Result<u64, NoMemory>
+    requires config { heap.now.config ≡ spec.config_of trace.now }
+    requires home { IsHome heap.now host.old }
+    requires no_call { SameCalls heap.now.config [] host.old.pass.seen }
+    requires made_for { E.made_for bench.old.engine ≡ heap.now.config.pages }
+    requires book { length bench.old.book ≡ heap.now.config.pages }
+    requires held { ledger.old.held ≡ most_held heap.now.config host.old.pass.seen }
+    ensures home { IsHome heap.now host.new }
+    ensures held { IfOk result (λ refused. ledger.new.held ≡ most_held heap.now.config host.new.pass.seen) }
+    ensures played { IfOk result (λ refused. HasPlayed trace.now trace.now.events refused host.new.pass.seen) }
+{
+    let events = trace.events();
+    let mut refused = 0;
+    for event in events {
+        host.is_in_order();
+        let is_refused = play_event(rt, alloc, heap, trace, host, bench, ledger, *event)?;
+        refused = with_refusal(refused, is_refused);
+    }
+    Ok(refused)
+}
+
+/// Plays a trace on a heap of one caller, with cycles by this engine.
+fn play_by<E: Engine, R: Threads + Wait + Sync>(
+    rt: &R,
+    alloc: Global,
+    trace: &Trace,
+) -> Result<Peaks, NoMemory>
+    ensures played { IfOk result (λ peaks. IsPlayed trace.now (history_of peaks)) }
+    ensures counted { IfOk result (λ peaks. AreCounted trace.now (history_of peaks) peaks) }
+    ensures held { IfOk result (λ peaks. IsMostHeld trace.now (history_of peaks) peaks) }
+{
+    let config = config_of(alloc, trace)?;
+    let mut bench: Bench<E> = Bench::new(alloc, config.pages)?;
+    let (heap, mut host) = opened(alloc, &config)?;
+    let mut ledger = Ledger::new(alloc);
+    let refused = play_events(rt, alloc, &heap, trace, &mut host, &mut bench, &mut ledger)?;
+    let held = ledger.held_at_most();
+    let report = heap.close(host);
+    Ok(Peaks {
+        events: trace.events().len() as u64,
+        refused,
+        held,
+        quarantined: ledger.freed.quarantined.most,
+        reserved: ledger.freed.reserved.most,
+        cycles: report.cycles,
+        ages: ledger.freed.ages,
+        report,
+    })
+}
+
+/// Plays a trace on a heap of one caller, on the calling thread, with all marking in the stop. Its events go by the
+/// answers that the heap gives.
+pub fn play<R: Threads + Wait + Sync>(
+    rt: &R,
+    alloc: Global,
+    trace: &Trace,
+) -> Result<Peaks, NoMemory>
+    ensures played { IfOk result (λ peaks. IsPlayed trace.now (history_of peaks)) }
+    ensures counted { IfOk result (λ peaks. AreCounted trace.now (history_of peaks) peaks) }
+    ensures held { IfOk result (λ peaks. IsMostHeld trace.now (history_of peaks) peaks) }
+{
+    play_by::<StopEngine, R>(rt, alloc, trace)
+}
