@@ -134,49 +134,42 @@ mod tests {
     use super::{caller_holds, host_holds, places};
     use mk_core::{Config, GlobalTable};
     use mk_never::{Kind, TypeTable};
-    use std::alloc::Global;
     use std::test::Fail;
 
-    /// A heap of one page, for so many callers, with a type of so many numbers.
-    fn heap_of(alloc: Global, callers: u64, words: usize) -> Result<Config, Fail> {
-        let mut kinds = Vec::new(alloc);
-        for _word in 0..words {
-            kinds.push(Kind::Num)?;
-        }
-        let mut types = TypeTable::new(alloc);
-        types.add(kinds).ok();
-        Ok(Config {
+    /// A page has 64 words, and so 32 cells of two.
+    #[test]
+    fn a_page_has_places_for_32_objects_of_two_words(rt: HostRuntime) -> Result<(), Fail> {
+        let mut types = TypeTable::new(rt.alloc());
+        types
+            .add([Kind::Num, Kind::Num].to_vec(rt.alloc())?)
+            .expect(&rt, "memory");
+        let config = Config {
             pages: 1,
             resident: 1,
-            callers,
+            callers: 1,
             markers: 0,
             types,
-            globals: GlobalTable::new(alloc),
-        })
-    }
-
-    /// A page has 64 words. The least class for 5 words is that of 6, and 33 words are a run.
-    #[test]
-    fn a_page_has_places_for_each_class(rt: HostRuntime) -> Result<(), Fail> {
-        for (words, count) in [(2, 32), (5, 10), (32, 2), (33, 1)] {
-            let config = heap_of(rt.alloc(), 1, words)?;
-            let found = places(&rt, rt.alloc(), &config).expect(&rt, "memory");
-            assert_eq!(rt; found, count, "{words} words");
-        }
+            globals: GlobalTable::new(rt.alloc()),
+        };
+        let found = places(&rt, rt.alloc(), &config).expect(&rt, "memory");
+        assert_eq!(rt; found, 32);
         Ok(())
     }
 
     #[test]
     fn a_turn_that_is_taken_names_its_holder(rt: HostRuntime) -> Result<(), Fail> {
-        let config = heap_of(rt.alloc(), 2, 1)?;
-        assert_eq!(rt;
-            caller_holds(rt.alloc(), &config).expect(&rt, "memory"),
-            Some(1)
-        );
-        assert_eq!(rt;
-            host_holds(rt.alloc(), &config).expect(&rt, "memory"),
-            Some(2)
-        );
+        let config = Config {
+            pages: 1,
+            resident: 1,
+            callers: 2,
+            markers: 0,
+            types: TypeTable::new(rt.alloc()),
+            globals: GlobalTable::new(rt.alloc()),
+        };
+        let of_caller = caller_holds(rt.alloc(), &config).expect(&rt, "memory");
+        assert_eq!(rt; of_caller, Some(1));
+        let of_host = host_holds(rt.alloc(), &config).expect(&rt, "memory");
+        assert_eq!(rt; of_host, Some(2));
         Ok(())
     }
 }
